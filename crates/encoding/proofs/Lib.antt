@@ -1,0 +1,5 @@
+pub mod Logic
+pub mod Runs
+pub mod Numbers
+pub mod Parts
+pub mod Weighing

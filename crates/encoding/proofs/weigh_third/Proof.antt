@@ -1,0 +1,62 @@
+-- `encoding::weigh_third`: the numbers in the code are the weights of bytes 40 to 59, by evaluation. Assumes nothing.
+use Rattle.encoding.proofs.Weighing.{weighed-twenty}
+use mathlib.Core.List.{[], _∷_}
+use mathlib.Core.Path.{refl}
+use denote.Ref.{now}
+use Rattle.encoding.specs.Weights.{weights}
+use native.Mathlib.Omega.{arith}
+use borrow.Author.Needs.{needs}
+use Rattle.encoding.proofs.weigh_third.Statement.{statement}
+use Rattle.encoding.proofs.weigh_third.Tie as tie
+
+weigh-four-requires : tie.Need-weigh-four-requires
+weigh-four-requires c κs = search needs
+
+weigh-four-requires-2 : tie.Need-weigh-four-requires-2
+weigh-four-requires-2 c κs = search needs
+
+add-result : tie.Need-add-result
+add-result c = search needs
+
+weigh-four-requires-3 : tie.Need-weigh-four-requires-3
+weigh-four-requires-3 c κs = search needs
+
+add-result-2 : tie.Need-add-result-2
+add-result-2 c = search needs
+
+weigh-four-requires-4 : tie.Need-weigh-four-requires-4
+weigh-four-requires-4 c κs = search needs
+
+add-result-3 : tie.Need-add-result-3
+add-result-3 c = search needs
+
+weigh-four-requires-5 : tie.Need-weigh-four-requires-5
+weigh-four-requires-5 c κs = search needs
+
+add-result-4 : tie.Need-add-result-4
+add-result-4 c = search needs
+
+returns : tie.Need-returns
+unfolding weights
+returns c =
+    let four = c .before .before .before .before in (
+      weighed-twenty (62969 ∷ 9678 ∷ 54596 ∷ 2252 ∷ []) (3578 ∷ 18370 ∷ 44432 ∷ 13685 ∷ []) (19939 ∷ 58970 ∷ 63201 ∷ 32624 ∷ []) (13894 ∷ 37786 ∷ 33035 ∷ 16700 ∷ []) (4654 ∷ 528 ∷ 257 ∷ 1 ∷ [])
+          (now (four .before .before .args .s)) 40 refl refl refl refl
+          (four .weigh-four .ensures .0) (c .before .before .before .weigh-four2 .ensures .0) (c .before .before .weigh-four3 .ensures .0) (c .before .weigh-four4 .ensures .0) (c .weigh-four5 .ensures .0),
+      omega arith,
+    )
+
+pub weigh-third-spec : {M : Type 1} → statement M
+weigh-third-spec =
+    tie.close
+    (tie.spec
+    weigh-four-requires
+    weigh-four-requires-2
+    add-result
+    weigh-four-requires-3
+    add-result-2
+    weigh-four-requires-4
+    add-result-3
+    weigh-four-requires-5
+    add-result-4
+    returns)

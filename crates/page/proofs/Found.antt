@@ -1,0 +1,128 @@
+-- What an answer of the page test tells: the laws that the layers above cite. Assumes nothing.
+use Prim.Native.Nat.{ℕ, _≤_, _<_}
+use mathlib.Core.Path.{_≡_, refl, sym, subst}
+use mathlib.Core.Bool.{Bool, true, false, cond}
+use mathlib.Core.List.{List, [], _∷_}
+use native.Mathlib.Omega.{arith}
+use borrow.Author.Tests.{eqb-true, eq-eqb, ne-eqb}
+use lib.Dec.{eqb}
+use lib.ListN.{length}
+use types.Run.{OneOf, miss}
+use denote.Enum.Declared.{tagOf}
+use Rattle.encoding.specs.Bytes.{zeros}
+use Rattle.encoding.proofs.Logic.{and-true}
+use Rattle.page.specs.declared.Page.{Page}
+use Rattle.page.specs.declared.Unpacked.{Unpacked}
+use Rattle.page.specs.declared.Unpacked.the-variants.{Refused, Blank, Torn, Opening, Image, Outcome, Unfit}
+use Rattle.page.proofs.Unpacked.{the-type}
+use Rattle.page.specs.Layout.{valueSize}
+use Rattle.page.specs.Table.{fieldsOf, opening, lowest, highest, meetsRules, isPageOf, fits, torn}
+use Rattle.page.specs.Answers.{inBounds, tested, onImage}
+use Rattle.page.proofs.Rules.{Between, between-true, InBounds, in-bounds}
+
+-- the fields of a page of one kind that fits
+pub record Fits (s : List ℕ) (place files : ℕ) (p : Page) (kind : ℕ) : Type 0 where
+  pub bounds : InBounds (length s) place files
+  pub fits-is : fits s place files ≡ true
+  pub fields-are : p ≡ fieldsOf s
+  pub kind-is : p .kind ≡ kind
+
+abbrev pub Found : List ℕ → ℕ → ℕ → Unpacked → Type 0
+Found s place files Refused = inBounds (length s) place files ≡ false
+Found s place files Blank = InBounds (length s) place files × (zeros s ≡ true)
+Found s place files Torn = InBounds (length s) place files × (zeros s ≡ false) × (torn s ≡ true)
+Found s place files (Opening p) = Fits s place files p 1
+Found s place files (Image p) = Fits s place files p 2
+Found s place files (Outcome p) = Fits s place files p 3
+Found s place files Unfit = InBounds (length s) place files × (zeros s ≡ false) × (torn s ≡ false) × (fits s place files ≡ false)
+
+fits-between : (s : List ℕ) (place files : ℕ) → fits s place files ≡ true
+    → Between (fieldsOf s) (lowest (fieldsOf s .kind) place) (highest (fieldsOf s .kind) place files)
+unfolding isPageOf meetsRules
+fits-between s place files h = between-true _ _ _ (and-true _ _ (and-true _ _ h .0) .0)
+
+kind-three : (s : List ℕ) (place files : ℕ) → fits s place files ≡ true → eqb (fieldsOf s .kind) 1 ≡ false → eqb (fieldsOf s .kind) 2 ≡ false → fieldsOf s .kind ≡ 3
+unfolding lowest highest
+kind-three s place files h e1 e2 = let b = simp (e1, e2) at (fits-between s place files h .kind) in omega arith
+
+pub found : (s : List ℕ) (place files : ℕ) (u : Unpacked) → u ≡ tested s place files → Found s place files u
+unfolding tested
+found s place files u e =
+    subst (Found s place files) (sym e)
+    (go (inBounds (length s) place files) (zeros s) (torn s) (fits s place files) (eqb (fieldsOf s .kind) 1) (eqb (fieldsOf s .kind) 2) refl refl refl refl refl refl)
+  where
+    go : (a z t f k1 k2 : Bool) → inBounds (length s) place files ≡ a → zeros s ≡ z → torn s ≡ t → fits s place files ≡ f
+        → eqb (fieldsOf s .kind) 1 ≡ k1 → eqb (fieldsOf s .kind) 2 ≡ k2
+        → Found s place files (cond a (cond z Blank (cond t Torn (cond f (cond k1 (Opening (fieldsOf s)) (cond k2 (Image (fieldsOf s)) (Outcome (fieldsOf s)))) Unfit))) Refused)
+    go false z t f k1 k2 ea ez et ef e1 e2 = ea
+    go true true t f k1 k2 ea ez et ef e1 e2 = (in-bounds _ _ _ ea, ez)
+    go true false true f k1 k2 ea ez et ef e1 e2 = (in-bounds _ _ _ ea, ez, et)
+    go true false false false k1 k2 ea ez et ef e1 e2 = (in-bounds _ _ _ ea, ez, et, ef)
+    go true false false true true k2 ea ez et ef e1 e2 = record { bounds = in-bounds _ _ _ ea; fits-is = ef; fields-are = refl; kind-is = eqb-true _ _ e1 }
+    go true false false true false true ea ez et ef e1 e2 = record { bounds = in-bounds _ _ _ ea; fits-is = ef; fields-are = refl; kind-is = eqb-true _ _ e2 }
+    go true false false true false false ea ez et ef e1 e2 = record { bounds = in-bounds _ _ _ ea; fits-is = ef; fields-are = refl; kind-is = kind-three s place files ef e1 e2 }
+
+-- ---- the numbers of a page that fits, by kind
+
+pub record ImageIs (p : Page) (place files : ℕ) : Type 0 where
+  pub kind : p .kind ≡ 2
+  pub size : p .small ≤ valueSize
+  pub file : (1 ≤ p .file) × (p .file ≤ files)
+  pub action : (1 ≤ p .action) × (p .action < place)
+  pub link : p .link < place
+  pub start : 1 ≤ p .start
+
+pub record OutcomeIs (p : Page) (place : ℕ) : Type 0 where
+  pub kind : p .kind ≡ 3
+  pub verdict : (1 ≤ p .small) × (p .small ≤ 2)
+  pub action : (1 ≤ p .action) × (p .action < place)
+  pub rest : (p .file ≡ 0) × (p .link ≡ 0) × (p .start ≡ 0)
+
+-- the ranges of the kind that was found
+ranges : {s : List ℕ} {place files kind : ℕ} {p : Page} → Fits s place files p kind → Between p (lowest (p .kind) place) (highest (p .kind) place files)
+ranges {s} {place} {files} h =
+    subst (λ (x : Page). Between x (lowest (x .kind) place) (highest (x .kind) place files)) (sym (h .fields-are)) (fits-between s place files (h .fits-is))
+
+pub image-is : (s : List ℕ) (place files : ℕ) (p : Page) → Image p ≡ tested s place files → ImageIs p place files
+unfolding lowest highest
+image-is s place files p e =
+    let h = found s place files (Image p) e in
+    let k : p .kind ≡ 2 = h .kind-is in
+    let b = simp (ne-eqb (p .kind) 1 (λ z. omega arith), eq-eqb (p .kind) 2 k) at (ranges h) in
+    record { kind = k; size = omega arith; file = omega arith; action = omega (arith, h .bounds); link = omega (arith, h .bounds); start = omega arith }
+
+pub outcome-is : (s : List ℕ) (place files : ℕ) (p : Page) → Outcome p ≡ tested s place files → OutcomeIs p place
+unfolding lowest highest
+outcome-is s place files p e =
+    let h = found s place files (Outcome p) e in
+    let k : p .kind ≡ 3 = h .kind-is in
+    let b = simp (ne-eqb (p .kind) 1 (λ z. omega arith), ne-eqb (p .kind) 2 (λ z. omega arith)) at (ranges h) in
+    record { kind = k; verdict = omega arith; action = omega (arith, h .bounds); rest = (omega arith, omega arith, omega arith) }
+
+-- an opening has no choice
+pub opening-is : (s : List ℕ) (place files : ℕ) (p : Page) → Opening p ≡ tested s place files → p ≡ opening place
+unfolding lowest highest
+opening-is s place files p e =
+    let h = found s place files (Opening p) e in
+    let k : p .kind ≡ 1 = h .kind-is in
+    let b = simp (eq-eqb (p .kind) 1 k) at (ranges h) in
+    let small : p .small ≡ 0 = omega arith in
+    let file : p .file ≡ 0 = omega arith in
+    let action : p .action ≡ place = omega arith in
+    let link : p .link ≡ 0 = omega arith in
+    let start : p .start ≡ 0 = omega arith in
+    λ i. record { kind = k i; small = small i; file = file i; action = action i; link = link i; start = start i }
+
+-- ---- what `let Unpacked::Image(p) = u else { .. }` tells in its else: the tag is another's
+
+abbrev pub other-tags : List ℕ
+other-tags = 0 ∷ 1 ∷ 2 ∷ 3 ∷ 5 ∷ 6 ∷ []
+
+pub off-image : {A : Type 0} (u : Unpacked) (f : Page → A) (d : A) → OneOf other-tags (tagOf the-type u) → d ≡ onImage u f d
+off-image Refused f d k = refl
+off-image Blank f d k = refl
+off-image Torn f d k = refl
+off-image (Opening p) f d k = refl
+off-image (Image p) f d k = absurd (miss other-tags 4 tt k)
+off-image (Outcome p) f d k = refl
+off-image Unfit f d k = refl

@@ -1,0 +1,42 @@
+-- `page::Page::highest`, kind by kind. Assumes nothing.
+use Rattle.page.specs.Table.{highest}
+use borrow.Author.Tests.{eq-eqb, ne-eqb}
+use borrow.Author.Needs.{needs}
+use Rattle.page.proofs.Page.highest.Statement.{statement}
+use Rattle.page.proofs.Page.highest.Tie as tie
+
+opening-requires : tie.Need-opening-requires
+opening-requires c κs = search needs
+
+returns : tie.Need-returns
+unfolding highest
+returns c = simp (eq-eqb _ _ (c .before .if1 .taken)) (c .opening .ensures)
+
+sub-below : tie.Need-sub-below
+sub-below c = search needs
+
+image-requires : tie.Need-image-requires
+image-requires c κs = search needs
+
+returns-2 : tie.Need-returns-2
+unfolding highest
+returns-2 c = simp (ne-eqb _ _ (c .before .before .if1 .left), eq-eqb _ _ (c .before .if2 .taken)) (c .image .ensures)
+
+outcome-requires : tie.Need-outcome-requires
+outcome-requires c κs = search needs
+
+returns-3 : tie.Need-returns-3
+unfolding highest
+returns-3 c = simp (ne-eqb _ _ (c .before .before .if1 .left), ne-eqb _ _ (c .before .if2 .left)) (c .outcome .ensures)
+
+pub highest-spec : {M : Type 1} → statement M
+highest-spec =
+    tie.close
+    (tie.spec
+    opening-requires
+    returns
+    sub-below
+    image-requires
+    returns-2
+    outcome-requires
+    returns-3)

@@ -1,0 +1,63 @@
+-- The quick look, by kind and file, says what the page test says. Assumes nothing.
+use Prim.Native.Nat.{ℕ}
+use mathlib.Core.Path.{_≡_, refl, sym, ap, _∙_}
+use mathlib.Core.Bool.{Bool, true, false}
+use mathlib.Core.List.{List}
+use borrow.Author.Tests.{eq-eqb, ne-eqb}
+use lib.Dec.{eqb}
+use lib.ListN.{length}
+use Rattle.encoding.specs.Bytes.{zeros}
+use Rattle.page.specs.declared.Page.{Page}
+use Rattle.page.specs.declared.Unpacked.the-variants.{Image}
+use Rattle.page.specs.declared.Sought as sought
+use Rattle.page.specs.Layout.{pageSize}
+use Rattle.page.specs.Table.{fieldsOf, fits, torn}
+use Rattle.page.specs.Answers.{inBounds, byKind, tested, imageOf}
+use Rattle.page.proofs.Found.{found}
+
+module _ (s : List ℕ) (place files file : ℕ) where
+  -- what the page test says of an image is what its fields say
+  only-fields : imageOf file (byKind (fieldsOf s)) ≡ sought.Sought.Other → imageOf file (tested s place files) ≡ sought.Sought.Other
+  unfolding tested imageOf
+  only-fields h = go (inBounds (length s) place files) (zeros s) (torn s) (fits s place files) refl refl refl refl
+    where
+      go : (a b c d : Bool) → inBounds (length s) place files ≡ a → zeros s ≡ b → torn s ≡ c → fits s place files ≡ d
+          → imageOf file (tested s place files) ≡ sought.Sought.Other
+      go false b c d ea eb ec ed = simp ea
+      go true true c d ea eb ec ed = simp (ea, eb)
+      go true false true d ea eb ec ed = simp (ea, eb, ec)
+      go true false false true ea eb ec ed = simp (ea, eb, ec, ed) h
+      go true false false false ea eb ec ed = simp (ea, eb, ec, ed)
+
+  kind-other : (p : Page) → (p .kind ≡ 2 → ⊥) → imageOf file (byKind p) ≡ sought.Sought.Other
+  unfolding imageOf
+  kind-other p h = go (eqb (p .kind) 1) refl
+    where
+      go : (a : Bool) → eqb (p .kind) 1 ≡ a → imageOf file (byKind p) ≡ sought.Sought.Other
+      go true e = simp e
+      go false e = simp (e, ne-eqb (p .kind) 2 h)
+
+  file-other : (p : Page) → (p .file ≡ file → ⊥) → imageOf file (byKind p) ≡ sought.Sought.Other
+  unfolding imageOf
+  file-other p h = go (eqb (p .kind) 1) (eqb (p .kind) 2) refl refl
+    where
+      go : (a b : Bool) → eqb (p .kind) 1 ≡ a → eqb (p .kind) 2 ≡ b → imageOf file (byKind p) ≡ sought.Sought.Other
+      go true b e f = simp e
+      go false true e f = simp (e, f, ne-eqb (p .file) file h)
+      go false false e f = simp (e, f)
+
+  pub other-size : (length s ≡ pageSize → ⊥) → sought.Sought.Other ≡ imageOf file (tested s place files)
+  unfolding tested inBounds imageOf
+  other-size h = simp (ne-eqb (length s) pageSize h)
+
+  pub other-kind : (fieldsOf s .kind ≡ 2 → ⊥) → sought.Sought.Other ≡ imageOf file (tested s place files)
+  other-kind h = sym (only-fields (kind-other (fieldsOf s) h))
+
+  pub other-file : (fieldsOf s .file ≡ file → ⊥) → sought.Sought.Other ≡ imageOf file (tested s place files)
+  other-file h = sym (only-fields (file-other (fieldsOf s) h))
+
+  pub this-image : (p : Page) → Image p ≡ tested s place files → fieldsOf s .file ≡ file → sought.Sought.Image p ≡ imageOf file (tested s place files)
+  unfolding imageOf
+  this-image p e f =
+      let g : p .file ≡ file = ap (λ (x : Page). x .file) (found s place files (Image p) e .fields-are) ∙ f in
+      rw (← e) (simp (eq-eqb (p .file) file g))

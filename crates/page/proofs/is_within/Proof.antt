@@ -1,0 +1,12 @@
+-- `page::is_within`, by its definition. Assumes nothing.
+use Rattle.page.specs.Table.{within}
+use mathlib.Core.Path.{refl}
+use Rattle.page.proofs.is_within.Statement.{statement}
+use Rattle.page.proofs.is_within.Tie as tie
+
+returns : tie.Need-returns
+unfolding within
+returns c = refl
+
+pub is-within-spec : {M : Type 1} → statement M
+is-within-spec = tie.close (tie.spec returns)

@@ -1,0 +1,155 @@
+/* The proved page layer beside the plain one of plain.h, on sheets of good, damaged, cut and random pages.
+   Prints a line for each test and 'N passed, M failed'; the seed may be given, so that a failure can be run again. */
+#include <stdio.h>
+#include <stdlib.h>
+#include "plain.h"
+
+uint64_t bench_test(const uint8_t *sheet, size_t size, uint64_t files);
+uint64_t bench_seek(const uint8_t *sheet, size_t size, uint64_t files, uint64_t file);
+uint64_t bench_pack(uint8_t *sheet, size_t size, uint64_t files, uint64_t used, const uint8_t *value);
+
+enum { MOST = 40, SHEETS = 20000 };
+static uint8_t sheet[MOST * PAGE];
+static uint64_t seed;
+static int passed, failed;
+
+/* xorshift: a number below n. */
+static uint64_t below(uint64_t n) {
+    seed ^= seed << 13;
+    seed ^= seed >> 7;
+    seed ^= seed << 17;
+    return seed % n;
+}
+
+static void told(const char *what, int ok) {
+    printf("%s: %s\n", ok ? "ok" : "FAILED", what);
+    if (ok)
+        passed++;
+    else
+        failed++;
+}
+
+/* A number near a bound, or any. */
+static uint64_t near(uint64_t bound) { return below(4) ? bound - 1 + below(3) : below(1 + bound * 2); }
+
+/* A page that fits at this place: an opening at place 1, any kind above it. */
+static void good_page(uint8_t *page, uint64_t place, uint64_t files) {
+    uint8_t value[32] = {0};
+    int kind = place == 1 ? 1 : 1 + (int)below(3), used = (int)below(33);
+    for (int i = 0; i < used; i++)
+        value[i] = (uint8_t)below(256);
+    if (kind == 2)
+        plain_pack(page, 2, used, 1 + below(files), 1 + below(place - 1), below(place), below(8) ? 1 + below(1000) : UINT64_MAX,
+                   value, place);
+    else
+        plain_pack(page, kind, kind == 1 ? 0 : 1 + (int)below(2), 0, kind == 1 ? place : 1 + below(place - 1), 0, 0,
+                   (const uint8_t[32]){0}, place);
+}
+
+/* A good page with one field on or beside its bounds, and the check word made right again. */
+static void edge_page(uint8_t *page, uint64_t place, uint64_t files) {
+    switch (below(9)) {
+    case 0: page[0] = (uint8_t)below(5); break;
+    case 1: page[1] = (uint8_t)(below(2) ? below(4) : near(32)); break;
+    case 2: page[2 + below(2)] = 1; break;
+    case 3: plain_put(page, 4, 8, below(2) ? below(2) : near(files)); break;
+    case 4: plain_put(page, 8, 12, below(2) ? below(2) : near(place)); break;
+    case 5: plain_put(page, 12, 16, below(2) ? below(2) : near(place)); break;
+    case 6: plain_put(page, 16, 24, below(2)); break;
+    case 7: page[24 + below(32)] = 1; break;
+    case 8: plain_put(page, 56, 60, near(place)); break;
+    }
+    plain_put(page, 60, 62, plain_word(page));
+}
+
+static void random_page(uint8_t *page) {
+    for (int i = 0; i < PAGE; i++)
+        page[i] = (uint8_t)below(256);
+    page[0] = (uint8_t)below(5);
+    page[63] = below(2) ? 0xA5 : 0;
+}
+
+/* What is done to the pages of a sheet before both sides look at it. */
+enum change { NOTHING, ONE_BYTE, CUT, EDGES, RANDOM };
+
+static void change_page(uint8_t *page, uint64_t place, uint64_t files, enum change change) {
+    if (change == ONE_BYTE)
+        page[below(PAGE)] ^= (uint8_t)(1 + below(255));
+    else if (change == CUT) {
+        size_t n = below(PAGE + 1);
+        memset(page + n, 0, PAGE - n);
+    } else if (change == EDGES)
+        edge_page(page, place, files);
+    else if (change == RANDOM)
+        random_page(page);
+}
+
+/* The page test and the quick look agree with the plain ones on many sheets; `fitting` says how many pages fit in all. */
+static int agree(enum change change, uint64_t *fitting) {
+    *fitting = 0;
+    for (int k = 0; k < SHEETS; k++) {
+        uint64_t n = 1 + below(MOST), files = 1 + below(256), file = 1 + below(files), fit = 0, found = 0;
+        for (uint64_t place = 1; place <= n; place++) {
+            uint8_t *page = sheet + PAGE * (place - 1);
+            good_page(page, place, files);
+            if (below(4))
+                change_page(page, place, files, change);
+            if (plain_fits(page, place, files)) {
+                fit++;
+                found += page[0] == 2 && plain_get(page, 4, 8) == file;
+            }
+        }
+        size_t size = n * PAGE - (below(8) ? 0 : below(PAGE));
+        if (size < n * PAGE) { /* the last page is not whole: nobody looks at it */
+            uint8_t *page = sheet + PAGE * (n - 1);
+            if (plain_fits(page, n, files)) {
+                fit--;
+                found -= page[0] == 2 && plain_get(page, 4, 8) == file;
+            }
+        }
+        if (bench_test(sheet, size, files) != fit || bench_seek(sheet, size, files, file) != found) {
+            printf("sheet %d, %llu pages, %llu files, file %llu\n", k, (unsigned long long)n, (unsigned long long)files,
+                   (unsigned long long)file);
+            return 0;
+        }
+        *fitting += fit;
+    }
+    return 1;
+}
+
+/* Pack writes the plain page, byte for byte, and nothing where it refuses. */
+static int packs_alike(void) {
+    for (int k = 0; k < SHEETS; k++) {
+        uint8_t value[32] = {0}, was[sizeof sheet];
+        uint64_t n = 1 + below(MOST), files = below(258), used = below(35), written = 0;
+        for (uint64_t i = 0; i < 32 && i < used + !below(8); i++)
+            value[i] = (uint8_t)below(256);
+        for (size_t i = 0; i < sizeof sheet; i++)
+            was[i] = sheet[i] = (uint8_t)below(256);
+        for (uint64_t place = 1; place <= n; place++) {
+            uint8_t page[PAGE];
+            plain_pack(page, 2, (int)used, 1, 1, 0, place, value, place);
+            if (files < 1 || files > 256 || !plain_fits(page, place, files))
+                continue;
+            written++;
+            memcpy(was + PAGE * (place - 1), page, PAGE);
+        }
+        if (bench_pack(sheet, n * PAGE, files, used, value) != written || memcmp(sheet, was, sizeof sheet))
+            return 0;
+    }
+    return 1;
+}
+
+int main(int count, char **words) {
+    uint64_t fitting;
+    seed = count > 1 ? strtoull(words[1], NULL, 10) | 1 : 20261115;
+    printf("seed %llu\n", (unsigned long long)seed);
+    told("good pages fit", agree(NOTHING, &fitting) && fitting > SHEETS);
+    told("pages with one byte changed", agree(ONE_BYTE, &fitting) && fitting > SHEETS);
+    told("pages cut after any byte", agree(CUT, &fitting) && fitting > SHEETS);
+    told("fields on and beside every bound", agree(EDGES, &fitting) && fitting > SHEETS);
+    told("random pages", agree(RANDOM, &fitting) && fitting > SHEETS);
+    told("pack writes the plain page, or nothing", packs_alike());
+    printf("%d passed, %d failed\n", passed, failed);
+    return failed != 0;
+}
