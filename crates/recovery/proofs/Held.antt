@@ -1,0 +1,130 @@
+-- Sealed images of a file, as the code finds them, and line 7. Assumes nothing.
+use Prim.Native.Nat.{ℕ, _*_, _/_, _<_, _≤_}
+use mathlib.Core.Path.{_≡_, refl, sym, ap, _∙_}
+use mathlib.Core.Bool.{Bool, true, false, cond, _&&_}
+use mathlib.Core.List.{List}
+use native.Mathlib.Omega.{arith}
+use lib.ListN.{length}
+use lib.Dec.{eqb, leb}
+use borrow.Author.Tests.{eq-eqb, ne-eqb, le-leb, lt-leb, leb-true, leb-false}
+use Rattle.encoding.proofs.Logic.{by-test}
+use Rattle.page.specs.declared.Page.{Page}
+use Rattle.page.specs.declared.Unpacked.{Unpacked}
+use Rattle.page.specs.declared.Unpacked.the-variants.{Refused, Blank, Torn, Opening, Image, Outcome, Unfit}
+use Rattle.page.specs.declared.Sought as sought
+use Rattle.page.specs.declared.Sought.{Sought}
+use Rattle.page.specs.Layout.{pageSize}
+use Rattle.page.specs.Answers.{tested, onImage, imageOf}
+use Rattle.recovery.specs.Places.{nth}
+use Rattle.recovery.specs.Log.{Entry, blank, bad, image}
+use Rattle.recovery.specs.Sheet.{pageBytes, entryOf, imageFrom, isOpening, seal, decoded, sealed}
+use Rattle.recovery.specs.World.{isImageOf}
+use Rattle.recovery.specs.Lent.{pagesOf}
+use Rattle.recovery.specs.Steps.{sealedImage, placeHoldsIn}
+use Rattle.recovery.proofs.Pages.{test-out, page-at-place, pages-long}
+use Rattle.recovery.proofs.Lookups.{nth-past}
+use Rattle.recovery.proofs.WalkDown.{apart, found-same}
+
+pub seek-out : (s : List ℕ) (p files file : ℕ) → (1 ≤ p → pageSize * p ≤ length s → ⊥) → sought.Sought.Other ≡ imageOf file (tested (pageBytes s p) p files)
+unfolding imageOf
+seek-out s p files file h = ap (imageOf file) (test-out s p files h)
+
+-- ---- a sealed image by the quick look and the opening
+
+module _ (file : ℕ) (ρ : ℕ → Bool) where
+  abbrev with-opening : Unpacked → Sought
+  with-opening u = onImage u (λ (p : Page). cond (eqb (p .file) file && ρ (p .action)) (sought.Sought.Image p) sought.Sought.Other) sought.Sought.Other
+
+  none-found : (u : Unpacked) → sought.Sought.Other ≡ imageOf file u → sought.Sought.Other ≡ with-opening u
+  unfolding imageOf
+  none-found Refused e = refl
+  none-found Blank e = refl
+  none-found Torn e = refl
+  none-found (Opening y) e = refl
+  none-found (Outcome y) e = refl
+  none-found Unfit e = refl
+  none-found (Image y) e = go (eqb (y .file) file) e
+    where
+      go : (c : Bool) → sought.Sought.Other ≡ cond c (sought.Sought.Image y) sought.Sought.Other
+          → sought.Sought.Other ≡ cond (c && ρ (y .action)) (sought.Sought.Image y) sought.Sought.Other
+      go true f = apart (sym f)
+      go false f = refl
+
+  one-found : (u : Unpacked) (x : Page) → sought.Sought.Image x ≡ imageOf file u → cond (ρ (x .action)) (sought.Sought.Image x) sought.Sought.Other ≡ with-opening u
+  unfolding imageOf
+  one-found Refused x e = apart e
+  one-found Blank x e = apart e
+  one-found Torn x e = apart e
+  one-found (Opening y) x e = apart e
+  one-found (Outcome y) x e = apart e
+  one-found Unfit x e = apart e
+  one-found (Image y) x e = go (eqb (y .file) file) e
+    where
+      go : (c : Bool) → sought.Sought.Image x ≡ cond c (sought.Sought.Image y) sought.Sought.Other
+          → cond (ρ (x .action)) (sought.Sought.Image x) sought.Sought.Other ≡ cond (c && ρ (y .action)) (sought.Sought.Image y) sought.Sought.Other
+      go true f = let z : x ≡ y = found-same f in ap (λ (p : Page). cond (ρ (p .action)) (sought.Sought.Image p) sought.Sought.Other) z
+      go false f = apart f
+
+module _ (files : ℕ) (s : List ℕ) (file place : ℕ) where
+  pub image-none : sought.Sought.Other ≡ imageOf file (tested (pageBytes s place) place files) → sought.Sought.Other ≡ sealedImage files s file place
+  unfolding sealedImage
+  image-none e = none-found file (λ (a : ℕ). isOpening (decoded files s a)) _ e
+
+  module _ (x : Page) (e : sought.Sought.Image x ≡ imageOf file (tested (pageBytes s place) place files)) where
+    pub image-unsealed : isOpening (decoded files s (x .action)) ≡ false → sought.Sought.Other ≡ sealedImage files s file place
+    unfolding sealedImage
+    image-unsealed h = rw h at (one-found file (λ (a : ℕ). isOpening (decoded files s a)) _ x e)
+
+    pub image-sealed : isOpening (decoded files s (x .action)) ≡ true → sought.Sought.Image x ≡ sealedImage files s file place
+    unfolding sealedImage
+    image-sealed h = rw h at (one-found file (λ (a : ℕ). isOpening (decoded files s a)) _ x e)
+
+-- ---- line 7
+
+abbrev isFound : Sought → Bool
+isFound (sought.Sought.Image x) = true
+isFound sought.Sought.Other = false
+
+entry-found : (file : ℕ) (ρ : ℕ → Entry) (b : List ℕ) (u : Unpacked)
+    → isImageOf file (seal ρ (entryOf b u)) ≡ isFound (with-opening file (λ (a : ℕ). isOpening (ρ a)) u)
+entry-found file ρ b Refused = refl
+entry-found file ρ b Blank = refl
+entry-found file ρ b Torn = refl
+entry-found file ρ b (Opening y) = refl
+entry-found file ρ b (Outcome y) = by-test (λ (g : Entry). isImageOf file g ≡ false) (isOpening (ρ (y .action))) (λ q. refl) (λ q. refl)
+entry-found file ρ b Unfit = refl
+entry-found file ρ b (Image y) = go (isOpening (ρ (y .action))) (eqb (y .file) file) refl
+  where
+    go : (o c : Bool) → eqb (y .file) file ≡ c
+        → isImageOf file (cond o (image (imageFrom b y)) bad) ≡ isFound (cond (eqb (y .file) file && o) (sought.Sought.Image y) sought.Sought.Other)
+    go true true k = simp k
+    go true false k = simp k
+    go false true k = simp k
+    go false false k = simp k
+
+held-here : (files : ℕ) (s : List ℕ) (file place : ℕ) → isImageOf file (sealed files s place) ≡ isFound (sealedImage files s file place)
+unfolding sealed decoded sealedImage
+held-here files s file place = entry-found file (decoded files s) (pageBytes s place) (tested (pageBytes s place) place files)
+
+held-in : (files : ℕ) (s : List ℕ) (file place : ℕ) → 1 ≤ place → isImageOf file (nth blank (pagesOf s files) place) ≡ isFound (sealedImage files s file place)
+held-in files s file place l = go (leb place (length s / pageSize)) refl
+  where
+    go : (c : Bool) → leb place (length s / pageSize) ≡ c → isImageOf file (nth blank (pagesOf s files) place) ≡ isFound (sealedImage files s file place)
+    go true e = rw (page-at-place files (length s / pageSize) s place l (leb-true place (length s / pageSize) e)) (held-here files s file place)
+    go false e =
+        let h : length s / pageSize < place = leb-false place (length s / pageSize) e in
+        let b : blank ≡ nth blank (pagesOf s files) place = nth-past blank (pagesOf s files) place (omega (arith, pages-long files (length s / pageSize) s)) in
+        rw (← b) (ap isFound (image-none files s file place (seek-out s place files file (λ p q. omega arith))))
+
+module _ (s : List ℕ) (files end file place : ℕ) where
+  pub held-none : place ≡ 0 → true ≡ placeHoldsIn s files end file place
+  unfolding placeHoldsIn
+  held-none e = simp (eq-eqb place 0 e)
+
+  pub held-above : (place ≡ 0 → ⊥) → end < place → false ≡ placeHoldsIn s files end file place
+  unfolding placeHoldsIn
+  held-above n h = simp (ne-eqb place 0 n, lt-leb place end h)
+
+  pub held-by : (place ≡ 0 → ⊥) → place ≤ end → (u : Sought) → u ≡ sealedImage files s file place → isFound u ≡ placeHoldsIn s files end file place
+  unfolding placeHoldsIn
+  held-by n h u e = simp (ne-eqb place 0 n, le-leb place end h) (ap isFound e ∙ sym (held-in files s file place (omega (arith, n))))

@@ -1,0 +1,62 @@
+-- The page at a place, from its bytes and from what the page test answers. Assumes nothing.
+use Prim.Native.Nat.{ℕ, zero, suc, _*_, _+_, _-_, _<_, _≤_}
+use mathlib.Core.Path.{_≡_, refl, ap}
+use mathlib.Core.List.{List}
+use native.Mathlib.Omega.{arith}
+use borrow.Author.Tests.{ne-eqb}
+use lib.ListN.{length, take, drop, getD, length-take, length-drop}
+use Rattle.page.specs.declared.Unpacked.{Unpacked}
+use Rattle.page.specs.declared.Unpacked.the-variants.{Refused}
+use Rattle.page.specs.Layout.{pageSize}
+use Rattle.page.specs.Answers.{inBounds, tested}
+use Rattle.recovery.specs.Places.{nth}
+use Rattle.recovery.specs.Log.{Entry, blank}
+use Rattle.recovery.specs.Sheet.{pageBytes, entryOf, seal, decoded, sealed, pages}
+use Rattle.recovery.specs.World.{down}
+use Rattle.recovery.proofs.Places.{length-tabulate, nth-tabulate}
+
+-- the part from 64 × (place − 1), as the code cuts it
+pub part-is : (s : List ℕ) (a e p : ℕ) → 1 ≤ p → a ≡ pageSize * (p - 1) → e ≡ a + pageSize → take (e - a) (drop a s) ≡ pageBytes s p
+part-is s a e zero h ha he = absurd (omega arith)
+part-is s a e (suc q) h ha he =
+    let n : e - a ≡ pageSize = omega arith in
+    let k : a ≡ pageSize * q = omega arith in
+    rw (n, k)
+
+pub test-is : (s : List ℕ) (a e p files : ℕ) → 1 ≤ p → a ≡ pageSize * (p - 1) → e ≡ a + pageSize → tested (take (e - a) (drop a s)) p files ≡ tested (pageBytes s p) p files
+test-is s a e p files h ha he = ap (λ (l : List ℕ). tested l p files) (part-is s a e p h ha he)
+
+-- a place that the sheet does not have
+pub test-out : (s : List ℕ) (p files : ℕ) → (1 ≤ p → pageSize * p ≤ length s → ⊥) → Refused ≡ tested (pageBytes s p) p files
+unfolding tested inBounds
+test-out s zero files h = refl
+test-out s (suc q) files h =
+    let short : length (take pageSize (drop (pageSize * q) s)) ≡ pageSize → ⊥ = λ e. h (omega arith) (omega (arith, e, length-take pageSize (drop (pageSize * q) s), length-drop (pageSize * q) s)) in
+    simp (ne-eqb (length (take pageSize (drop (pageSize * q) s))) pageSize short)
+
+pub pages-long : (files n : ℕ) (s : List ℕ) → length (pages files n s) ≡ n
+unfolding pages
+pages-long files n s = length-tabulate (sealed files s) 0 n
+
+pub page-here : (files n : ℕ) (s : List ℕ) (p : ℕ) → p < n → getD (pages files n s) p blank ≡ sealed files s (suc p)
+unfolding pages
+page-here files n s p h = nth-tabulate (sealed files s) n (suc p) blank (omega arith) h
+
+pub page-at-place : (files n : ℕ) (s : List ℕ) (p : ℕ) → 1 ≤ p → p ≤ n → nth blank (pages files n s) p ≡ sealed files s p
+unfolding pages
+page-at-place files n s p l h = nth-tabulate (sealed files s) n p blank l h
+
+pub length-down : (s : List Entry) (e : ℕ) → length (down s e) ≡ e
+unfolding down
+length-down s zero = refl
+length-down s (suc e) = ap suc (length-down s e)
+
+-- what the page test answers at a place is the page there
+module _ (s : List ℕ) (p files : ℕ) (u : Unpacked) (e : u ≡ tested (pageBytes s p) p files) where
+  pub decoded-is : entryOf (pageBytes s p) u ≡ decoded files s p
+  unfolding decoded
+  decoded-is = rw e
+
+  pub sealed-is : seal (decoded files s) (entryOf (pageBytes s p) u) ≡ sealed files s p
+  unfolding sealed
+  sealed-is = ap (seal (decoded files s)) decoded-is

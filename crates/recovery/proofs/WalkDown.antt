@@ -1,0 +1,247 @@
+-- The walk of rebuild: what is known from above, laid over the row of the pages below. Assumes nothing.
+use Prim.Native.Nat.{ℕ, zero, suc, min, _*_, _-_, _/_, _<_, _≤_}
+use mathlib.Core.Path.{_≡_, refl, sym, ap, _∙_}
+use mathlib.Core.Bool.{Bool, true, false, cond, _||_}
+use mathlib.Core.List.{List, _∷_}
+use native.Mathlib.Omega.{arith}
+use native.Mathlib.Numerals.{sub-one}
+use lib.ListN.{length, getD, List·getD-eq-default}
+use lib.Dec.{eqb, leb}
+use borrow.Author.Tests.{ne-eqb, eqb-true, eqb-false, leb-true, leb-false}
+use Rattle.encoding.proofs.Logic.{by-test}
+use Rattle.page.specs.declared.Page.{Page}
+use Rattle.page.specs.declared.Unpacked.{Unpacked}
+use Rattle.page.specs.declared.Unpacked.the-variants.{Refused, Blank, Torn, Opening, Image, Outcome, Unfit}
+use Rattle.page.specs.declared.Sought as sought
+use Rattle.page.specs.declared.Sought.{Sought}
+use Rattle.page.specs.Layout.{pageSize}
+use Rattle.page.specs.Answers.{tested, imageOf}
+use Rattle.recovery.specs.Places.{nth}
+use Rattle.recovery.specs.Log.{Entry, blank, torn, bad, opening, image, outcome, Fate, unknown, undecided, committed, aborted, Placed, imagesOf, currentOf, tokenOf, placeOf, startOf}
+use Rattle.recovery.specs.Sheet.{pageBytes, entryOf, imageFrom, isOpening, seal, decoded, sealed, pages}
+use Rattle.recovery.specs.World.{down, rebuiltRow, fateFrom, fateIn}
+use Rattle.recovery.specs.Lent.{pagesOf}
+use Rattle.recovery.specs.Steps.{countedFate, rowFromPages}
+use Rattle.recovery.specs.declared.Row.{Row}
+use Rattle.recovery.proofs.Pages.{page-here, sealed-is, length-down, pages-long}
+
+-- ---- a row with one page more
+
+abbrev pub addImage : Fate → ℕ → ℕ → Row → Row
+addImage unknown p st r = r
+addImage undecided p st r = record { mark = r .mark; current = r .current; currentend = r .currentend; token = p; tokenend = st }
+addImage committed p st r = record { mark = r .mark; current = p; currentend = st; token = 0; tokenend = 0 }
+addImage aborted p st r = r
+
+abbrev pub addPage : (ℕ → Fate) → ℕ → ℕ → Entry → Row → Row
+addPage φ file p blank r = r
+addPage φ file p torn r = r
+addPage φ file p bad r = r
+addPage φ file p opening r = r
+addPage φ file p (image i) r = cond (eqb (i .file) file) (addImage (φ (i .action)) p (i .start) r) r
+addPage φ file p (outcome a c) r = r
+
+row-cons : (g : Entry) (l : List Entry) (φ : ℕ → Fate) (f : ℕ) → rebuiltRow (g ∷ l) φ f ≡ addPage φ f (suc (length l)) g (rebuiltRow l φ f)
+unfolding imagesOf currentOf tokenOf
+row-cons blank l φ f = refl
+row-cons torn l φ f = refl
+row-cons bad l φ f = refl
+row-cons opening l φ f = refl
+row-cons (outcome a c) l φ f = refl
+row-cons (image i) l φ f = go (eqb (i .file) f)
+  where
+    x : Placed
+    x = record { place = suc (length l); image = i }
+
+    rowOf : List Placed → Row
+    rowOf xs = record { mark = 1; current = placeOf (currentOf φ xs); currentend = startOf (currentOf φ xs); token = placeOf (tokenOf φ xs); tokenend = startOf (tokenOf φ xs) }
+
+    new : (q : Fate) → φ (i .action) ≡ q → rowOf (x ∷ imagesOf l f) ≡ addImage q (suc (length l)) (i .start) (rebuiltRow l φ f)
+    new unknown e = rw e
+    new undecided e = rw e
+    new committed e = rw e
+    new aborted e = rw e
+
+    go : (b : Bool) → rowOf (cond b (x ∷ imagesOf l f) (imagesOf l f)) ≡ cond b (addImage (φ (i .action)) (suc (length l)) (i .start) (rebuiltRow l φ f)) (rebuiltRow l φ f)
+    go true = new (φ (i .action)) refl
+    go false = refl
+
+-- the row with an image above it that is the token, if its place t is not 0
+unfoldable pub overlay : ℕ → ℕ → Row → Row
+overlay t u r = cond (eqb t 0) r (record { mark = r .mark; current = r .current; currentend = r .currentend; token = t; tokenend = u })
+
+-- ---- what the quick look tells
+
+pub apart : {A : Type 0} {x : Page} → sought.Sought.Image x ≡ sought.Sought.Other → A
+apart e = let z : _≡_ {A = ℕ} 0 1 = cc in absurd (omega arith)
+
+pub found-same : {x y : Page} → sought.Sought.Image x ≡ sought.Sought.Image y → x ≡ y
+found-same e = cc
+
+-- only the fates undecided and committed move a row
+by-count : (n p st : ℕ) (r : Row) (o : Bool)
+    → cond o (addImage (fateFrom n) p st r) r ≡ addImage (fateFrom (cond (eqb n 1 || eqb n 2) (cond o n 0) 0)) p st r
+by-count n p st r o = go (eqb n 1) (eqb n 2) (eqb n 3) o refl refl refl
+  where
+    go : (b1 b2 b3 o : Bool) → eqb n 1 ≡ b1 → eqb n 2 ≡ b2 → eqb n 3 ≡ b3
+        → cond o (addImage (fateFrom n) p st r) r ≡ addImage (fateFrom (cond (eqb n 1 || eqb n 2) (cond o n 0) 0)) p st r
+    go true b2 b3 true e1 e2 e3 = simp e1
+    go false true b3 true e1 e2 e3 = simp (e1, e2)
+    go false false true true e1 e2 e3 = simp (e1, e2, e3)
+    go false false false true e1 e2 e3 = simp (e1, e2, e3)
+    go true b2 b3 false e1 e2 e3 = simp e1
+    go false true b3 false e1 e2 e3 = simp (e1, e2)
+    go false false b3 false e1 e2 e3 = simp (e1, e2)
+
+-- ---- the walk down
+
+module _ (files : ℕ) (s fs : List ℕ) (file : ℕ) where
+  abbrev pub rowTo : ℕ → Row
+  rowTo p = rowFromPages s fs files file p
+
+  pub row-down : (p : ℕ) → 0 < p → pageSize * p ≤ length s → rowTo p ≡ addPage (fateIn fs) file p (sealed files s p) (rowTo (p - 1))
+  unfolding rowFromPages down
+  row-down zero l h = absurd (omega arith)
+  row-down (suc q) l h =
+      let k : q < length s / pageSize = omega arith in
+      row-cons (getD (pagesOf s files) q blank) (down (pagesOf s files) q) (fateIn fs) file
+      ∙ rw (length-down (pagesOf s files) q, page-here files (length s / pageSize) s q k, sub-one)
+
+  pub row-mark : (p : ℕ) → rowTo p .mark ≡ 1
+  unfolding rowFromPages
+  row-mark p = refl
+
+  -- pages above the sheet are blank
+  row-above : (p : ℕ) → length s / pageSize ≤ p → rowTo p ≡ rowTo (length s / pageSize)
+  unfolding rowFromPages down imagesOf
+  row-above zero h = let e : length s / pageSize ≡ 0 = omega arith in rw e
+  row-above (suc p) h = go (eqb (length s / pageSize) (suc p)) refl (λ l. row-above p l)
+    where
+      go : (b : Bool) → eqb (length s / pageSize) (suc p) ≡ b → (length s / pageSize ≤ p → rowTo p ≡ rowTo (length s / pageSize)) → rowTo (suc p) ≡ rowTo (length s / pageSize)
+      go true e f = let z : length s / pageSize ≡ suc p = eqb-true _ _ e in ap rowTo (sym z)
+      go false e f =
+          let l : length s / pageSize ≤ p = omega (arith, eqb-false (length s / pageSize) (suc p) e) in
+          let g : getD (pagesOf s files) p blank ≡ blank = List·getD-eq-default (pagesOf s files) blank (omega (arith, pages-long files (length s / pageSize) s)) in
+          rw g (f l)
+
+  pub row-from : (end : ℕ) → rowTo (min end (length s / pageSize)) ≡ rowTo end
+  row-from end = go (leb end (length s / pageSize)) refl
+    where
+      go : (b : Bool) → leb end (length s / pageSize) ≡ b → rowTo (min end (length s / pageSize)) ≡ rowTo end
+      go true e = let z : min end (length s / pageSize) ≡ end = omega (arith, leb-true end (length s / pageSize) e) in ap rowTo z
+      go false e =
+          let k : length s / pageSize ≤ end = omega (arith, leb-false end (length s / pageSize) e) in
+          let z : min end (length s / pageSize) ≡ length s / pageSize = omega arith in
+          ap rowTo z ∙ sym (row-above end k)
+
+  -- what the quick look found moves the row as its fate says
+  pub of-file : (b : List ℕ) (p : ℕ) (u : Unpacked) (x : Page) (r : Row) (w : ℕ) → sought.Sought.Image x ≡ imageOf file u → w ≡ countedFate files s fs (x .action)
+      → addPage (fateIn fs) file p (seal (decoded files s) (entryOf b u)) r ≡ addImage (fateFrom w) p (x .start) r
+  unfolding imageOf countedFate
+  of-file b p Refused x r w e h = apart e
+  of-file b p Blank x r w e h = apart e
+  of-file b p Torn x r w e h = apart e
+  of-file b p (Opening y) x r w e h = apart e
+  of-file b p (Outcome y) x r w e h = apart e
+  of-file b p Unfit x r w e h = apart e
+  of-file b p (Image y) x r w e h = go (eqb (y .file) file) refl (λ k. rw k at e)
+    where
+      to-image : (o : Bool) (y : Page) → eqb (y .file) file ≡ true
+          → addPage (fateIn fs) file p (cond o (image (imageFrom b y)) bad) r ≡ cond o (addImage (fateFrom (nth 0 fs (y .action))) p (y .start) r) r
+      to-image true y k = rw k
+      to-image false y k = refl
+
+      go : (c : Bool) → eqb (y .file) file ≡ c → (eqb (y .file) file ≡ c → sought.Sought.Image x ≡ cond c (sought.Sought.Image y) sought.Sought.Other)
+          → addPage (fateIn fs) file p (seal (decoded files s) (entryOf b (Image y))) r ≡ addImage (fateFrom w) p (x .start) r
+      go true k f =
+          let z : x ≡ y = found-same (f k) in
+          rw (h, z) (to-image (isOpening (decoded files s (y .action))) y k ∙ by-count (nth 0 fs (y .action)) p (y .start) r (isOpening (decoded files s (y .action))))
+      go false k f = apart (f k)
+
+  -- and any other page leaves it
+  pub other-page : (b : List ℕ) (p : ℕ) (u : Unpacked) (r : Row) → sought.Sought.Other ≡ imageOf file u
+      → addPage (fateIn fs) file p (seal (decoded files s) (entryOf b u)) r ≡ r
+  unfolding imageOf
+  other-page b p Refused r e = refl
+  other-page b p Blank r e = refl
+  other-page b p Torn r e = refl
+  other-page b p (Opening y) r e = refl
+  other-page b p (Outcome y) r e = by-test (λ (g : Entry). addPage (fateIn fs) file p g r ≡ r) (isOpening (decoded files s (y .action))) (λ q. refl) (λ q. refl)
+  other-page b p Unfit r e = refl
+  other-page b p (Image y) r e = go (eqb (y .file) file) refl (λ k. rw k at e)
+    where
+      go : (c : Bool) → eqb (y .file) file ≡ c → (eqb (y .file) file ≡ c → sought.Sought.Other ≡ cond c (sought.Sought.Image y) sought.Sought.Other)
+          → addPage (fateIn fs) file p (seal (decoded files s) (entryOf b (Image y))) r ≡ r
+      go true k f = apart (sym (f k))
+      go false k f = by-test (λ (g : Entry). addPage (fateIn fs) file p g r ≡ r) (isOpening (decoded files s (y .action))) (λ q. rw k) (λ q. refl)
+
+  -- ---- a turn of the walk down, by what the quick look found at p
+
+  module _ (p : ℕ) (some : 0 < p) (in-sheet : pageSize * p ≤ length s) where
+    abbrev seen : Sought
+    seen = imageOf file (tested (pageBytes s p) p files)
+
+    page-is : (r : Row) → addPage (fateIn fs) file p (sealed files s p) r ≡ addPage (fateIn fs) file p (seal (decoded files s) (entryOf (pageBytes s p) (tested (pageBytes s p) p files))) r
+    page-is r = ap (λ (g : Entry). addPage (fateIn fs) file p g r) (sym (sealed-is s p files (tested (pageBytes s p) p files) refl))
+
+    -- any other page: what is known stays
+    pub pass : (t v : ℕ) {x : Row} → sought.Sought.Other ≡ seen → overlay t v (rowTo p) ≡ x → overlay t v (rowTo (p - 1)) ≡ x
+    pass t v e i =
+        ap (overlay t v) (sym (row-down p some in-sheet ∙ page-is (rowTo (p - 1)) ∙ other-page (pageBytes s p) p _ (rowTo (p - 1)) e)) ∙ i
+
+    module _ (y : Page) (w : ℕ) (found : sought.Sought.Image y ≡ seen) (counted : w ≡ countedFate files s fs (y .action)) where
+      moved : rowTo p ≡ addImage (fateFrom w) p (y .start) (rowTo (p - 1))
+      moved = row-down p some in-sheet ∙ page-is (rowTo (p - 1)) ∙ of-file (pageBytes s p) p _ y (rowTo (p - 1)) w found counted
+
+      -- an image that moves what is known from above
+      pub turn : (t v t′ v′ : ℕ) {x : Row} → ((r : Row) → overlay t′ v′ r ≡ overlay t v (addImage (fateFrom w) p (y .start) r))
+          → overlay t v (rowTo p) ≡ x → overlay t′ v′ (rowTo (p - 1)) ≡ x
+      turn t v t′ v′ h i = h (rowTo (p - 1)) ∙ ap (overlay t v) (sym moved) ∙ i
+
+      -- an image that ends the walk
+      pub stop : (t v : ℕ) {x z : Row} → ((r : Row) → r .mark ≡ 1 → z ≡ overlay t v (addImage (fateFrom w) p (y .start) r)) → overlay t v (rowTo p) ≡ x → z ≡ x
+      stop t v h i = h (rowTo (p - 1)) (row-mark (p - 1)) ∙ ap (overlay t v) (sym moved) ∙ i
+
+pub over-none : (r : Row) → overlay 0 0 r ≡ r
+unfolding overlay
+over-none r = refl
+
+module _ (t v w p st : ℕ) (r : Row) where
+  pub over-committed : r .mark ≡ 1 → w ≡ 2 → (t ≡ 0 → v ≡ 0)
+      → record { mark = 1; current = p; currentend = st; token = t; tokenend = v } ≡ overlay t v (addImage (fateFrom w) p st r)
+  unfolding overlay
+  over-committed hm hw h = rw (hw, hm) (go (eqb t 0) refl)
+    where
+      go : (b : Bool) → eqb t 0 ≡ b
+          → _≡_ {A = Row} (record { mark = 1; current = p; currentend = st; token = t; tokenend = v })
+          (cond b (record { mark = 1; current = p; currentend = st; token = 0; tokenend = 0 }) (record { mark = 1; current = p; currentend = st; token = t; tokenend = v }))
+      go true e = let z : t ≡ 0 = eqb-true t 0 e in rw (z, h z)
+      go false e = refl
+
+  pub over-token : w ≡ 1 → t ≡ 0 → 0 < p → overlay p st r ≡ overlay t v (addImage (fateFrom w) p st r)
+  unfolding overlay
+  over-token hw ht l = rw (hw, ht) (rw (ne-eqb p 0 (omega arith)))
+
+  pub over-kept : w ≡ 1 → (t ≡ 0 → ⊥) → overlay t v r ≡ overlay t v (addImage (fateFrom w) p st r)
+  unfolding overlay
+  over-kept hw ht = rw hw (rw (ne-eqb t 0 ht))
+
+  pub over-passed : (w ≡ 2 → ⊥) → (w ≡ 1 → ⊥) → overlay t v r ≡ overlay t v (addImage (fateFrom w) p st r)
+  over-passed h2 h1 = rw (ne-eqb w 2 h2, ne-eqb w 1 h1) (go (eqb w 3))
+    where
+      go : (b : Bool) → overlay t v r ≡ overlay t v (addImage (cond b aborted unknown) p st r)
+      go true = refl
+      go false = refl
+
+-- the end of the walk
+pub over-end : (files : ℕ) (s fs : List ℕ) (file p t v : ℕ) → p ≤ 0 → (t ≡ 0 → v ≡ 0)
+    → record { mark = 1; current = 0; currentend = 0; token = t; tokenend = v } ≡ overlay t v (rowTo files s fs file p)
+unfolding overlay rowFromPages down imagesOf currentOf tokenOf
+over-end files s fs file (suc p) t v l h = absurd (omega arith)
+over-end files s fs file zero t v l h = go (eqb t 0) refl
+  where
+    go : (b : Bool) → eqb t 0 ≡ b
+        → _≡_ {A = Row} (record { mark = 1; current = 0; currentend = 0; token = t; tokenend = v })
+        (cond b (record { mark = 1; current = 0; currentend = 0; token = 0; tokenend = 0 }) (record { mark = 1; current = 0; currentend = 0; token = t; tokenend = v }))
+    go true e = let z : t ≡ 0 = eqb-true t 0 e in rw (z, h z)
+    go false e = refl

@@ -1,0 +1,79 @@
+use Rattle.recovery.proofs.Leaves.{rebuild-line-1, rebuild-line-3, rebuild-line-7, rebuild-done}
+use Rattle.recovery.specs.declared.Done.{Done}
+use Rattle.recovery.specs.Lent.{leftBy}
+use Rattle.encoding.proofs.Logic.{refused, passed}
+use denote.Ref.{now}
+use mathlib.Core.Path.{ap, _∙_}
+use borrow.Author.Needs.{needs}
+use Rattle.recovery.proofs.rebuilding.rebuild.Statement.{statement}
+use Rattle.recovery.proofs.rebuilding.rebuild.Tie as tie
+
+is-lent-right-requires : tie.Need-is-lent-right-requires
+is-lent-right-requires c κs = search needs
+
+refuse-requires : tie.Need-refuse-requires
+refuse-requires c κs = search needs
+
+returns : tie.Need-returns
+returns c =
+    let a = c .before .before .before .before .before .before .args in
+    ap (λ (d : Done). leftBy d (now (a .sheet)) (now (a .fates)) (now (a .rows))) (c .refuse .ensures)
+    ∙ rebuild-line-1 (now (a .sheet)) (now (a .fates)) (now (a .rows)) (a .state) (a .file) (refused (c .before .before .is-lent-right .ensures) (c .before .if1 .taken))
+
+is-file-requires : tie.Need-is-file-requires
+is-file-requires c κs = search needs
+
+refuse-requires-2 : tie.Need-refuse-requires-2
+refuse-requires-2 c κs = search needs
+
+returns-2 : tie.Need-returns-2
+returns-2 c =
+    let a = c .before .before .before .before .before .before .before .before .args in
+    ap (λ (d : Done). leftBy d (now (a .sheet)) (now (a .fates)) (now (a .rows))) (c .refuse2 .ensures)
+    ∙ rebuild-line-3 (now (a .sheet)) (now (a .fates)) (now (a .rows)) (a .state) (a .file) (passed (c .before .before .before .before .is-lent-right .ensures) (c .before .before .before .if1 .left)) (refused (c .before .before .is-file .ensures) (c .before .if2 .taken))
+
+warm-row-requires : tie.Need-warm-row-requires
+warm-row-requires c κs = search needs
+
+is-row-held-requires : tie.Need-is-row-held-requires
+is-row-held-requires c κs = search needs
+
+refuse-requires-3 : tie.Need-refuse-requires-3
+refuse-requires-3 c κs = search needs
+
+same-length : tie.Need-same-length
+same-length c = search needs
+
+returns-3 : tie.Need-returns-3
+returns-3 c =
+    let a = c .before .before .before .before .before .before .before .before .before .before .before .before .before .before .args in
+    let w = c .before .before .before .before .before .warm-row in
+    ap (λ (d : Done). leftBy d (now (a .sheet)) (now (a .fates)) (w .last .1 .1 .0)) (c .refuse3 .ensures)
+    ∙ rebuild-line-7 (now (a .sheet)) (now (a .fates)) (now (a .rows)) (a .state) (a .file) (passed (c .before .before .before .before .before .before .before .before .before .before .is-lent-right .ensures) (c .before .before .before .before .before .before .before .before .before .if1 .left)) (passed (c .before .before .before .before .before .before .before .before .is-file .ensures) (c .before .before .before .before .before .before .before .if2 .left)) (w .result) _ (w .ensures) (refused (c .before .before .is-row-held .ensures) (c .before .if3 .taken))
+
+same-length-2 : tie.Need-same-length-2
+same-length-2 c = search needs
+
+returns-4 : tie.Need-returns-4
+returns-4 c =
+    let a = c .before .before .before .before .before .before .before .before .before .before .before .before .before .args in
+    let w = c .before .before .before .before .warm-row in
+    rebuild-done (now (a .sheet)) (now (a .fates)) (now (a .rows)) (a .state) (a .file) (passed (c .before .before .before .before .before .before .before .before .before .is-lent-right .ensures) (c .before .before .before .before .before .before .before .before .if1 .left)) (passed (c .before .before .before .before .before .before .before .is-file .ensures) (c .before .before .before .before .before .before .if2 .left)) (w .result) _ (w .ensures) (passed (c .before .is-row-held .ensures) (c .if3 .left))
+
+pub rebuild-spec : {M : Type 1} → statement M
+rebuild-spec =
+    tie.close
+    (tie.spec
+    is-lent-right-requires
+    refuse-requires
+    returns
+    is-file-requires
+    refuse-requires-2
+    returns-2
+    warm-row-requires
+    is-row-held-requires
+    refuse-requires-3
+    same-length
+    returns-3
+    same-length-2
+    returns-4)

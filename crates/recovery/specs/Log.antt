@@ -1,0 +1,93 @@
+-- The log: a sheet's pages decoded, the newest first, and what they say of an action and of a file.
+-- The place of the newest page is the length of the log.
+use mathlib.Core.List.{List, [], _∷_}
+use mathlib.Core.Bool.{Bool, true, false, cond}
+use mathlib.Core.Option.{Option, some, none}
+use Prim.Native.Nat.{ℕ, zero, suc}
+use lib.ListN.{length}
+use lib.Dec.{eqb}
+
+-- an image (a version record): one value of a file
+pub record Image : Type 0 where
+  pub file : ℕ
+  pub action : ℕ
+  pub link : ℕ
+  pub start : ℕ
+  pub value : List ℕ
+
+-- a page decoded: a sealed one by its kind, an outcome with its action and whether it is committed
+pub data Entry : Type 0 where
+  blank torn bad opening : Entry
+  image : Image → Entry
+  outcome : ℕ → Bool → Entry
+
+-- an action's fate (its transaction status); unknown where no sealed opening lies
+pub data Fate : Type 0 where
+  unknown undecided committed aborted : Fate
+
+-- an image and the place of its page
+pub record Placed : Type 0 where
+  pub place : ℕ
+  pub image : Image
+
+-- ---- the fate of an action, by its newest outcome
+
+abbrev pub verdict : Bool → Fate
+verdict true = committed
+verdict false = aborted
+
+abbrev pub fateStep : Entry → ℕ → ℕ → Fate → Fate
+fateStep blank place a x = x
+fateStep torn place a x = x
+fateStep bad place a x = x
+fateStep opening place a x = cond (eqb a place) undecided x
+fateStep (image i) place a x = x
+fateStep (outcome b c) place a x = cond (eqb a b) (verdict c) x
+
+unfoldable pub fateOf : List Entry → ℕ → Fate
+fateOf [] a = unknown
+fateOf (g ∷ l) a = fateStep g (suc (length l)) a (fateOf l a)
+
+-- ---- the images of a file, the newest first
+
+abbrev pub imagesStep : Entry → ℕ → ℕ → List Placed → List Placed
+imagesStep blank place f xs = xs
+imagesStep torn place f xs = xs
+imagesStep bad place f xs = xs
+imagesStep opening place f xs = xs
+imagesStep (image i) place f xs = cond (eqb (i .file) f) (record { place = place; image = i } ∷ xs) xs
+imagesStep (outcome b c) place f xs = xs
+
+unfoldable pub imagesOf : List Entry → ℕ → List Placed
+imagesOf [] f = []
+imagesOf (g ∷ l) f = imagesStep g (suc (length l)) f (imagesOf l f)
+
+-- ---- the current version, the newest committed image; and the token, the newest undecided one above it
+
+abbrev pub currentStep : Fate → Placed → Option Placed → Option Placed
+currentStep unknown x r = r
+currentStep undecided x r = r
+currentStep committed x r = some x
+currentStep aborted x r = r
+
+abbrev pub tokenStep : Fate → Placed → Option Placed → Option Placed
+tokenStep unknown x r = r
+tokenStep undecided x r = some x
+tokenStep committed x r = none
+tokenStep aborted x r = r
+
+unfoldable pub currentOf : (ℕ → Fate) → List Placed → Option Placed
+currentOf φ [] = none
+currentOf φ (x ∷ xs) = currentStep (φ (x .image .action)) x (currentOf φ xs)
+
+unfoldable pub tokenOf : (ℕ → Fate) → List Placed → Option Placed
+tokenOf φ [] = none
+tokenOf φ (x ∷ xs) = tokenStep (φ (x .image .action)) x (tokenOf φ xs)
+
+abbrev pub placeOf : Option Placed → ℕ
+placeOf (some x) = x .place
+placeOf none = 0
+
+abbrev pub startOf : Option Placed → ℕ
+startOf (some x) = x .image .start
+startOf none = 0

@@ -1,0 +1,70 @@
+-- What smaller functions of the code answer. A reader of document 01 can pass this file over: the laws join it to `rebuilt`.
+use mathlib.Core.Path.{_≡_}
+use mathlib.Core.List.{List, []}
+use mathlib.Core.Bool.{Bool, cond, _&&_, _||_}
+use Prim.Native.Nat.{ℕ, pred, _/_}
+use lib.ListN.{length}
+use lib.Dec.{eqb, leb}
+use Rattle.page.specs.declared.Page.{Page}
+use Rattle.page.specs.declared.Sought as sought
+use Rattle.page.specs.declared.Sought.{Sought}
+use Rattle.page.specs.Layout.{pageSize}
+use Rattle.page.specs.Answers.{tested, onImage}
+use Rattle.recovery.specs.Places.{nth}
+use Rattle.recovery.specs.Log.{Entry}
+use Rattle.recovery.specs.Sheet.{pageBytes, isOpening, decoded}
+use Rattle.recovery.specs.World.{World, down, rebuiltRow, fateIn, cold, isFile, placeHolds, rowHolds}
+use Rattle.recovery.specs.Lent.{rowLength, rowsOf, putRow, pagesOf, sizesRight}
+use Rattle.recovery.specs.declared.Row.{Row}
+use Rattle.recovery.specs.declared.State.{State}
+use Rattle.recovery.specs.declared.Done.{Done}
+use Rattle.recovery.specs.declared.Answer.the-variants.{Refused}
+
+-- the lent fate of an action under which its images count, 1 or 2, where the action is the place of an opening; else 0
+unfoldable pub countedFate : ℕ → List ℕ → List ℕ → ℕ → ℕ
+countedFate files s fates a = cond (eqb (nth 0 fates a) 1 || eqb (nth 0 fates a) 2) (cond (isOpening (decoded files s a)) (nth 0 fates a) 0) 0
+
+-- the fields of a sealed image of a file at a place
+unfoldable pub sealedImage : ℕ → List ℕ → ℕ → ℕ → Sought
+sealedImage files s file place =
+    onImage (tested (pageBytes s place) place files)
+    (λ (p : Page). cond (eqb (p .file) file && isOpening (decoded files s (p .action))) (sought.Sought.Image p) sought.Sought.Other)
+    sought.Sought.Other
+
+-- the row of a file in the lent run, cold for no file; and the run with it replaced
+unfoldable pub rowOf : List ℕ → ℕ → Row
+rowOf rows file = nth cold (rowsOf rows) file
+
+unfoldable pub withRowOf : List ℕ → ℕ → Row → List ℕ
+withRowOf rows file r = cond (isFile (length rows / rowLength) file) (putRow rows (pred file) r) rows
+
+-- the row that the pages and the lent fates give
+unfoldable pub rowFromPages : List ℕ → List ℕ → ℕ → ℕ → ℕ → Row
+rowFromPages s fates files file end = rebuiltRow (down (pagesOf s files) end) (fateIn fates) file
+
+-- a row as its numbers stand on the sheet: what line 7 asks needs nothing else of what is lent
+abbrev pub sheetWorld : List ℕ → ℕ → ℕ → World
+sheetWorld s files end = record { sheet = pagesOf s files; fates = []; rows = []; end = end; floor = 0; undecided = 0 }
+
+unfoldable pub placeHoldsIn : List ℕ → ℕ → ℕ → ℕ → ℕ → Bool
+placeHoldsIn s files end file place = placeHolds (sheetWorld s files end) file place
+
+unfoldable pub rowHoldsIn : List ℕ → ℕ → ℕ → ℕ → Row → Bool
+rowHoldsIn s files end file r = rowHolds (sheetWorld s files end) file r
+
+-- a file's row, rebuilt where it is cold, and the run that then holds it
+unfoldable pub warmRowOf : List ℕ → List ℕ → List ℕ → ℕ → ℕ → Row
+warmRowOf s fates rows file end = cond (eqb (rowOf rows file .mark) 0) (rowFromPages s fates (length rows / rowLength) file end) (rowOf rows file)
+
+-- line 1 by numbers, for a call on an open sheet
+unfoldable pub lineOne : ℕ → ℕ → ℕ → ℕ → ℕ → Bool
+lineOne size fates numbers end undecided = sizesRight size fates numbers && leb end (size / pageSize) && leb undecided end
+
+-- what warm_row owes: the row, and the run that holds it
+pub record Warmed (s fates rows : List ℕ) (file end : ℕ) (r : Row) (left : List ℕ) : Type 0 where
+  pub row-is : r ≡ warmRowOf s fates rows file end
+  pub left-is : left ≡ withRowOf rows file r
+
+-- a refusal with place 0, and the state as it was
+abbrev pub refusal : ℕ → State → Done
+refusal number state = record { answer = Refused number 0; state = state }

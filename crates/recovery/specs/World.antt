@@ -1,0 +1,190 @@
+-- What open and rebuild do, over decoded pages, line by line in the order of document 01.
+use mathlib.Core.List.{List, [], _∷_}
+use mathlib.Core.Bool.{Bool, true, false, cond, _&&_, _||_}
+use mathlib.Core.Option.{Option, some, none}
+use Prim.Native.Nat.{ℕ, zero, suc, _+_}
+use lib.ListN.{length, getD}
+use lib.Dec.{eqb, leb}
+use Rattle.page.specs.Layout.{mostPlaces, mostFiles}
+use Rattle.recovery.specs.Places.{nth, put, tabulate}
+use Rattle.recovery.specs.Log.{Image, Entry, blank, torn, bad, opening, image, outcome, Fate, unknown, undecided, committed, aborted, Placed, fateOf, imagesOf, currentOf, tokenOf, placeOf, startOf}
+use Rattle.recovery.specs.declared.Row.{Row}
+use Rattle.recovery.specs.declared.Answer.{Answer}
+use Rattle.recovery.specs.declared.Answer.the-variants.{Refused, Opened, Rebuilt}
+
+-- ---- what is lent to a call, and the numbers of the state
+
+pub record World : Type 0 where
+  pub sheet : List Entry
+  pub fates : List ℕ
+  pub rows : List Row
+  pub end : ℕ
+  pub floor : ℕ
+  pub undecided : ℕ
+
+abbrev pub Result : Type 0
+Result = Answer × World
+
+-- a refusal that changes nothing more
+abbrev pub refuse : ℕ → ℕ → World → Result
+refuse number place w = (Refused number place, w)
+
+-- ---- pages and fates
+
+abbrev pub entryAt : World → ℕ → Entry
+entryAt w place = nth blank (w .sheet) place
+
+-- the pages from a place downward
+unfoldable pub down : List Entry → ℕ → List Entry
+down s zero = []
+down s (suc p) = getD s p blank ∷ down s p
+
+abbrev pub logOf : World → List Entry
+logOf w = down (w .sheet) (w .end)
+
+-- a fate's number, and what a lent number counts for
+abbrev pub fateNumber : Fate → ℕ
+fateNumber unknown = 0
+fateNumber undecided = 1
+fateNumber committed = 2
+fateNumber aborted = 3
+
+abbrev pub fateFrom : ℕ → Fate
+fateFrom x = cond (eqb x 1) undecided (cond (eqb x 2) committed (cond (eqb x 3) aborted unknown))
+
+abbrev pub fateIn : List ℕ → ℕ → Fate
+fateIn fates a = fateFrom (nth 0 fates a)
+
+abbrev pub fateAt : World → ℕ → Fate
+fateAt w a = fateIn (w .fates) a
+
+-- line 1: pages, fates and files in number
+abbrev pub sizes : ℕ → ℕ → ℕ → Bool
+sizes pages fates files = leb 1 pages && leb pages mostPlaces && eqb fates pages && leb 1 files && leb files mostFiles
+
+-- ---- rows
+
+abbrev pub cold : Row
+cold = record { mark = 0; current = 0; currentend = 0; token = 0; tokenend = 0 }
+
+-- the row of a file, from a log and the fates
+abbrev pub rebuiltRow : List Entry → (ℕ → Fate) → ℕ → Row
+rebuiltRow l φ f = record {
+  mark = 1;
+  current = placeOf (currentOf φ (imagesOf l f));
+  currentend = startOf (currentOf φ (imagesOf l f));
+  token = placeOf (tokenOf φ (imagesOf l f));
+  tokenend = startOf (tokenOf φ (imagesOf l f));
+}
+
+abbrev pub rowAt : World → ℕ → Row
+rowAt w f = nth cold (w .rows) f
+
+abbrev pub withRow : World → ℕ → Row → World
+withRow w f r = record { sheet = w .sheet; fates = w .fates; rows = put (w .rows) f r; end = w .end; floor = w .floor; undecided = w .undecided }
+
+-- a file's row, rebuilt where it is cold
+unfoldable pub warmRow : World → ℕ → Row
+warmRow w f = cond (eqb (rowAt w f .mark) 0) (rebuiltRow (logOf w) (fateAt w) f) (rowAt w f)
+
+abbrev pub isImageOf : ℕ → Entry → Bool
+isImageOf f blank = false
+isImageOf f torn = false
+isImageOf f bad = false
+isImageOf f opening = false
+isImageOf f (image i) = eqb (i .file) f
+isImageOf f (outcome a c) = false
+
+-- line 7: a place of a row is 0, or a place up to the end with a sealed image of the file
+abbrev pub placeHolds : World → ℕ → ℕ → Bool
+placeHolds w f place = eqb place 0 || (leb place (w .end) && isImageOf f (entryAt w place))
+
+unfoldable pub rowHolds : World → ℕ → Row → Bool
+rowHolds w f r = leb (r .mark) 1 && placeHolds w f (r .current) && placeHolds w f (r .token)
+
+-- ---- rebuild: lines 1, 3, 7
+
+-- line 1 for a call on an open sheet
+unfoldable pub lentRight : World → Bool
+lentRight w = sizes (length (w .sheet)) (length (w .fates)) (length (w .rows)) && leb (w .end) (length (w .sheet)) && leb (w .undecided) (w .end)
+
+-- line 3
+abbrev pub isFile : ℕ → ℕ → Bool
+isFile files f = leb 1 f && leb f files
+
+-- line 7, and the last four numbers of a row
+abbrev pub answerRow : World → ℕ → Row → Result
+answerRow w f r = cond (rowHolds w f r) (Rebuilt (r .current) (r .currentend) (r .token) (r .tokenend), w) (refuse 7 0 w)
+
+unfoldable pub rebuilt : World → ℕ → Result
+rebuilt w f =
+    cond (lentRight w)
+    (cond (isFile (length (w .rows)) f) (answerRow (withRow w f (warmRow w f)) f (warmRow w f)) (refuse 3 0 w))
+    (refuse 1 0 w)
+
+-- ---- open: lines 1, 2
+
+abbrev pub isBlank : Entry → Bool
+isBlank blank = true
+isBlank torn = false
+isBlank bad = false
+isBlank opening = false
+isBlank (image i) = false
+isBlank (outcome a c) = false
+
+-- the end (the log's tail): the highest place up to n that is not blank
+unfoldable pub endOf : List Entry → ℕ → ℕ
+endOf s zero = 0
+endOf s (suc p) = cond (isBlank (getD s p blank)) (endOf s p) (suc p)
+
+-- bad, of a page up to the end: a blank one there is bad too
+abbrev pub isBad : Entry → Bool
+isBad blank = true
+isBad torn = false
+isBad bad = true
+isBad opening = false
+isBad (image i) = false
+isBad (outcome a c) = false
+
+-- the highest bad place of a log, 0 if there is none
+unfoldable pub highestBad : List Entry → ℕ
+highestBad [] = 0
+highestBad (g ∷ l) = cond (isBad g) (suc (length l)) (highestBad l)
+
+-- the fates of n places, and how many of them are undecided
+abbrev pub fatesOf : ℕ → List Entry → List ℕ
+fatesOf n l = tabulate (λ a. fateNumber (fateOf l a)) 0 n
+
+unfoldable pub undecidedOf : List ℕ → ℕ
+undecidedOf [] = 0
+undecidedOf (x ∷ xs) = cond (eqb x 1) 1 0 + undecidedOf xs
+
+unfoldable pub coldRows : ℕ → List Row
+coldRows zero = []
+coldRows (suc n) = cold ∷ coldRows n
+
+-- the world that an opening answers for a sheet with this end
+abbrev pub started : List Entry → ℕ → ℕ → ℕ → World
+started s end files floor = record {
+  sheet = s;
+  fates = fatesOf (length s) (down s end);
+  rows = coldRows files;
+  end = end;
+  floor = floor;
+  undecided = undecidedOf (fatesOf (length s) (down s end));
+}
+
+-- a refused opening answers three zeros and leaves the rest
+abbrev pub unopened : List Entry → List ℕ → List Row → World
+unopened s fates rows = record { sheet = s; fates = fates; rows = rows; end = 0; floor = 0; undecided = 0 }
+
+-- opening a sheet with this end
+abbrev pub openedAt : List Entry → ℕ → List ℕ → List Row → ℕ → Result
+openedAt s end fates rows floor =
+    cond (eqb (highestBad (down s end)) 0)
+    (Opened end (undecidedOf (fatesOf (length s) (down s end))), started s end (length rows) floor)
+    (refuse 2 (highestBad (down s end)) (unopened s fates rows))
+
+unfoldable pub opened : List Entry → List ℕ → List Row → ℕ → Result
+opened s fates rows floor =
+    cond (sizes (length s) (length fates) (length rows)) (openedAt s (endOf s (length s)) fates rows floor) (refuse 1 0 (unopened s fates rows))

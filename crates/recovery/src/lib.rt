@@ -1,0 +1,110 @@
+// Recovery: what a sheet says, read off its pages alone. Open finds the end, the bad pages and the fates; rebuild a file's
+// row; inspect the lowest page that is bad or does not fit those below it.
+mod lookup;
+mod rebuilding;
+mod rows;
+
+pub use lookup::counted_fate;
+pub use lookup::fate_at;
+pub use lookup::image_at;
+pub use lookup::is_opening_at;
+pub use lookup::page_at;
+use page::Page;
+pub use rebuilding::is_row_held;
+pub use rebuilding::rebuild;
+pub use rebuilding::rebuilt_row;
+pub use rebuilding::warm_row;
+pub use rows::is_file;
+pub use rows::row_of;
+pub use rows::set_row;
+ghost use mathlib.Core.Path.{_≡_};
+ghost use Rattle.recovery.specs.Lent.{sizesRight, inspectable};
+ghost use Rattle.recovery.specs.Steps.{lineOne, refusal};
+
+// A file's row (a cached index entry): its rebuilt mark, the place of the current version and how far it was read, the place of
+// the token and how far that was read. Place 0 is none.
+pub struct Row {
+    pub mark: u64,
+    pub current: u64,
+    pub currentend: u64,
+    pub token: u64,
+    pub tokenend: u64,
+}
+
+// The state that is kept by value: the end (the log's tail), the floor (a lower bound of starts) and the open count.
+pub struct State {
+    pub end: u64,
+    pub floor: u64,
+    pub undecided: u64,
+}
+
+// What a call answers: a refusal's number and place; open's end and open count; the last four numbers of a row; the place that
+// was stored; place, start and length of a value; none; a fate.
+pub enum Answer {
+    Refused(u64, u64),
+    Opened(u64, u64),
+    Rebuilt(u64, u64, u64, u64),
+    Stored(u64),
+    Value(u64, u64, u64),
+    Nothing,
+    Told(u64),
+}
+
+pub struct Done {
+    pub answer: Answer,
+    pub state: State,
+}
+
+// What inspect answers: refusal 1, or the lowest place that is bad or does not fit, 0 if the sheet is lawful.
+pub enum Inspected {
+    Refused,
+    Lowest(u64),
+}
+
+// How many numbers of the lent run a row has.
+pub const ROW_LENGTH: usize = 5;
+
+// Line 1, by the lengths of sheet, fates and rows.
+pub fn is_sized(size: usize, fates: usize, numbers: usize) -> bool
+    ensures { λ r. ⌜ r ≡ sizesRight size fates numbers ⌝ }
+{
+    let pages = size / Page::SIZE;
+    let files = numbers / ROW_LENGTH;
+    let whole = (size % Page::SIZE == 0) & (numbers % ROW_LENGTH == 0);
+    whole
+        & ((1 <= pages)
+            & (pages as u64 <= Page::MOST_PLACES)
+            & (fates == pages)
+            & (1 <= files)
+            & (files as u64 <= Page::MOST_FILES))
+}
+
+// Line 1 for a call on an open sheet.
+pub fn is_lent_right(size: usize, fates: usize, numbers: usize, state: State) -> bool
+    ensures { λ r. ⌜ r ≡ lineOne size fates numbers (state .end) (state .undecided) ⌝ }
+{
+    is_sized(size, fates, numbers)
+        & (state.end <= (size / Page::SIZE) as u64)
+        & (state.undecided <= state.end)
+}
+
+// A refusal that names no place.
+pub fn refuse(number: u64, state: State) -> Done
+    ensures { λ r. ⌜ r ≡ refusal number state ⌝ }
+{
+    Done {
+        answer: Answer::Refused(number, 0),
+        state,
+    }
+}
+
+// Line 1 for a sheet's bytes and a file count.
+fn is_inspectable(size: usize, files: u64) -> bool
+    ensures { λ r. ⌜ r ≡ inspectable size files ⌝ }
+{
+    (size % Page::SIZE == 0)
+        & (Page::SIZE <= size)
+        & (size <= 65536 * Page::SIZE)
+        & (1 <= files)
+        & (files <= Page::MOST_FILES)
+}

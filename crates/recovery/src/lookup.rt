@@ -1,0 +1,101 @@
+// Look-ups in what is lent: the page at a place, the fate of an action, the sealed image of a file. They take every number.
+use page::Page;
+use page::Sought;
+use page::Unpacked;
+ghost use mathlib.Core.Bool.{_||_};
+ghost use mathlib.Core.Path.{_≡_};
+ghost use lib.Dec.{eqb};
+ghost use Rattle.page.specs.Answers.{tested, imageOf};
+ghost use Rattle.recovery.specs.Places.{nth};
+ghost use Rattle.recovery.specs.Sheet.{pageBytes, isOpening, decoded};
+ghost use Rattle.recovery.specs.Steps.{countedFate, sealedImage};
+
+// The page at a place, by the page test on its part of the sheet; Refused where the sheet has no such place.
+pub fn page_at(sheet: &[u8], place: u64, files: u64) -> Unpacked
+    ensures { λ r. ⌜ r ≡ tested (pageBytes (now (sheet .entry)) place) place files ⌝ }
+{
+    if place < 1 {
+        return Unpacked::Refused;
+    }
+    let pages = sheet.len() / Page::SIZE;
+    if (pages as u64) < place {
+        return Unpacked::Refused;
+    }
+    let a = Page::SIZE * (place as usize - 1);
+    let e = a + Page::SIZE;
+    Page::test(&sheet[a..e], place, files)
+}
+
+// The quick look at a place; Other where the sheet has no such place.
+fn seek_at(sheet: &[u8], place: u64, files: u64, file: u64) -> Sought
+    ensures { λ r. ⌜ r ≡ imageOf file (tested (pageBytes (now (sheet .entry)) place) place files) ⌝ }
+{
+    if place < 1 {
+        return Sought::Other;
+    }
+    if ((sheet.len() / Page::SIZE) as u64) < place {
+        return Sought::Other;
+    }
+    let a = Page::SIZE * (place as usize - 1);
+    let e = a + Page::SIZE;
+    Page::seek(&sheet[a..e], place, files, file)
+}
+
+// Whether the page at a place is an opening.
+pub fn is_opening_at(sheet: &[u8], place: u64, files: u64) -> bool
+    ensures { λ r. ⌜ r ≡ isOpening (decoded files (now (sheet .entry)) place) ⌝ }
+{
+    let page = page_at(sheet, place, files);
+    match page {
+        Unpacked::Opening(_) => true,
+        _ => false,
+    }
+}
+
+// The fields of a sealed image of a file at a place.
+pub fn image_at(sheet: &[u8], files: u64, file: u64, place: u64) -> Sought
+    ensures { λ r. ⌜ r ≡ sealedImage files (now (sheet .entry)) file place ⌝ }
+{
+    let found = seek_at(sheet, place, files, file);
+    let Sought::Image(image) = found else {
+        return Sought::Other;
+    };
+    if !is_opening_at(sheet, image.action, files) {
+        return Sought::Other;
+    }
+    Sought::Image(image)
+}
+
+// The lent fate of an action, 0 for no place.
+pub fn fate_at(fates: &[u8], action: u64) -> u64
+    ensures { λ r. ⌜ r ≡ nth 0 (now (fates .entry)) action ⌝ }
+{
+    if action < 1 {
+        return 0;
+    }
+    if (fates.len() as u64) < action {
+        return 0;
+    }
+    encoding::byte_at(fates, action as usize - 1)
+}
+
+// Undecided or committed.
+fn is_counted(fate: u64) -> bool
+    ensures { λ r. ⌜ r ≡ (eqb fate 1 || eqb fate 2) ⌝ }
+{
+    (fate == 1) | (fate == 2)
+}
+
+// The fate under which images of an action count; the opening is looked at only where the fate could count.
+pub fn counted_fate(sheet: &[u8], fates: &[u8], files: u64, action: u64) -> u64
+    ensures { λ r. ⌜ r ≡ countedFate files (now (sheet .entry)) (now (fates .entry)) action ⌝ }
+{
+    let fate = fate_at(fates, action);
+    if !is_counted(fate) {
+        return 0;
+    }
+    if !is_opening_at(sheet, action, files) {
+        return 0;
+    }
+    fate
+}

@@ -1,0 +1,133 @@
+// Rebuild: a file's row from the pages, going down from the end.
+use crate::Answer;
+use crate::Done;
+use crate::ROW_LENGTH;
+use crate::Row;
+use crate::State;
+use crate::counted_fate;
+use crate::image_at;
+use crate::is_file;
+use crate::is_lent_right;
+use crate::refuse;
+use crate::row_of;
+use crate::set_row;
+use page::Page;
+use page::Sought;
+ghost use mathlib.Core.Path.{_≡_};
+ghost use Prim.Native.Nat.{min};
+ghost use Rattle.recovery.specs.Lent.{leftBy, rebuildLeaves};
+ghost use Rattle.recovery.specs.Steps.{rowFromPages, placeHoldsIn, rowHoldsIn, Warmed};
+
+fn lesser(a: u64, b: u64) -> u64
+    ensures { λ r. ⌜ r ≡ min a b ⌝ }
+{
+    if a < b {
+        return a;
+    }
+    b
+}
+
+// The row of a file from the pages up to the end, going down: the first committed image is the current one, and the newest
+// undecided image above it the token. A page that is not an image of the file is passed over at once.
+pub fn rebuilt_row(sheet: &[u8], fates: &[u8], files: u64, file: u64, end: u64) -> Row
+    ensures { λ r. ⌜ r ≡ rowFromPages (now (sheet .entry)) (now (fates .entry)) files file end ⌝ }
+{
+    let mut place = lesser(end, (sheet.len() / Page::SIZE) as u64) as usize;
+    let mut token: u64 = 0;
+    let mut tokenend: u64 = 0;
+    while 0 < place {
+        let at = place as u64;
+        place -= 1;
+        let a = Page::SIZE * place;
+        let e = a + Page::SIZE;
+        let found = Page::seek(&sheet[a..e], at, files, file);
+        let Sought::Image(image) = found else {
+            continue;
+        };
+        let fate = counted_fate(sheet, fates, files, image.action);
+        if fate == 2 {
+            return Row {
+                mark: 1,
+                current: at,
+                currentend: image.start,
+                token,
+                tokenend,
+            };
+        }
+        if fate == 1 {
+            if token == 0 {
+                token = at;
+                tokenend = image.start;
+            }
+        }
+    }
+    Row {
+        mark: 1,
+        current: 0,
+        currentend: 0,
+        token,
+        tokenend,
+    }
+}
+
+// A place of a row is 0, or a place up to the end with a sealed image of the file.
+fn is_place_held(sheet: &[u8], files: u64, end: u64, file: u64, place: u64) -> bool
+    ensures { λ r. ⌜ r ≡ placeHoldsIn (now (sheet .entry)) files end file place ⌝ }
+{
+    if place == 0 {
+        return true;
+    }
+    if end < place {
+        return false;
+    }
+    let found = image_at(sheet, files, file, place);
+    match found {
+        Sought::Image(_) => true,
+        Sought::Other => false,
+    }
+}
+
+// Line 7.
+pub fn is_row_held(sheet: &[u8], files: u64, end: u64, file: u64, row: Row) -> bool
+    ensures { λ r. ⌜ r ≡ rowHoldsIn (now (sheet .entry)) files end file row ⌝ }
+{
+    (row.mark <= 1)
+        & is_place_held(sheet, files, end, file, row.current)
+        & is_place_held(sheet, files, end, file, row.token)
+}
+
+// A file's row, rebuilt and put into the run where it is cold.
+pub fn warm_row(sheet: &[u8], fates: &[u8], rows: &mut [u64], file: u64, end: u64) -> Row
+    ensures { λ r. ⌜ Warmed (now (sheet .entry)) (now (fates .entry)) (now (rows .entry)) file end r (now (rows .exit)) ⌝ }
+{
+    let row = row_of(&rows[..], file);
+    if row.mark != 0 {
+        return row;
+    }
+    let files = (rows.len() / ROW_LENGTH) as u64;
+    let new = rebuilt_row(sheet, fates, files, file, end);
+    set_row(rows, file, new);
+    new
+}
+
+// The last four numbers of a file's row, which is rebuilt first where it is cold.
+pub fn rebuild(sheet: &[u8], fates: &[u8], rows: &mut [u64], state: State, file: u64) -> Done
+    ensures { λ r. ⌜ leftBy r (now (sheet .entry)) (now (fates .entry)) (now (rows .exit)) ≡ rebuildLeaves (now (sheet .entry)) (now (fates .entry)) (now (rows .entry)) state file ⌝ }
+{
+    if !is_lent_right(sheet.len(), fates.len(), rows.len(), state) {
+        return refuse(1, state);
+    }
+    let files = (rows.len() / ROW_LENGTH) as u64;
+    if !is_file(files, file) {
+        return refuse(3, state);
+    }
+    let end = state.end;
+    let row = warm_row(sheet, fates, rows, file, end);
+    if !is_row_held(sheet, files, end, file, row) {
+        return refuse(7, state);
+    }
+    Done {
+        answer: Answer::Rebuilt(row.current, row.currentend, row.token, row.tokenend),
+        state,
+    }
+}

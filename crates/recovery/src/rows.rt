@@ -1,0 +1,71 @@
+// Rows: a file's row in the lent run of numbers.
+use crate::ROW_LENGTH;
+use crate::Row;
+ghost use mathlib.Core.Path.{_≡_};
+ghost use Prim.Native.Nat.{_+_, _*_, _≤_};
+ghost use lib.ListN.{length};
+ghost use Rattle.recovery.specs.World.{isFile};
+ghost use Rattle.recovery.specs.Lent.{rowLength, rowFrom, putRow};
+ghost use Rattle.recovery.specs.Steps.{rowOf, withRowOf};
+
+// Line 3: the number of a file.
+pub fn is_file(files: u64, file: u64) -> bool
+    ensures { λ r. ⌜ r ≡ isFile files file ⌝ }
+{
+    (1 <= file) & (file <= files)
+}
+
+// The row after k others in the run.
+fn read_row(rows: &[u64], k: usize) -> Row
+    requires { ⌜ rowLength * k + rowLength ≤ length (now rows) ⌝ }
+    ensures { λ r. ⌜ r ≡ rowFrom (now (rows .entry)) k ⌝ }
+{
+    let at = ROW_LENGTH * k;
+    Row {
+        mark: rows[at],
+        current: rows[at + 1],
+        currentend: rows[at + 2],
+        token: rows[at + 3],
+        tokenend: rows[at + 4],
+    }
+}
+
+fn write_row(rows: &mut [u64], k: usize, row: Row)
+    requires { ⌜ rowLength * k + rowLength ≤ length (now rows) ⌝ }
+    ensures { λ _. ⌜ now (rows .exit) ≡ putRow (now (rows .entry)) k row ⌝ }
+{
+    let at = ROW_LENGTH * k;
+    rows[at] = row.mark;
+    rows[at + 1] = row.current;
+    rows[at + 2] = row.currentend;
+    rows[at + 3] = row.token;
+    rows[at + 4] = row.tokenend;
+}
+
+// The row of a file, cold for no file.
+pub fn row_of(rows: &[u64], file: u64) -> Row
+    ensures { λ r. ⌜ r ≡ rowOf (now (rows .entry)) file ⌝ }
+{
+    let files = (rows.len() / ROW_LENGTH) as u64;
+    if !is_file(files, file) {
+        return Row {
+            mark: 0,
+            current: 0,
+            currentend: 0,
+            token: 0,
+            tokenend: 0,
+        };
+    }
+    read_row(rows, file as usize - 1)
+}
+
+// Puts a file's row into the run; for no file nothing changes.
+pub fn set_row(rows: &mut [u64], file: u64, row: Row)
+    ensures { λ _. ⌜ now (rows .exit) ≡ withRowOf (now (rows .entry)) file row ⌝ }
+{
+    let files = (rows.len() / ROW_LENGTH) as u64;
+    if !is_file(files, file) {
+        return;
+    }
+    write_row(rows, file as usize - 1, row);
+}
