@@ -6,3 +6,9 @@ pub mod Lookups
 pub mod WalkDown
 pub mod Held
 pub mod Leaves
+pub mod OpeningRuns
+pub mod OpeningEnds
+pub mod OpeningFates
+pub mod OpeningPass
+pub mod OpeningSteps
+pub mod OpeningLaws

@@ -5,3 +5,4 @@ pub mod Sheet
 pub mod World
 pub mod Lent
 pub mod Steps
+pub mod OpenSteps

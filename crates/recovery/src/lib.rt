@@ -1,6 +1,7 @@
 // Recovery: what a sheet says, read off its pages alone. Open finds the end, the bad pages and the fates; rebuild a file's
 // row; inspect the lowest page that is bad or does not fit those below it.
 mod lookup;
+mod opening;
 mod rebuilding;
 mod rows;
 
@@ -9,6 +10,7 @@ pub use lookup::fate_at;
 pub use lookup::image_at;
 pub use lookup::is_opening_at;
 pub use lookup::page_at;
+pub use opening::open;
 use page::Page;
 pub use rebuilding::is_row_held;
 pub use rebuilding::rebuild;

@@ -1,0 +1,119 @@
+-- What `open` leaves, from what its pass found. Assumes nothing.
+use Prim.Native.Nat.{ℕ, _/_, _%_}
+use mathlib.Core.Path.{_≡_, refl, sym, ap, subst, _∙_}
+use mathlib.Core.Bool.{Bool, true, false, cond, _&&_}
+use mathlib.Core.List.{List}
+use native.Mathlib.Omega.{arith}
+use lib.Dec.{eqb}
+use lib.ListN.{length, replicate}
+use borrow.Author.Tests.{eq-eqb, ne-eqb, eqb-true}
+use Rattle.encoding.proofs.Logic.{and-true}
+use Rattle.page.specs.Layout.{pageSize}
+use Rattle.recovery.specs.Log.{Entry}
+use Rattle.recovery.specs.World.{Result, refuse, sizes, down, endOf, highestBad, fatesOf, undecidedOf, coldRows, started, unopened, openedAt, opened}
+use Rattle.recovery.specs.Lent.{rowLength, rowsOf, flat, pagesOf, whole, sizesRight, leftBy, leaves, refused, closed, openLeaves}
+use Rattle.recovery.specs.OpenSteps.{Scanned, refusal}
+use Rattle.recovery.specs.declared.Answer.the-variants.{Opened}
+use Rattle.recovery.specs.declared.Done.{Done}
+use Rattle.recovery.specs.declared.opening.Scan.{Scan}
+use Rattle.recovery.proofs.Pages.{pages-long}
+use Rattle.recovery.proofs.FlatRows.{rows-long, rows-flat}
+use Rattle.recovery.proofs.Sizes.{Sizes, sizes-right}
+use Rattle.recovery.proofs.OpeningRuns.{cold-flat}
+
+module _ (s fates rows : List ℕ) (floor : ℕ) where
+  abbrev sheet : List Entry
+  sheet = pagesOf s (length rows / rowLength)
+
+  abbrev end : ℕ
+  end = endOf sheet (length sheet)
+
+  abbrev bad : ℕ
+  bad = highestBad (down sheet end)
+
+  abbrev told : List ℕ
+  told = fatesOf (length sheet) (down sheet end)
+
+  -- the two results that passed line 1
+  abbrev yes : Result
+  yes = (Opened end (undecidedOf told), started sheet end (length (rowsOf rows)) floor)
+
+  abbrev no : Result
+  no = refuse 2 bad (unopened sheet fates (rowsOf rows))
+
+  abbrev unsized : Result
+  unsized = refuse 1 0 (unopened sheet fates (rowsOf rows))
+
+  sized-is : sizes (length sheet) (length fates) (length (rowsOf rows)) ≡ sizes (length s / pageSize) (length fates) (length rows / rowLength)
+  sized-is =
+      ap (λ (n : ℕ). sizes n (length fates) (length (rowsOf rows))) (pages-long (length rows / rowLength) (length s / pageSize) s)
+      ∙ ap (λ (n : ℕ). sizes (length s / pageSize) (length fates) n) (rows-long rows)
+
+  opened-by : (b : Bool) → sizes (length s / pageSize) (length fates) (length rows / rowLength) ≡ b
+      → leaves s (cond b (openedAt sheet end fates (rowsOf rows) floor) unsized) ≡ leaves s (opened sheet fates (rowsOf rows) floor)
+  unfolding opened
+  opened-by b e = ap (λ (c : Bool). leaves s (cond c (openedAt sheet end fates (rowsOf rows) floor) unsized)) (sym (sized-is ∙ e))
+
+  rows-back : whole (length s) (length rows) ≡ true → rows ≡ flat (rowsOf rows)
+  rows-back w =
+      let m : length rows % rowLength ≡ 0 = eqb-true (length rows % rowLength) 0 (and-true (eqb (length s % pageSize) 0) (eqb (length rows % rowLength) 0) w .1) in
+      sym (rows-flat rows (omega arith))
+
+  -- line 1
+  pub open-refused : sizesRight (length s) (length fates) (length rows) ≡ false → (r : Done) → r ≡ refusal 1 0 → leftBy r s fates rows ≡ openLeaves s fates rows floor
+  unfolding sizesRight openLeaves
+  open-refused e r d = ap (λ (x : Done). leftBy x s fates rows) d ∙ go (whole (length s) (length rows)) refl e
+    where
+      go : (w : Bool) → whole (length s) (length rows) ≡ w → (w && sizes (length s / pageSize) (length fates) (length rows / rowLength)) ≡ false
+          → leftBy (refusal 1 0) s fates rows ≡ cond w (leaves s (opened sheet fates (rowsOf rows) floor)) (refused 1 0 s fates rows closed)
+      go false x y = refl
+      go true x y = ap (λ (l : List ℕ). leftBy (refusal 1 0) s fates l) (rows-back x) ∙ opened-by false y
+
+  module _ (ok : sizesRight (length s) (length fates) (length rows) ≡ true) where
+    k : Sizes (length s) (length fates) (length rows)
+    k = sizes-right (length s) (length fates) (length rows) ok
+
+    opened-is : leaves s (openedAt sheet end fates (rowsOf rows) floor) ≡ openLeaves s fates rows floor
+    unfolding openLeaves
+    opened-is =
+        opened-by true (k .sizes-are)
+        ∙ ap (λ (b : Bool). cond b (leaves s (opened sheet fates (rowsOf rows) floor)) (refused 1 0 s fates rows closed)) (sym (k .whole-is))
+
+    module _ (n : ℕ) (m : n ≡ length fates) (sc : Scan) (kept : List ℕ) (h : Scanned (length rows / rowLength) n s sc kept) where
+      here : Scanned (length rows / rowLength) (length s / pageSize) s sc kept
+      here = subst (λ (x : ℕ). Scanned (length rows / rowLength) x s sc kept) (m ∙ k .fates-are) h
+
+      long : length s / pageSize ≡ length sheet
+      long = sym (pages-long (length rows / rowLength) (length s / pageSize) s)
+
+      end-is : sc .end ≡ end
+      end-is = here .end-is ∙ ap (λ (x : ℕ). endOf sheet x) long
+
+      bad-is : sc .bad ≡ bad
+      bad-is = here .bad-is ∙ ap (λ (x : ℕ). highestBad (down sheet (endOf sheet x))) long
+
+      kept-is : kept ≡ told
+      kept-is = here .kept-is ∙ ap (λ (x : ℕ). fatesOf x (down sheet (endOf sheet x))) long
+
+      -- line 2
+      pub open-bad : (sc .bad ≡ 0 → ⊥) → (r : Done) → r ≡ refusal 2 (sc .bad) → leftBy r s fates rows ≡ openLeaves s fates rows floor
+      open-bad z r d =
+          ap (λ (x : Done). leftBy x s fates rows) d
+          ∙ ap (λ (x : ℕ). leftBy (refusal 2 x) s fates rows) bad-is
+          ∙ ap (λ (x : List ℕ). leftBy (refusal 2 bad) s fates x) (rows-back (k .whole-is))
+          ∙ ap (λ (b : Bool). leaves s (cond b yes no)) (sym (ne-eqb bad 0 (λ e. z (bad-is ∙ e))))
+          ∙ opened-is
+
+      pub open-good : (u : ℕ) (fates′ rows′ : List ℕ) → sc .bad ≡ 0 → u ≡ undecidedOf kept → length kept ≡ length fates
+          → fates′ ≡ cond (eqb (length fates) (length kept)) kept fates → rows′ ≡ replicate (length rows) 0
+          → leftBy (record { answer = Opened (sc .end) u; state = record { end = sc .end; floor = floor; undecided = u } }) s fates′ rows′ ≡ openLeaves s fates rows floor
+      open-good u fates′ rows′ z hu hl hf hr =
+          let U : u ≡ undecidedOf told = hu ∙ ap undecidedOf kept-is in
+          let F : fates′ ≡ told = hf ∙ ap (λ (b : Bool). cond b kept fates) (eq-eqb (length fates) (length kept) (sym hl)) ∙ kept-is in
+          let W : rows′ ≡ flat (coldRows (length (rowsOf rows))) =
+          hr ∙ ap (λ (n : ℕ). replicate n 0) (sym (k .numbers-are)) ∙ cold-flat (length rows / rowLength) ∙ ap (λ (n : ℕ). flat (coldRows n)) (sym (rows-long rows)) in
+          let R : leftBy (record { answer = Opened (sc .end) u; state = record { end = sc .end; floor = floor; undecided = u } }) s fates′ rows′ ≡ leaves s yes =
+          λ i. record { answer = Opened (end-is i) (U i); state = record { end = end-is i; floor = floor; undecided = U i }; sheet = s; fates = F i; rows = W i } in
+          R
+          ∙ ap (λ (b : Bool). leaves s (cond b yes no)) (sym (eq-eqb bad 0 (sym bad-is ∙ z)))
+          ∙ opened-is

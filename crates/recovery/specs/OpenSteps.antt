@@ -1,0 +1,52 @@
+-- What the steps of `open` leave. A reader of document 01 can pass this file over: the laws join it to `openLeaves`.
+use mathlib.Core.Path.{_≡_}
+use mathlib.Core.List.{List}
+use mathlib.Core.Bool.{cond}
+use Prim.Native.Nat.{ℕ, _+_, _-_, _≤_, _<_}
+use lib.ListN.{getD, set}
+use lib.Dec.{eqb, ltb}
+use Rattle.page.specs.declared.Unpacked.{Unpacked}
+use Rattle.page.specs.declared.Unpacked.the-variants.{Refused, Blank, Torn, Opening, Image, Outcome, Unfit}
+use Rattle.recovery.specs.Sheet.{pages}
+use Rattle.recovery.specs.World.{down, endOf, highestBad, fatesOf}
+use Rattle.recovery.specs.Lent.{closed}
+use Rattle.recovery.specs.declared.Answer as answers
+use Rattle.recovery.specs.declared.Done.{Done}
+use Rattle.recovery.specs.declared.opening.Scan.{Scan}
+
+-- what the page test tells of the action and the verdict of a page at a place
+abbrev pub Told : ℕ → Unpacked → Type 0
+Told place Refused = Unit
+Told place Blank = Unit
+Told place Torn = Unit
+Told place (Opening p) = Unit
+Told place (Image p) = (1 ≤ p .action) × (p .action < place)
+Told place (Outcome p) = (1 ≤ p .action) × (p .action < place) × (1 ≤ p .small) × (p .small ≤ 2)
+Told place Unfit = Unit
+
+-- a page that is not blank is the end; a blank one just below it is bad
+unfoldable pub good : ℕ → Scan → Scan
+good place s = record { end = place; bad = cond (ltb (s .end) (place - 1)) (place - 1) (s .bad) }
+
+abbrev pub worse : ℕ → Scan
+worse place = record { end = place; bad = place }
+
+-- what the page at a place makes of the scan and of the kept fates
+abbrev pub stepped : Unpacked → ℕ → Scan → List ℕ → Scan × List ℕ
+stepped Refused place s k = (worse place, k)
+stepped Blank place s k = (s, k)
+stepped Torn place s k = (good place s, k)
+stepped (Opening p) place s k = (good place s, set k (place - 1) 1)
+stepped (Image p) place s k = cond (eqb (getD k (p .action - 1) 0) 0) (worse place, k) (good place s, k)
+stepped (Outcome p) place s k = cond (eqb (getD k (p .action - 1) 0) 0) (worse place, k) (good place s, set k (p .action - 1) (p .small + 1))
+stepped Unfit place s k = (worse place, k)
+
+-- what the pass over n pages leaves
+pub record Scanned (files n : ℕ) (sheet : List ℕ) (s : Scan) (kept : List ℕ) : Type 0 where
+  pub end-is : s .end ≡ endOf (pages files n sheet) n
+  pub bad-is : s .bad ≡ highestBad (down (pages files n sheet) (endOf (pages files n sheet) n))
+  pub kept-is : kept ≡ fatesOf n (down (pages files n sheet) (endOf (pages files n sheet) n))
+
+-- a refusal's number and place, and three zeros
+abbrev pub refusal : ℕ → ℕ → Done
+refusal number place = record { answer = answers.Answer.Refused number place; state = closed }

@@ -1,0 +1,197 @@
+// Open: one pass upward over the pages finds the end, the highest bad page and the fates. The fates are kept aside, since a
+// refused opening leaves those that are lent.
+use crate::Answer;
+use crate::Done;
+use crate::ROW_LENGTH;
+use crate::State;
+use crate::is_sized;
+use encoding::copy;
+use page::Page;
+use page::Unpacked;
+ghost use mathlib.Core.Bool.{true};
+ghost use mathlib.Core.Path.{_≡_};
+ghost use Prim.Native.Nat.{_*_, _≤_};
+ghost use lib.ListN.{length, replicate};
+ghost use Rattle.page.specs.Layout.{pageSize, mostPlaces};
+ghost use Rattle.recovery.specs.World.{undecidedOf};
+ghost use Rattle.recovery.specs.Lent.{sizesRight, leftBy, openLeaves};
+ghost use Rattle.recovery.specs.OpenSteps.{Told, good, stepped, Scanned, refusal};
+
+// What the pass has found so far: the end, and the highest bad place up to it, 0 if there is none.
+struct Scan {
+    end: u64,
+    bad: u64,
+}
+
+// How many fates are undecided.
+fn count_undecided(fates: &[u8]) -> u64
+    ensures { λ r. ⌜ r ≡ undecidedOf (now (fates .entry)) ⌝ }
+{
+    let mut n: u64 = 0;
+    let mut i: usize = 0;
+    while i < fates.len() {
+        let x = fates[i];
+        i += 1;
+        if x == 1 {
+            n += 1;
+        }
+    }
+    n
+}
+
+// Every row becomes cold.
+fn clear_rows(rows: &mut [u64])
+    ensures { λ _. ⌜ now (rows .exit) ≡ replicate (length (now (rows .entry))) 0 ⌝ }
+{
+    let mut i: usize = 0;
+    while i < rows.len() {
+        rows[i] = 0;
+        i += 1;
+    }
+}
+
+// A page that is not bad becomes the end. Blank pages between the old end and this one are bad: the highest is just below.
+fn extend(scan: Scan, place: u64) -> Scan
+    requires { ⌜ 1 ≤ place ⌝ }
+    ensures { λ r. ⌜ r ≡ good place scan ⌝ }
+{
+    if scan.end < place - 1 {
+        return Scan {
+            end: place,
+            bad: place - 1,
+        };
+    }
+    Scan {
+        end: place,
+        bad: scan.bad,
+    }
+}
+
+// What the page at a place adds. An image or outcome is sealed exactly if a fate of its action is kept by now.
+fn step(found: Unpacked, place: u64, scan: Scan, kept: &mut [u8]) -> Scan
+    requires { ⌜ (1 ≤ place) × (place ≤ length (now kept)) × Told place found ⌝ }
+    ensures { λ r. ⌜ (r, now (kept .exit)) ≡ stepped found place scan (now (kept .entry)) ⌝ }
+{
+    match found {
+        Unpacked::Blank => scan,
+        Unpacked::Torn => extend(scan, place),
+        Unpacked::Opening(p) => {
+            kept[(place - 1) as usize] = 1;
+            extend(scan, place)
+        }
+        Unpacked::Image(p) => {
+            let at = (p.action - 1) as usize;
+            if kept[at] == 0 {
+                return Scan {
+                    end: place,
+                    bad: place,
+                };
+            }
+            extend(scan, place)
+        }
+        Unpacked::Outcome(p) => {
+            let at = (p.action - 1) as usize;
+            let fate = (p.small + 1) as u8;
+            if kept[at] == 0 {
+                return Scan {
+                    end: place,
+                    bad: place,
+                };
+            }
+            kept[at] = fate;
+            extend(scan, place)
+        }
+        _ => Scan {
+            end: place,
+            bad: place,
+        },
+    }
+}
+
+// The pass: tests each page once. The kept fates, a byte a page, come in as zeros.
+fn scan_pages(sheet: &[u8], kept: &mut [u8], files: u64) -> Scan
+    requires { ⌜ (length (now sheet) ≡ pageSize * length (now kept)) × (length (now kept) ≤ mostPlaces) × (now kept ≡ replicate (length (now kept)) 0) ⌝ }
+    ensures { λ r. ⌜ Scanned files (length (now (kept .entry))) (now (sheet .entry)) r (now (kept .exit)) ⌝ }
+{
+    let mut scan = Scan { end: 0, bad: 0 };
+    let mut n: usize = 0;
+    while n < kept.len() {
+        let a = Page::SIZE * n;
+        let e = a + Page::SIZE;
+        n += 1;
+        let found = Page::test(&sheet[a..e], n as u64, files);
+        scan = step(found, n as u64, scan, kept);
+    }
+    scan
+}
+
+// A refusal answers three zeros for the state.
+fn refuse(number: u64, place: u64) -> Done
+    ensures { λ r. ⌜ r ≡ refusal number place ⌝ }
+{
+    Done {
+        answer: Answer::Refused(number, place),
+        state: State {
+            end: 0,
+            floor: 0,
+            undecided: 0,
+        },
+    }
+}
+
+// The pass, and what follows from it. The kept fates come in as zeros.
+fn open_with(sheet: &[u8], fates: &mut [u8], rows: &mut [u64], floor: u64, kept: &mut [u8]) -> Done
+    requires { ⌜ (sizesRight (length (now sheet)) (length (now fates)) (length (now rows)) ≡ true) × (length (now kept) ≡ length (now fates)) × (now kept ≡ replicate (length (now kept)) 0) ⌝ }
+    ensures { λ r. ⌜ leftBy r (now (sheet .entry)) (now (fates .exit)) (now (rows .exit)) ≡ openLeaves (now (sheet .entry)) (now (fates .entry)) (now (rows .entry)) floor ⌝ }
+{
+    let files = (rows.len() / ROW_LENGTH) as u64;
+    let scan = scan_pages(sheet, kept, files);
+    if scan.bad != 0 {
+        return refuse(2, scan.bad);
+    }
+    let end = scan.end;
+    let undecided = count_undecided(kept);
+    copy(fates, kept);
+    clear_rows(rows);
+    Done {
+        answer: Answer::Opened(end, undecided),
+        state: State {
+            end,
+            floor,
+            undecided,
+        },
+    }
+}
+
+// With room for up to 1,024 pages: a small array is sooner cleared.
+fn open_few(sheet: &[u8], fates: &mut [u8], rows: &mut [u64], floor: u64) -> Done
+    requires { ⌜ (sizesRight (length (now sheet)) (length (now fates)) (length (now rows)) ≡ true) × (length (now fates) ≤ 1024) ⌝ }
+    ensures { λ r. ⌜ leftBy r (now (sheet .entry)) (now (fates .exit)) (now (rows .exit)) ≡ openLeaves (now (sheet .entry)) (now (fates .entry)) (now (rows .entry)) floor ⌝ }
+{
+    let mut kept = [0u8; 1024];
+    let pages = fates.len();
+    open_with(sheet, fates, rows, floor, &mut kept[0..pages])
+}
+
+// With room for the most pages.
+fn open_many(sheet: &[u8], fates: &mut [u8], rows: &mut [u64], floor: u64) -> Done
+    requires { ⌜ sizesRight (length (now sheet)) (length (now fates)) (length (now rows)) ≡ true ⌝ }
+    ensures { λ r. ⌜ leftBy r (now (sheet .entry)) (now (fates .exit)) (now (rows .exit)) ≡ openLeaves (now (sheet .entry)) (now (fates .entry)) (now (rows .entry)) floor ⌝ }
+{
+    let mut kept = [0u8; 65536];
+    let pages = fates.len();
+    open_with(sheet, fates, rows, floor, &mut kept[0..pages])
+}
+
+// Opens a sheet: tests every page once, sets each fate, clears the rows and answers the state. A refusal leaves everything.
+pub fn open(sheet: &[u8], fates: &mut [u8], rows: &mut [u64], floor: u64) -> Done
+    ensures { λ r. ⌜ leftBy r (now (sheet .entry)) (now (fates .exit)) (now (rows .exit)) ≡ openLeaves (now (sheet .entry)) (now (fates .entry)) (now (rows .entry)) floor ⌝ }
+{
+    if !is_sized(sheet.len(), fates.len(), rows.len()) {
+        return refuse(1, 0);
+    }
+    if fates.len() <= 1024 {
+        return open_few(sheet, fates, rows, floor);
+    }
+    open_many(sheet, fates, rows, floor)
+}
