@@ -4,10 +4,18 @@ use page::Packing;
 use page::Page;
 use page::Sought;
 use page::Unpacked;
+use recovery::Answer;
+use recovery::Done;
+use recovery::Inspected;
+use recovery::State;
 ghost use mathlib.Core.Path.{_≡_};
 ghost use Prim.Native.Nat.{_/_};
 ghost use lib.ListN.{length};
 ghost use Rattle.page.specs.Layout.{pageSize};
+ghost use Rattle.recovery.specs.Lent.{openLeaves, rebuildLeaves, inspected};
+ghost use Rattle.recovery.specs.Numbers.{refusalNumber, refusalPlace, inspectPlace};
+ghost use Rattle.recovery.specs.Steps.{rowFromPages};
+ghost use Rattle.bench.specs.Picks.{picked, pickedOf, stateWith};
 ghost use Rattle.bench.specs.Counts.{fields, found, written, counted, fitsAt, seenAt, writesAt};
 
 fn one_if_fields(u: Unpacked) -> u64
@@ -94,4 +102,114 @@ pub extern "C" fn bench_pack(sheet: &mut [u8], files: u64, size: u64, value: &[u
         i += 1;
     }
     count
+}
+
+fn refusal_number(a: Answer) -> u64
+    ensures { λ r. ⌜ r ≡ refusalNumber a ⌝ }
+{
+    match a {
+        Answer::Refused(number, _) => number,
+        Answer::Opened(_, _) => 0,
+        Answer::Rebuilt(_, _, _, _) => 0,
+        Answer::Stored(_) => 0,
+        Answer::Value(_, _, _) => 0,
+        Answer::Nothing => 0,
+        Answer::Told(_) => 0,
+    }
+}
+
+fn refusal_place(a: Answer) -> u64
+    ensures { λ r. ⌜ r ≡ refusalPlace a ⌝ }
+{
+    match a {
+        Answer::Refused(_, place) => place,
+        Answer::Opened(_, _) => 0,
+        Answer::Rebuilt(_, _, _, _) => 0,
+        Answer::Stored(_) => 0,
+        Answer::Value(_, _, _) => 0,
+        Answer::Nothing => 0,
+        Answer::Told(_) => 0,
+    }
+}
+
+// One number of what a call answers, by its index: the refusal's number and place, then the state's three.
+fn pick(done: Done, which: u64) -> u64
+    ensures { λ r. ⌜ r ≡ picked (done .answer) (done .state) which ⌝ }
+{
+    let answer = done.answer;
+    let state = done.state;
+    if which == 0 {
+        return refusal_number(answer);
+    }
+    if which == 1 {
+        return refusal_place(answer);
+    }
+    if which == 2 {
+        return state.end;
+    }
+    if which == 3 {
+        return state.floor;
+    }
+    state.undecided
+}
+
+// An opening.
+#[no_mangle]
+pub extern "C" fn bench_open(
+    sheet: &[u8],
+    fates: &mut [u8],
+    rows: &mut [u64],
+    floor: u64,
+    which: u64,
+) -> u64
+    ensures { λ r. ⌜ r ≡ pickedOf (openLeaves (now (sheet .entry)) (now (fates .entry)) (now (rows .entry)) floor) which ⌝ }
+{
+    pick(recovery::open(sheet, fates, rows, floor), which)
+}
+
+// A rebuild.
+#[no_mangle]
+pub extern "C" fn bench_rebuild(
+    sheet: &[u8],
+    fates: &[u8],
+    rows: &mut [u64],
+    end: u64,
+    undecided: u64,
+    file: u64,
+    which: u64,
+) -> u64
+    ensures { λ r. ⌜ r ≡ pickedOf (rebuildLeaves (now (sheet .entry)) (now (fates .entry)) (now (rows .entry)) (stateWith end undecided) file) which ⌝ }
+{
+    let state = State {
+        end,
+        floor: 0,
+        undecided,
+    };
+    pick(recovery::rebuild(sheet, fates, rows, state, file), which)
+}
+
+// The walk of a rebuild alone: the place of the file's current version.
+#[no_mangle]
+pub extern "C" fn bench_walk(sheet: &[u8], fates: &[u8], files: u64, file: u64, end: u64) -> u64
+    ensures { λ r. ⌜ r ≡ rowFromPages (now (sheet .entry)) (now (fates .entry)) files file end .current ⌝ }
+{
+    let row = recovery::rebuilt_row(sheet, fates, files, file, end);
+    row.current
+}
+
+fn inspected_place(found: Inspected) -> u64
+    ensures { λ r. ⌜ r ≡ inspectPlace found ⌝ }
+{
+    match found {
+        Inspected::Refused => 0,
+        Inspected::Lowest(place) => place,
+    }
+}
+
+// An inspection: the place.
+#[no_mangle]
+pub extern "C" fn bench_inspect(sheet: &[u8], files: u64) -> u64
+    ensures { λ r. ⌜ r ≡ inspectPlace (inspected (now (sheet .entry)) files) ⌝ }
+{
+    inspected_place(recovery::inspect(sheet, files))
 }

@@ -12,3 +12,10 @@ pub mod OpeningFates
 pub mod OpeningPass
 pub mod OpeningSteps
 pub mod OpeningLaws
+pub mod Once
+pub mod InspectLaw
+pub mod InspectFates
+pub mod InspectSlots
+pub mod InspectKept
+pub mod InspectSteps
+pub mod InspectPass

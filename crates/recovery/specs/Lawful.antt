@@ -5,7 +5,7 @@ use mathlib.Core.Option.{Option, some, none}
 use Prim.Native.Nat.{ℕ, suc}
 use lib.ListN.{length}
 use lib.Dec.{eqb, ltb}
-use Rattle.recovery.specs.Log.{Image, Entry, blank, torn, bad, opening, image, outcome, Fate, unknown, undecided, committed, aborted, Placed, fateOf, imagesOf, currentOf, tokenOf, placeOf, startOf}
+use Rattle.recovery.specs.Log.{Image, Entry, blank, torn, bad, opening, image, outcome, Placed, isUndecided, fateOf, imagesOf, currentOf, tokenOf, placeOf, startOf}
 
 -- a file's newest version and its token, by the log's own outcomes
 abbrev pub current : List Entry → ℕ → Option Placed
@@ -13,12 +13,6 @@ current l f = currentOf (fateOf l) (imagesOf l f)
 
 abbrev pub token : List Entry → ℕ → Option Placed
 token l f = tokenOf (fateOf l) (imagesOf l f)
-
-abbrev pub isUndecided : Fate → Bool
-isUndecided unknown = false
-isUndecided undecided = true
-isUndecided committed = false
-isUndecided aborted = false
 
 abbrev pub isNone : Option Placed → Bool
 isNone none = true

@@ -4,5 +4,7 @@ pub mod Lawful
 pub mod Sheet
 pub mod World
 pub mod Lent
+pub mod Numbers
 pub mod Steps
 pub mod OpenSteps
+pub mod Kept

@@ -25,6 +25,12 @@ pub data Entry : Type 0 where
 pub data Fate : Type 0 where
   unknown undecided committed aborted : Fate
 
+abbrev pub isUndecided : Fate → Bool
+isUndecided unknown = false
+isUndecided undecided = true
+isUndecided committed = false
+isUndecided aborted = false
+
 -- an image and the place of its page
 pub record Placed : Type 0 where
   pub place : ℕ

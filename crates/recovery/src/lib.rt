@@ -1,10 +1,12 @@
 // Recovery: what a sheet says, read off its pages alone. Open finds the end, the bad pages and the fates; rebuild a file's
 // row; inspect the lowest page that is bad or does not fit those below it.
+mod inspection;
 mod lookup;
 mod opening;
 mod rebuilding;
 mod rows;
 
+pub use inspection::inspect;
 pub use lookup::counted_fate;
 pub use lookup::fate_at;
 pub use lookup::image_at;

@@ -1,3 +1,4 @@
+-- `recovery::is_inspectable`, by its definition. Assumes nothing.
 use Rattle.recovery.specs.Lent.{inspectable}
 use mathlib.Core.Path.{refl}
 use borrow.Author.Needs.{needs}

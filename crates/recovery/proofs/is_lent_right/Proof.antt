@@ -1,3 +1,4 @@
+-- `recovery::is_lent_right`: each test by its definition. Assumes nothing.
 use Rattle.recovery.specs.Steps.{lineOne}
 use Prim.Native.Nat.{_/_}
 use lib.Dec.{leb}

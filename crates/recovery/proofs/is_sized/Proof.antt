@@ -1,3 +1,4 @@
+-- `recovery::is_sized`, by its definition. Assumes nothing.
 use Rattle.recovery.specs.Lent.{sizesRight}
 use mathlib.Core.Path.{refl}
 use Rattle.recovery.proofs.is_sized.Statement.{statement}

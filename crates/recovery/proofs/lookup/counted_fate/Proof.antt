@@ -1,3 +1,4 @@
+-- `recovery::lookup::counted_fate`, by its three ways out. Assumes nothing.
 use Rattle.recovery.specs.Steps.{countedFate}
 use Rattle.encoding.proofs.Logic.{refused, passed}
 use lib.Dec.{eqb}

@@ -1,3 +1,4 @@
+-- `recovery::lookup::fate_at`, by its three ways out. Assumes nothing.
 use Rattle.recovery.proofs.Lookups.{nth-none, nth-past, nth-in}
 use denote.Ref.{now}
 use mathlib.Core.Path.{_∙_}

@@ -1,3 +1,4 @@
+-- `recovery::lookup::image_at`: an image of the file, and its opening. Assumes nothing.
 use Rattle.recovery.proofs.Held.{image-none, image-unsealed, image-sealed}
 use Rattle.encoding.proofs.Logic.{refused, passed}
 use denote.Ref.{now}

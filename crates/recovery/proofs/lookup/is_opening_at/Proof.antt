@@ -1,3 +1,4 @@
+-- `recovery::lookup::is_opening_at`: what the page test says, as an entry. Assumes nothing.
 use Rattle.recovery.proofs.Lookups.{opening-yes, opening-no}
 use denote.Ref.{now}
 use borrow.Author.Needs.{needs}

@@ -1,3 +1,4 @@
+-- `recovery::lookup::page_at`: the part at the place, or none. Assumes nothing.
 use Rattle.recovery.proofs.Pages.{test-is, test-out}
 use denote.Ref.{now}
 use native.Mathlib.Omega.{arith}

@@ -1,3 +1,4 @@
+-- `recovery::lookup::seek_at`: the part at the place, or none. Assumes nothing.
 use Rattle.recovery.proofs.Held.{seek-out}
 use Rattle.recovery.proofs.Pages.{test-is}
 use Rattle.page.specs.Answers.{imageOf}

@@ -1,3 +1,4 @@
+-- `recovery::rebuilding::is_place_held`, by its four ways out. Assumes nothing.
 use Rattle.recovery.proofs.Held.{held-none, held-above, held-by}
 use denote.Ref.{now}
 use mathlib.Core.Path.{sym, _∙_}

@@ -1,3 +1,4 @@
+-- `recovery::rebuilding::is_row_held`: each test by its definition. Assumes nothing.
 use Rattle.recovery.specs.Steps.{placeHoldsIn, rowHoldsIn}
 use Rattle.recovery.specs.World.{rowHolds}
 use lib.Dec.{leb}

@@ -1,3 +1,4 @@
+-- `recovery::rebuilding::rebuild`: lines 1, 3 and 7, and the row. Assumes nothing.
 use Rattle.recovery.proofs.Leaves.{rebuild-line-1, rebuild-line-3, rebuild-line-7, rebuild-done}
 use Rattle.recovery.specs.declared.Done.{Done}
 use Rattle.recovery.specs.Lent.{leftBy}

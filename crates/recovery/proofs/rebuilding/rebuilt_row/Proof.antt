@@ -1,3 +1,4 @@
+-- `recovery::rebuilding::rebuilt_row`. The invariant: what is known from above, laid over the row of the pages below, is the row. Assumes nothing.
 use Rattle.recovery.proofs.WalkDown.{overlay, rowTo, row-from, pass, turn, stop, over-none, over-committed, over-token, over-kept, over-passed, over-end}
 use Rattle.recovery.proofs.Pages.{test-is}
 use Rattle.recovery.specs.Sheet.{pageBytes}

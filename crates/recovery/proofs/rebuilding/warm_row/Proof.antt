@@ -1,3 +1,4 @@
+-- `recovery::rebuilding::warm_row`: a row that is not cold stays as it is. Assumes nothing.
 use Rattle.recovery.proofs.Leaves.{warm-same, warm-new}
 use denote.Ref.{now}
 use borrow.Author.Needs.{needs}

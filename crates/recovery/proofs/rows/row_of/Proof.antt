@@ -1,3 +1,4 @@
+-- `recovery::rows::row_of`: a file's row, or a cold one. Assumes nothing.
 use Rattle.recovery.proofs.Lookups.{is-file, row-none, row-some, row-room}
 use Rattle.encoding.proofs.Logic.{refused, passed}
 use denote.Ref.{now}

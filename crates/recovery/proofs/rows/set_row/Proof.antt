@@ -1,3 +1,4 @@
+-- `recovery::rows::set_row`: a file's row, or nothing. Assumes nothing.
 use Rattle.recovery.proofs.Lookups.{is-file, set-none, set-some, row-room}
 use Rattle.encoding.proofs.Logic.{refused, passed}
 use denote.Ref.{now}

@@ -1,3 +1,4 @@
+-- `recovery::rows::write_row`: five stores. Assumes nothing.
 use Rattle.recovery.proofs.FlatRows.{put-stores}
 use lib.ListN.{length-set}
 use native.Mathlib.Omega.{arith}

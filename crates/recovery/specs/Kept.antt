@@ -1,0 +1,113 @@
+-- What inspection keeps while it climbs: a fate for each place, and for each file its newest image and the newest version below that.
+-- A reader of document 01 can pass this file over: the laws join it to the log.
+use Prim.Native.Nat.{ℕ, suc, _*_, _+_, _≤_, _<_}
+use mathlib.Core.Path.{_≡_}
+use mathlib.Core.List.{List}
+use mathlib.Core.Bool.{Bool, true, false, cond, not, _&&_}
+use lib.ListN.{length, getD, set}
+use lib.Dec.{eqb, ltb}
+use Rattle.page.specs.declared.Page.{Page}
+use Rattle.page.specs.declared.Unpacked.{Unpacked}
+use Rattle.page.specs.declared.Unpacked.the-variants.{Refused, Blank, Torn, Opening, Image, Outcome, Unfit}
+use Rattle.page.specs.Layout.{mostFiles}
+use Rattle.recovery.specs.declared.inspection.Slot.{Slot}
+
+pub record Kept : Type 0 where
+  pub fates : List ℕ
+  pub newest : List ℕ
+  pub below : List ℕ
+
+abbrev pub keeps : List ℕ → List ℕ → List ℕ → Kept
+keeps fates newest below = record { fates = fates; newest = newest; below = below }
+
+-- three numbers a file, from file 0 on
+abbrev pub slotNumbers : ℕ
+slotNumbers = 771
+
+unfoldable pub slotAt : List ℕ → ℕ → Slot
+slotAt l f = record { place = getD l (3 * f) 0; action = getD l (3 * f + 1) 0; start = getD l (3 * f + 2) 0 }
+
+unfoldable pub putSlot : List ℕ → ℕ → Slot → List ℕ
+putSlot l f s = set (set (set l (3 * f) (s .place)) (3 * f + 1) (s .action)) (3 * f + 2) (s .start)
+
+-- long enough for a number of places and for every file
+pub record Long (k : Kept) (places : ℕ) : Type 0 where
+  pub fates-long : places < length (k .fates)
+  pub newest-long : length (k .newest) ≡ slotNumbers
+  pub below-long : length (k .below) ≡ slotNumbers
+
+-- and all zeros, as the climb begins
+pub record Fresh (k : Kept) (places : ℕ) : Type 0 where
+  pub long : Long k places
+  pub fates-zero : (i : ℕ) → getD (k .fates) i 0 ≡ 0
+  pub newest-zero : (i : ℕ) → getD (k .newest) i 0 ≡ 0
+  pub below-zero : (i : ℕ) → getD (k .below) i 0 ≡ 0
+
+-- the fate now of a file's newest image
+abbrev pub newestFate : Kept → ℕ → ℕ
+newestFate k f = getD (k .fates) (slotAt (k .newest) f .action) 0
+
+-- a file's newest version: its newest image if that is committed now
+unfoldable pub keptVersion : Kept → ℕ → Slot
+keptVersion k f = cond (eqb (newestFate k f) 2) (slotAt (k .newest) f) (slotAt (k .below) f)
+
+unfoldable pub keptImageFits : Kept → Page → Bool
+keptImageFits k p =
+    eqb (getD (k .fates) (p .action) 0) 1
+    && not (eqb (newestFate k (p .file)) 1)
+    && eqb (p .link) (keptVersion k (p .file) .place)
+    && ltb (keptVersion k (p .file) .start) (p .start)
+
+abbrev pub keptFits : Kept → Unpacked → Bool
+keptFits k Refused = false
+keptFits k Blank = false
+keptFits k Torn = true
+keptFits k (Opening p) = true
+keptFits k (Image p) = keptImageFits k p
+keptFits k (Outcome p) = eqb (getD (k .fates) (p .action) 0) 1
+keptFits k Unfit = false
+
+unfoldable pub keepImage : Kept → Page → ℕ → Kept
+keepImage k p place = record {
+  fates = k .fates;
+  newest = putSlot (k .newest) (p .file) (record { place = place; action = p .action; start = p .start });
+  below = putSlot (k .below) (p .file) (keptVersion k (p .file));
+}
+
+abbrev pub keepPage : Kept → Unpacked → ℕ → Kept
+keepPage k Refused place = k
+keepPage k Blank place = k
+keepPage k Torn place = k
+keepPage k (Opening p) place = record { fates = set (k .fates) place 1; newest = k .newest; below = k .below }
+keepPage k (Image p) place = keepImage k p place
+keepPage k (Outcome p) place = record { fates = set (k .fates) (p .action) (suc (p .small)); newest = k .newest; below = k .below }
+keepPage k Unfit place = k
+
+-- what is known of a page that was tested: an image's file is one that is kept
+abbrev pub Filed : Unpacked → Type 0
+Filed Refused = Unit {0}
+Filed Blank = Unit {0}
+Filed Torn = Unit {0}
+Filed (Opening p) = Unit {0}
+Filed (Image p) = p .file ≤ mostFiles
+Filed (Outcome p) = Unit {0}
+Filed Unfit = Unit {0}
+
+-- and an outcome's action lies below its place
+abbrev pub Told : ℕ → Unpacked → Type 0
+Told place Refused = Unit {0}
+Told place Blank = Unit {0}
+Told place Torn = Unit {0}
+Told place (Opening p) = Unit {0}
+Told place (Image p) = p .file ≤ mostFiles
+Told place (Outcome p) = (p .action < place) × (1 ≤ p .small) × (p .small ≤ 2)
+Told place Unfit = Unit {0}
+
+abbrev pub isBlankPage : Unpacked → Bool
+isBlankPage Refused = false
+isBlankPage Blank = true
+isBlankPage Torn = false
+isBlankPage (Opening p) = false
+isBlankPage (Image p) = false
+isBlankPage (Outcome p) = false
+isBlankPage Unfit = false
