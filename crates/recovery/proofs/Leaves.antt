@@ -55,19 +55,27 @@ module _ (s fates rows : List ℕ) (file end : ℕ) (r : Row) (e : r ≡ rowOf r
 -- ---- the ends of rebuild
 
 module _ (s fs rs : List ℕ) (st : State) where
-  rows-back : whole (length s) (length rs) ≡ true → flat (rowsOf rs) ≡ rs
+  pub rows-back : whole (length s) (length rs) ≡ true → flat (rowsOf rs) ≡ rs
   rows-back w =
       let z : length rs % rowLength ≡ 0 = eqb-true _ 0 (and-true (eqb (length s % pageSize) 0) (eqb (length rs % rowLength) 0) w .1) in
       rows-flat rs (omega arith)
 
+  -- a row put into the run is the row put into the list
+  pub put-row : (g : ℕ) (r : Row) → whole (length s) (length rs) ≡ true → isFile (length rs / rowLength) g ≡ true → withRowOf rs g r ≡ flat (put (rowsOf rs) g r)
+  put-row zero r w e = let q = is-file (length rs / rowLength) 0 e in absurd (omega arith)
+  put-row (suc j) r w e =
+      let q = is-file (length rs / rowLength) (suc j) e in
+      let back : flat (rowsOf rs) ≡ rs = rows-back w in
+      sym (set-some rs (suc j) r e) ∙ rw sub-one (rw back at (put-flat (rowsOf rs) j r (omega (arith, rows-long rs))))
+
   refused-leaves : (n : ℕ) → whole (length s) (length rs) ≡ true → refused n 0 s fs rs st ≡ leaves s (refuse n 0 (lent s fs rs st))
   refused-leaves n w = ap (λ (xs : List ℕ). refused n 0 s fs xs st) (sym (rows-back w))
 
-  lent-right : whole (length s) (length rs) ≡ true → lentRight (lent s fs rs st) ≡ lineOne (length s) (length fs) (length rs) (st .end) (st .undecided)
+  pub lent-right : whole (length s) (length rs) ≡ true → lentRight (lent s fs rs st) ≡ lineOne (length s) (length fs) (length rs) (st .end) (st .undecided)
   unfolding lentRight lineOne sizesRight
   lent-right w = simp (w, pages-long (length rs / rowLength) (length s / pageSize) s, rows-long rs)
 
-  whole-is : lineOne (length s) (length fs) (length rs) (st .end) (st .undecided) ≡ true → whole (length s) (length rs) ≡ true
+  pub whole-is : lineOne (length s) (length fs) (length rs) (st .end) (st .undecided) ≡ true → whole (length s) (length rs) ≡ true
   unfolding lineOne sizesRight
   whole-is h = and-true _ _ (and-true _ _ (and-true _ _ h .0) .0) .0
 
@@ -90,14 +98,7 @@ module _ (s fs rs : List ℕ) (st : State) where
       warm-is = w .row-is
 
       rows-are : ys ≡ flat (put (rowsOf rs) f r)
-      rows-are = w .left-is ∙ go f k
-        where
-          go : (g : ℕ) → isFile (length rs / rowLength) g ≡ true → withRowOf rs g r ≡ flat (put (rowsOf rs) g r)
-          go zero e = let q = is-file (length rs / rowLength) 0 e in absurd (omega arith)
-          go (suc j) e =
-              let q = is-file (length rs / rowLength) (suc j) e in
-              let back : flat (rowsOf rs) ≡ rs = rows-back (whole-is h) in
-              sym (set-some rs (suc j) r e) ∙ rw sub-one (rw back at (put-flat (rowsOf rs) j r (omega (arith, rows-long rs))))
+      rows-are = w .left-is ∙ put-row f r (whole-is h) k
 
       leaves-row : leaves s (answerRow (withRow (lent s fs rs st) f r) f r) ≡ rebuildLeaves s fs rs st f
       unfolding rebuildLeaves rebuilt

@@ -1,11 +1,16 @@
--- The contracts of open, rebuild and inspect each allow one outcome; and inspect's numbers tell its answers apart. Assumes nothing.
+-- The contracts of open, rebuild and inspect each allow one outcome; and the numbers of an answer tell it from every other. Assumes nothing.
 use Prim.Native.Nat.{ℕ}
 use mathlib.Core.Path.{_≡_, refl, sym, ap, _∙_}
+use mathlib.Core.Bool.{cond}
 use mathlib.Core.List.{List}
 use native.Mathlib.Omega.{arith}
+use lib.Dec.{eqb}
+use lib.ListN.{getD}
 use Rattle.recovery.specs.Lent.{Left, openLeaves, rebuildLeaves, inspected}
-use Rattle.recovery.specs.Numbers.{inspectNumber, inspectPlace}
+use Rattle.recovery.specs.Numbers.{numbersOf, inspectNumber, inspectPlace}
 use Rattle.recovery.specs.declared.State.{State}
+use Rattle.recovery.specs.declared.Answer.{Answer}
+use Rattle.recovery.specs.declared.Answer.the-variants.{Refused, Opened, Rebuilt, Stored, Value, Nothing, Told}
 use Rattle.recovery.specs.declared.Inspected as inspection
 use Rattle.recovery.specs.declared.Inspected.{Inspected}
 
@@ -23,3 +28,26 @@ inspect-numbers inspection.Inspected.Refused inspection.Inspected.Refused e f = 
 inspect-numbers inspection.Inspected.Refused (inspection.Inspected.Lowest p) e f = absurd (omega arith)
 inspect-numbers (inspection.Inspected.Lowest p) inspection.Inspected.Refused e f = absurd (omega arith)
 inspect-numbers (inspection.Inspected.Lowest p) (inspection.Inspected.Lowest q) e f = ap inspection.Inspected.Lowest f
+
+-- an answer is found again from its numbers
+answer-from : List ℕ → Answer
+answer-from v =
+    cond (eqb (getD v 0 0) 0) (Refused (getD v 1 0) (getD v 2 0))
+    (cond (eqb (getD v 0 0) 1) (Opened (getD v 1 0) (getD v 2 0))
+    (cond (eqb (getD v 0 0) 2) (Rebuilt (getD v 1 0) (getD v 2 0) (getD v 3 0) (getD v 4 0))
+    (cond (eqb (getD v 0 0) 3) (Stored (getD v 1 0))
+    (cond (eqb (getD v 0 0) 4) (Value (getD v 1 0) (getD v 2 0) (getD v 3 0))
+    (cond (eqb (getD v 0 0) 5) Nothing (Told (getD v 1 0)))))))
+
+answer-again : (a : Answer) → answer-from (numbersOf a) ≡ a
+unfolding answer-from
+answer-again (Refused n p) = refl
+answer-again (Opened e u) = refl
+answer-again (Rebuilt a b c d) = refl
+answer-again (Stored p) = refl
+answer-again (Value p s l) = refl
+answer-again Nothing = refl
+answer-again (Told f) = refl
+
+pub answer-numbers : (a b : Answer) → numbersOf a ≡ numbersOf b → a ≡ b
+answer-numbers a b e = sym (answer-again a) ∙ ap answer-from e ∙ answer-again b

@@ -5,6 +5,7 @@ pub mod Sheet
 pub mod World
 pub mod Lent
 pub mod Numbers
+pub mod Rolled
 pub mod Steps
 pub mod OpenSteps
 pub mod Kept

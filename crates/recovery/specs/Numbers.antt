@@ -1,4 +1,4 @@
--- What document 01 gives of each answer: a refusal's number and place, 0 unless there is one, and the values of a success.
+-- Each answer as numbers, as document 01 gives them.
 use Prim.Native.Nat.{ℕ}
 use mathlib.Core.List.{List, [], _∷_}
 use Rattle.recovery.specs.declared.Answer.{Answer}
@@ -6,32 +6,15 @@ use Rattle.recovery.specs.declared.Answer.the-variants.{Refused, Opened,
 use Rattle.recovery.specs.declared.Inspected as inspection
 use Rattle.recovery.specs.declared.Inspected.{Inspected}
 
-abbrev pub refusalNumber : Answer → ℕ
-refusalNumber (Refused n p) = n
-refusalNumber (Opened e u) = 0
-refusalNumber (Rebuilt a b c d) = 0
-refusalNumber (Stored p) = 0
-refusalNumber (Value p s l) = 0
-refusalNumber Nothing = 0
-refusalNumber (Told f) = 0
-
-abbrev pub refusalPlace : Answer → ℕ
-refusalPlace (Refused n p) = p
-refusalPlace (Opened e u) = 0
-refusalPlace (Rebuilt a b c d) = 0
-refusalPlace (Stored p) = 0
-refusalPlace (Value p s l) = 0
-refusalPlace Nothing = 0
-refusalPlace (Told f) = 0
-
-abbrev pub valuesOf : Answer → List ℕ
-valuesOf (Refused n p) = []
-valuesOf (Opened e u) = e ∷ u ∷ []
-valuesOf (Rebuilt a b c d) = a ∷ b ∷ c ∷ d ∷ []
-valuesOf (Stored p) = p ∷ []
-valuesOf (Value p s l) = p ∷ s ∷ l ∷ []
-valuesOf Nothing = []
-valuesOf (Told f) = f ∷ []
+-- which of the seven, then its values: a refusal's are its number and place
+abbrev pub numbersOf : Answer → List ℕ
+numbersOf (Refused n p) = 0 ∷ n ∷ p ∷ []
+numbersOf (Opened e u) = 1 ∷ e ∷ u ∷ []
+numbersOf (Rebuilt a b c d) = 2 ∷ a ∷ b ∷ c ∷ d ∷ []
+numbersOf (Stored p) = 3 ∷ p ∷ []
+numbersOf (Value p s l) = 4 ∷ p ∷ s ∷ l ∷ []
+numbersOf Nothing = 5 ∷ []
+numbersOf (Told f) = 6 ∷ f ∷ []
 
 -- inspect: the refusal's number, and the place
 abbrev pub inspectNumber : Inspected → ℕ

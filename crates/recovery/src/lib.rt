@@ -4,6 +4,7 @@ mod inspection;
 mod lookup;
 mod opening;
 mod rebuilding;
+mod rolling;
 mod rows;
 
 pub use inspection::inspect;
@@ -18,6 +19,9 @@ pub use rebuilding::is_row_held;
 pub use rebuilding::rebuild;
 pub use rebuilding::rebuilt_row;
 pub use rebuilding::warm_row;
+pub use rolling::later;
+pub use rolling::raise;
+pub use rolling::raised_row;
 pub use rows::is_file;
 pub use rows::row_of;
 pub use rows::set_row;

@@ -1,0 +1,74 @@
+-- Refusals change nothing: a refused call leaves the sheet, the fates and the state as they were, and the rows too, but that the
+-- row asked for may have gone from cold to rebuilt. Shuts out a store that counts an action before it finds no room for it.
+-- Assumes nothing.
+use Prim.Native.Nat.{ℕ}
+use mathlib.Core.Path.{_≡_, refl, sym, ap, _∙_}
+use mathlib.Core.Bool.{Bool, true, false, cond}
+use mathlib.Core.List.{List}
+use mathlib.Core.Logic.{_⊎_, inl, inr}
+use native.Mathlib.Omega.{arith}
+use lib.ListN.{length}
+use lib.Dec.{eqb}
+use borrow.Author.Tests.{eq-eqb}
+use Rattle.recovery.specs.Places.{put}
+use Rattle.recovery.specs.Log.{Entry}
+use Rattle.recovery.specs.declared.Row.{Row}
+use Rattle.recovery.specs.declared.State.{State}
+use Rattle.recovery.specs.declared.Answer.{Answer}
+use Rattle.recovery.specs.declared.Answer.the-variants.{Refused, Stored}
+use Rattle.recovery.specs.World.{World, Result, refuse, withRow, warmRow}
+use Rattle.recovery.specs.Lent.{Left, lent, whole, rowsOf, flat, refused}
+use Rattle.recovery.proofs.Leaves.{rows-back}
+use Rattle.calls.specs.Calls.{Call, append, call}
+use Rattle.calls.specs.Effect.{lower, callLeaves}
+use Rattle.calls.proofs.EveryCall.{isRefused, Ways, fileOf, warmed, every-call}
+
+-- this world, or this world with the row of a file rebuilt if it is cold
+unfoldable pub Same : World → ℕ → World → Type 0
+Same w f w′ = (w′ ≡ w) ⊎ (w′ ≡ warmed w f)
+
+abbrev Quiet : World → ℕ → Result → Type 0
+Quiet w f r = (n p : ℕ) → r .0 ≡ Refused n p → Same w f (r .1)
+
+module _ (w : World) (f : ℕ) where
+  quiet : (a : Answer) (w′ : World) → isRefused a ≡ false → Quiet w f (a, w′)
+  unfolding isRefused
+  quiet a w′ h n p e = let z : _≡_ {A = ℕ} 0 1 = ap (λ (b : Bool). cond b 1 0) (sym h ∙ ap isRefused e) in absurd (omega arith)
+
+  ways : (v : World) → Same w f v → Ways (Quiet w f) v
+  unfolding isRefused
+  ways v s = record {
+    refusing = λ n p m q e. s;
+    answering = λ a h. quiet a v h;
+    changing = λ a g r h. quiet a (withRow v g r) h;
+    growing = λ g fates rows n l long. quiet (Stored _) (append v g fates rows n) refl;
+  }
+
+pub refusals-change-nothing : (w : World) (k : Call) (n p : ℕ) → call w k .0 ≡ Refused n p → Same w (fileOf k) (call w k .1)
+unfolding Same
+refusals-change-nothing w k = every-call (Quiet w (fileOf k)) w k (ways w (fileOf k) w (inl refl)) (ways w (fileOf k) (warmed w (fileOf k)) (inr refl))
+
+-- and so of what is lent
+pub record Unchanged (s fs rs : List ℕ) (st : State) (f : ℕ) (l : Left) : Type 0 where
+  pub sheet : l .sheet ≡ s
+  pub fates : l .fates ≡ fs
+  pub state : l .state ≡ st
+  pub rows : (l .rows ≡ rs) ⊎ (l .rows ≡ flat (put (rowsOf rs) f (warmRow (lent s fs rs st) f)))
+
+module _ (s fs rs : List ℕ) (st : State) where
+  lowered : (f : ℕ) (a : Answer) (w : World) → whole (length s) (length rs) ≡ true → Same (lent s fs rs st) f w → Unchanged s fs rs st f (lower s (st .end) (a, w))
+  unfolding Same
+  lowered f a w h (inl e) =
+      rw e (record { sheet = rw (eq-eqb (st .end) (st .end) refl); fates = refl; state = refl; rows = inl (rows-back s fs rs st h) })
+  lowered f a w h (inr e) =
+      rw e (record { sheet = rw (eq-eqb (st .end) (st .end) refl); fates = refl; state = refl; rows = inr refl })
+
+  pub refused-unchanged : (k : Call) (n p : ℕ) → callLeaves s fs rs st k .answer ≡ Refused n p → Unchanged s fs rs st (fileOf k) (callLeaves s fs rs st k)
+  unfolding callLeaves
+  refused-unchanged k n p = go (whole (length s) (length rs)) refl
+    where
+      go : (b : Bool) → whole (length s) (length rs) ≡ b → cond b (lower s (st .end) (call (lent s fs rs st) k)) (refused 1 0 s fs rs st) .answer ≡ Refused n p
+          → Unchanged s fs rs st (fileOf k) (cond b (lower s (st .end) (call (lent s fs rs st) k)) (refused 1 0 s fs rs st))
+      go true h e =
+          lowered (fileOf k) (call (lent s fs rs st) k .0) (call (lent s fs rs st) k .1) h (refusals-change-nothing (lent s fs rs st) k n p e)
+      go false h e = record { sheet = refl; fates = refl; state = refl; rows = inl refl }

@@ -1,0 +1,183 @@
+-- The calls of the store over decoded pages, on all inputs, line by line in the order of document 01.
+use mathlib.Core.List.{List, [], _∷_}
+use mathlib.Core.Bool.{Bool, true, false, cond, _&&_}
+use mathlib.Core.Option.{Option, some, none}
+use Prim.Native.Nat.{ℕ, zero, suc, pred, max, _+_, _-_}
+use lib.ListN.{length}
+use lib.Dec.{eqb, leb, ltb}
+use Rattle.page.specs.Layout.{valueSize}
+use Rattle.recovery.specs.Places.{nth, put}
+use Rattle.recovery.specs.Log.{Image, Entry, blank, torn, bad, opening, image, outcome, Fate, unknown, undecided, committed, aborted, Placed, verdict}
+use Rattle.recovery.specs.declared.Row.{Row}
+use Rattle.recovery.specs.declared.Answer.{Answer}
+use Rattle.recovery.specs.declared.Answer.the-variants.{Refused, Stored, Value, Nothing, Told}
+use Rattle.recovery.specs.World.{World, Result, refuse, entryAt, fateNumber, fateAt, isBlank, withRow, warmRow, rowHolds, lentRight, isFile, rebuilt}
+use Rattle.calls.specs.Walk.{Walk, met, nothing, lost, endless, follow}
+
+-- write: file, start, action, value; read: file, time, action or 0; decide: action, and whether it commits
+pub data Call : Type 0 where
+  begin : Call
+  write : ℕ → ℕ → ℕ → List ℕ → Call
+  read : ℕ → ℕ → ℕ → Call
+  test : ℕ → Call
+  decide : ℕ → Bool → Call
+  rebuild : ℕ → Call
+
+-- ---- lines 3, 5, 6, 11
+
+abbrev pub forFile : World → ℕ → Result → Result
+forFile w f k = cond (isFile (length (w .rows)) f) k (refuse 3 0 w)
+
+abbrev pub isKnown : Fate → Bool
+isKnown unknown = false
+isKnown undecided = true
+isKnown committed = true
+isKnown aborted = true
+
+abbrev pub isDecided : Fate → Bool
+isDecided unknown = false
+isDecided undecided = false
+isDecided committed = true
+isDecided aborted = true
+
+abbrev pub hasAction : World → ℕ → Bool
+hasAction w a = leb 1 a && leb a (w .end) && isKnown (fateAt w a)
+
+abbrev pub forAction : World → ℕ → Result → Result
+forAction w a k = cond (hasAction w a) k (refuse 5 0 w)
+
+abbrev pub forUndecided : World → ℕ → Result → Result
+forUndecided w a k = forAction w a (cond (isDecided (fateAt w a)) (refuse 6 0 w) k)
+
+abbrev pub hasRoom : World → ℕ → Bool
+hasRoom w n = leb n (length (w .sheet) - w .end)
+
+-- ---- an append: line 12, and one page at end + 1
+
+abbrev pub append : World → Entry → List ℕ → List Row → ℕ → World
+append w g fates rows n = record { sheet = put (w .sheet) (suc (w .end)) g; fates = fates; rows = rows; end = suc (w .end); floor = w .floor; undecided = n }
+
+abbrev pub store : World → Entry → List ℕ → List Row → ℕ → Result
+store w g fates rows n = cond (isBlank (entryAt w (suc (w .end)))) (Stored (suc (w .end)), append w g fates rows n) (refuse 12 0 w)
+
+-- ---- begin: lines 11, 12
+
+abbrev pub onBegin : World → Result
+onBegin w =
+    cond (hasRoom w (w .undecided + 2))
+    (store w opening (put (w .fates) (suc (w .end)) 1) (w .rows) (suc (w .undecided)))
+    (refuse 11 0 w)
+
+-- ---- the image that a place of a row holds
+
+abbrev pub imageOf : Entry → Option Image
+imageOf blank = none
+imageOf torn = none
+imageOf bad = none
+imageOf opening = none
+imageOf (image i) = some i
+imageOf (outcome a c) = none
+
+abbrev pub actionOf : Option Image → ℕ
+actionOf none = 0
+actionOf (some i) = i .action
+
+-- ---- write, on a warm row: lines 7, 8, 10, 11, 12
+
+abbrev pub onWrite : World → ℕ → ℕ → ℕ → List ℕ → Row → Result
+onWrite w f start a v r =
+    cond (rowHolds w f r)
+    (cond (eqb (r .token) 0)
+    (cond (ltb (r .currentend) start && ltb (w .floor) start)
+    (cond (hasRoom w (w .undecided + 1))
+    (store w (image (record { file = f; action = a; link = r .current; start = start; value = v })) (w .fates)
+    (put (w .rows) f (record { mark = 1; current = r .current; currentend = r .currentend; token = suc (w .end); tokenend = start })) (w .undecided))
+    (refuse 11 0 w))
+    (refuse 10 0 w))
+    (refuse 8 (actionOf (imageOf (entryAt w (r .token)))) w))
+    (refuse 7 0 w)
+
+-- ---- read, on a warm row: lines 7, 9, 13, 14
+
+-- from the current version down the links
+abbrev pub walkFrom : World → ℕ → ℕ → ℕ → Option Image → Walk
+walkFrom w f time place none = nothing
+walkFrom w f time place (some i) = follow (entryAt w) f time (length (w .sheet)) (record { place = place; image = i })
+
+abbrev pub valueOf : Placed → Answer
+valueOf x = Value (x .place) (x .image .start) (length (x .image .value))
+
+abbrev pub answerWalk : World → ℕ → Row → Walk → Result
+answerWalk w f r (met x) = (valueOf x, withRow w f r)
+answerWalk w f r nothing = (Nothing, withRow w f r)
+answerWalk w f r (lost place) = refuse 13 place w
+answerWalk w f r endless = refuse 14 0 w
+
+-- the time is at least the current start, or there is no current version
+abbrev pub reaches : ℕ → Option Image → Bool
+reaches time none = true
+reaches time (some i) = leb (i .start) time
+
+-- a row whose current version, or whose token, was read at a time
+abbrev pub readCurrent : ℕ → Bool → Row → Row
+readCurrent time b r = record { mark = r .mark; current = r .current; currentend = cond b (max (r .currentend) time) (r .currentend); token = r .token; tokenend = r .tokenend }
+
+abbrev pub readToken : ℕ → Row → Row
+readToken time r = record { mark = r .mark; current = r .current; currentend = r .currentend; token = r .token; tokenend = max (r .tokenend) time }
+
+abbrev pub onVersions : World → ℕ → ℕ → Row → Result
+onVersions w f time r =
+    answerWalk w f (readCurrent time (reaches time (imageOf (entryAt w (r .current)))) r) (walkFrom w f time (r .current) (imageOf (entryAt w (r .current))))
+
+abbrev pub onToken : World → ℕ → ℕ → ℕ → Row → Option Image → Result
+onToken w f time a r none = onVersions w f time r
+onToken w f time a r (some i) =
+    cond (leb (i .start) time)
+    (cond (eqb (i .action) a) (valueOf (record { place = r .token; image = i }), withRow w f (readToken time r)) (refuse 9 (i .action) w))
+    (onVersions w f time r)
+
+abbrev pub onRead : World → ℕ → ℕ → ℕ → Row → Result
+onRead w f time a r = cond (rowHolds w f r) (onToken w f time a r (imageOf (entryAt w (r .token)))) (refuse 7 0 w)
+
+-- ---- commit and abort: lines 11, 12; and the rows that they change
+
+abbrev pub decided : Bool → Row → Row
+decided true r = record { mark = r .mark; current = r .token; currentend = r .tokenend; token = 0; tokenend = 0 }
+decided false r = record { mark = r .mark; current = r .current; currentend = r .currentend; token = 0; tokenend = 0 }
+
+abbrev pub isTokenOf : ℕ → ℕ → Option Image → Bool
+isTokenOf f a none = false
+isTokenOf f a (some i) = eqb (i .file) f && eqb (i .action) a
+
+-- a rebuilt row whose token place is at most the old end and holds a sealed image of its file under this action
+abbrev pub holdsToken : World → ℕ → ℕ → Row → Bool
+holdsToken w a f r = eqb (r .mark) 1 && leb (r .token) (w .end) && isTokenOf f a (imageOf (entryAt w (r .token)))
+
+abbrev pub settled : World → ℕ → Bool → ℕ → Row → Row
+settled w a c f r = cond (holdsToken w a f r) (decided c r) r
+
+unfoldable pub eachRow : (ℕ → Row → Row) → ℕ → List Row → List Row
+eachRow k f [] = []
+eachRow k f (r ∷ rs) = k (suc f) r ∷ eachRow k (suc f) rs
+
+abbrev pub onDecide : World → ℕ → Bool → Result
+onDecide w a c =
+    cond (hasRoom w 1)
+    (store w (outcome a c) (put (w .fates) a (fateNumber (verdict c))) (eachRow (settled w a c) 0 (w .rows)) (pred (w .undecided)))
+    (refuse 11 0 w)
+
+-- ---- a call past line 1, and a call
+
+abbrev pub on : World → Call → Result
+on w begin = onBegin w
+on w (write f start a v) =
+    forFile w f (cond (leb (length v) valueSize) (forUndecided w a (onWrite (withRow w f (warmRow w f)) f start a v (warmRow w f))) (refuse 4 0 w))
+on w (read f time a) =
+    forFile w f (cond (eqb a 0) (onRead (withRow w f (warmRow w f)) f time a (warmRow w f))
+    (forUndecided w a (onRead (withRow w f (warmRow w f)) f time a (warmRow w f))))
+on w (test a) = forAction w a (Told (fateNumber (fateAt w a)), w)
+on w (decide a c) = forUndecided w a (onDecide w a c)
+on w (rebuild f) = rebuilt w f
+
+unfoldable pub call : World → Call → Result
+call w k = cond (lentRight w) (on w k) (refuse 1 0 w)

@@ -1,0 +1,12 @@
+-- A row that was read: its ends are at least the times.
+use Prim.Native.Nat.{ℕ, max}
+use Rattle.recovery.specs.declared.Row.{Row}
+
+abbrev pub raised : Row → ℕ → ℕ → Row
+raised r current token = record {
+  mark = r .mark;
+  current = r .current;
+  currentend = max (r .currentend) current;
+  token = r .token;
+  tokenend = max (r .tokenend) token;
+}
