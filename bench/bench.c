@@ -47,7 +47,7 @@ static uint64_t run_touch(struct sheet s) {
 static uint64_t run_test(struct sheet s) { return bench_test(s.bytes, PAGE * s.pages, FILES); }
 static uint64_t run_seek(struct sheet s) { return bench_seek(s.bytes, PAGE * s.pages, FILES, ABSENT); }
 static uint64_t run_pack(struct sheet s) { return bench_pack(s.bytes, PAGE * s.pages, FILES, USED, value); }
-static uint64_t run_open(struct sheet s) { return bench_open(s.bytes, PAGE * s.pages, fates, s.pages, numbers, 5 * FILES, 0, 2); }
+static uint64_t run_open(struct sheet s) { return bench_open(s.bytes, PAGE * s.pages, fates, s.pages, numbers, 5 * FILES, 0, 5); }
 static uint64_t run_inspect(struct sheet s) { return bench_inspect(s.bytes, PAGE * s.pages, FILES); }
 static uint64_t rebuild(struct sheet s, uint64_t file) {
     return bench_walk(s.bytes, PAGE * s.pages, fates, s.pages, FILES, file, s.pages);

@@ -11,7 +11,9 @@ uint64_t bench_rebuild(const uint8_t *sheet, size_t size, const uint8_t *fates, 
 uint64_t bench_inspect(const uint8_t *sheet, size_t size, uint64_t files);
 
 enum { MOST = 30, FILES = 4, SHEETS = 8000, UNTOUCHED = 77 };
-enum { NUMBER, PLACE, END, FLOOR, UNDECIDED };
+/* what bench_ functions tell by index: which answer, its values, and the state */
+enum { WHICH, FIRST, SECOND, END = 5, FLOOR, UNDECIDED, TOLD };
+enum { REFUSED, OPENED, REBUILT };
 static uint8_t sheet[MOST * PAGE];
 static uint64_t pages, seed;
 static int passed, failed;
@@ -156,7 +158,7 @@ static void fill_sheet(int wild) {
 static int opens_alike(int wild) {
     for (int k = 0; k < SHEETS; k++) {
         uint8_t fates[MOST];
-        uint64_t rows[5 * FILES], end, bad = 0, undecided = 0, got[5];
+        uint64_t rows[5 * FILES], end, bad = 0, undecided = 0, got[TOLD];
         fill_sheet(wild);
         end = end_of();
         for (uint64_t p = 1; p <= end; p++)
@@ -164,12 +166,13 @@ static int opens_alike(int wild) {
                 bad = p;
         for (uint64_t a = 1; a <= pages; a++)
             undecided += fate_of(a, end) == 1;
-        for (int w = 0; w < 5; w++) {
+        for (int w = 0; w < TOLD; w++) {
             memset(fates, UNTOUCHED, sizeof fates);
             memset(rows, UNTOUCHED, sizeof rows);
             got[w] = bench_open(sheet, PAGE * pages, fates, pages, rows, 5 * FILES, 9, (uint64_t)w);
         }
-        int is_right = got[NUMBER] == (bad ? 2 : 0) && got[PLACE] == bad && got[END] == (bad ? 0 : end)
+        int is_right = got[WHICH] == (bad ? REFUSED : OPENED) && got[FIRST] == (bad ? 2 : end)
+                       && got[SECOND] == (bad ? bad : undecided) && got[END] == (bad ? 0 : end)
                        && got[FLOOR] == (bad ? 0 : 9) && got[UNDECIDED] == (bad ? 0 : undecided);
         for (uint64_t a = 1; a <= pages; a++)
             is_right = is_right && fates[a - 1] == (bad ? UNTOUCHED : fate_of(a, end));
@@ -210,7 +213,9 @@ static int rebuilds_alike(void) {
                 if (row[i] != 0 && (row[i] > end || !is_image(row[i], file)))
                     number = 7;
         }
-        if (bench_rebuild(sheet, PAGE * pages, fates, pages, rows, 5 * FILES, end, 0, file, NUMBER) != number)
+        uint64_t which = bench_rebuild(sheet, PAGE * pages, fates, pages, rows, 5 * FILES, end, 0, file, WHICH);
+        uint64_t first = bench_rebuild(sheet, PAGE * pages, fates, pages, rows, 5 * FILES, end, 0, file, FIRST);
+        if (which != (number ? REFUSED : REBUILT) || first != (number ? number : was[5 * (file - 1) + 1]))
             return 0;
         if (memcmp(rows, was, sizeof rows))
             return 0;
@@ -239,7 +244,7 @@ static int sizes_alike(void) {
         for (uint64_t n = 0; n <= 4; n++)
             for (uint64_t numbers = 0; numbers <= 11; numbers++) {
                 int fits = size >= PAGE && size % PAGE == 0 && n == size / PAGE && numbers >= 5 && numbers % 5 == 0;
-                if (bench_open(sheet, size, fates, n, rows, numbers, 0, NUMBER) != (fits ? 0 : 1))
+                if (bench_open(sheet, size, fates, n, rows, numbers, 0, WHICH) != (fits ? OPENED : REFUSED))
                     return 0;
             }
     return 1;

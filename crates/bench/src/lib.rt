@@ -1,5 +1,7 @@
 // Loops over a sheet's pages, for bench/ to time: the page test, the quick look and packing as the layers above use them.
 // Each answers how many pages passed, so that its work cannot be left out.
+mod exports;
+
 use page::Packing;
 use page::Page;
 use page::Sought;
@@ -10,10 +12,11 @@ use recovery::Inspected;
 use recovery::State;
 ghost use mathlib.Core.Path.{_≡_};
 ghost use Prim.Native.Nat.{_/_};
-ghost use lib.ListN.{length};
+ghost use mathlib.Core.List.{[], _∷_};
+ghost use lib.ListN.{length, getD};
 ghost use Rattle.page.specs.Layout.{pageSize};
 ghost use Rattle.recovery.specs.Lent.{openLeaves, rebuildLeaves, inspected};
-ghost use Rattle.recovery.specs.Numbers.{refusalNumber, refusalPlace, inspectPlace};
+ghost use Rattle.recovery.specs.Numbers.{numbersOf, inspectPlace};
 ghost use Rattle.recovery.specs.Steps.{rowFromPages};
 ghost use Rattle.bench.specs.Picks.{picked, pickedOf, stateWith};
 ghost use Rattle.bench.specs.Counts.{fields, found, written, counted, fitsAt, seenAt, writesAt};
@@ -104,53 +107,52 @@ pub extern "C" fn bench_pack(sheet: &mut [u8], files: u64, size: u64, value: &[u
     count
 }
 
-fn refusal_number(a: Answer) -> u64
-    ensures { λ r. ⌜ r ≡ refusalNumber a ⌝ }
+// One of five numbers by its index, 0 past them.
+fn nth(which: u64, a: u64, b: u64, c: u64, d: u64, e: u64) -> u64
+    ensures { λ r. ⌜ r ≡ getD (a ∷ b ∷ c ∷ d ∷ e ∷ []) which 0 ⌝ }
 {
-    match a {
-        Answer::Refused(number, _) => number,
-        Answer::Opened(_, _) => 0,
-        Answer::Rebuilt(_, _, _, _) => 0,
-        Answer::Stored(_) => 0,
-        Answer::Value(_, _, _) => 0,
-        Answer::Nothing => 0,
-        Answer::Told(_) => 0,
+    if which == 0 {
+        return a;
+    }
+    if which == 1 {
+        return b;
+    }
+    if which == 2 {
+        return c;
+    }
+    if which == 3 {
+        return d;
+    }
+    if which == 4 {
+        return e;
+    }
+    0
+}
+
+fn answer_number(answer: Answer, which: u64) -> u64
+    ensures { λ r. ⌜ r ≡ getD (numbersOf answer) which 0 ⌝ }
+{
+    match answer {
+        Answer::Refused(number, place) => nth(which, 0, number, place, 0, 0),
+        Answer::Opened(end, undecided) => nth(which, 1, end, undecided, 0, 0),
+        Answer::Rebuilt(a, b, c, d) => nth(which, 2, a, b, c, d),
+        Answer::Stored(place) => nth(which, 3, place, 0, 0, 0),
+        Answer::Value(place, start, size) => nth(which, 4, place, start, size, 0),
+        Answer::Nothing => nth(which, 5, 0, 0, 0, 0),
+        Answer::Told(fate) => nth(which, 6, fate, 0, 0, 0),
     }
 }
 
-fn refusal_place(a: Answer) -> u64
-    ensures { λ r. ⌜ r ≡ refusalPlace a ⌝ }
-{
-    match a {
-        Answer::Refused(_, place) => place,
-        Answer::Opened(_, _) => 0,
-        Answer::Rebuilt(_, _, _, _) => 0,
-        Answer::Stored(_) => 0,
-        Answer::Value(_, _, _) => 0,
-        Answer::Nothing => 0,
-        Answer::Told(_) => 0,
-    }
-}
-
-// One number of what a call answers, by its index: the refusal's number and place, then the state's three.
-fn pick(done: Done, which: u64) -> u64
+// One number of what a call answers, by its index: the answer's five, then the state's three.
+pub(crate) fn pick(done: Done, which: u64) -> u64
     ensures { λ r. ⌜ r ≡ picked (done .answer) (done .state) which ⌝ }
 {
     let answer = done.answer;
     let state = done.state;
-    if which == 0 {
-        return refusal_number(answer);
+    if which < 5 {
+        return answer_number(answer, which);
     }
-    if which == 1 {
-        return refusal_place(answer);
-    }
-    if which == 2 {
-        return state.end;
-    }
-    if which == 3 {
-        return state.floor;
-    }
-    state.undecided
+    nth(which - 5, state.end, state.floor, state.undecided, 0, 0)
 }
 
 // An opening.
@@ -178,7 +180,7 @@ pub extern "C" fn bench_rebuild(
     file: u64,
     which: u64,
 ) -> u64
-    ensures { λ r. ⌜ r ≡ pickedOf (rebuildLeaves (now (sheet .entry)) (now (fates .entry)) (now (rows .entry)) (stateWith end undecided) file) which ⌝ }
+    ensures { λ r. ⌜ r ≡ pickedOf (rebuildLeaves (now (sheet .entry)) (now (fates .entry)) (now (rows .entry)) (stateWith end 0 undecided) file) which ⌝ }
 {
     let state = State {
         end,

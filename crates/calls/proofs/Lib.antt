@@ -4,3 +4,6 @@ pub mod EveryCall
 pub mod Refusals
 pub mod OnePage
 pub mod Once
+pub mod DecideLines
+pub mod DecideRows
+pub mod DecideEnds

@@ -1,6 +1,9 @@
 // The calls on an open sheet: begin, write, read, test, commit and abort. Each takes the sheet, fates, rows and state as the last
 // call left them, trusts none of it, and answers with the state that the next one gets.
 mod appending;
+mod deciding;
 
-use page::Page;
-ghost use mathlib.Core.Path.{_≡_};
+pub use deciding::abort;
+pub use deciding::begin;
+pub use deciding::commit;
+pub use deciding::test;

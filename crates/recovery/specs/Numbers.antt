@@ -6,15 +6,15 @@ use Rattle.recovery.specs.declared.Answer.the-variants.{Refused, Opened,
 use Rattle.recovery.specs.declared.Inspected as inspection
 use Rattle.recovery.specs.declared.Inspected.{Inspected}
 
--- which of the seven, then its values: a refusal's are its number and place
+-- five numbers: which of the seven it is, then its values and zeros; a refusal's values are its number and place
 abbrev pub numbersOf : Answer → List ℕ
-numbersOf (Refused n p) = 0 ∷ n ∷ p ∷ []
-numbersOf (Opened e u) = 1 ∷ e ∷ u ∷ []
+numbersOf (Refused n p) = 0 ∷ n ∷ p ∷ 0 ∷ 0 ∷ []
+numbersOf (Opened e u) = 1 ∷ e ∷ u ∷ 0 ∷ 0 ∷ []
 numbersOf (Rebuilt a b c d) = 2 ∷ a ∷ b ∷ c ∷ d ∷ []
-numbersOf (Stored p) = 3 ∷ p ∷ []
-numbersOf (Value p s l) = 4 ∷ p ∷ s ∷ l ∷ []
-numbersOf Nothing = 5 ∷ []
-numbersOf (Told f) = 6 ∷ f ∷ []
+numbersOf (Stored p) = 3 ∷ p ∷ 0 ∷ 0 ∷ 0 ∷ []
+numbersOf (Value p s l) = 4 ∷ p ∷ s ∷ l ∷ 0 ∷ []
+numbersOf Nothing = 5 ∷ 0 ∷ 0 ∷ 0 ∷ 0 ∷ []
+numbersOf (Told f) = 6 ∷ f ∷ 0 ∷ 0 ∷ 0 ∷ []
 
 -- inspect: the refusal's number, and the place
 abbrev pub inspectNumber : Inspected → ℕ

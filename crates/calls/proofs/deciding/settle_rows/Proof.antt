@@ -1,0 +1,64 @@
+-- `calls::deciding::settle_rows`. The loop's invariant: the rows of the files passed are settled, and the others are as they were.
+-- The measure is what is left of the files. Assumes nothing.
+use denote.Ref.{now}
+use lib.ListN.{length}
+use native.Mathlib.Omega.{arith}
+use mathlib.Core.Path.{_≡_, _∙_, ap}
+use Prim.Native.Nat.{_≤_, _-_}
+use Rattle.calls.proofs.DecideRows.{runTo, run-long, run-none, run-more, run-all}
+use borrow.Author.Needs.{needs}
+use Rattle.calls.proofs.deciding.settle_rows.Statement.{statement}
+use Rattle.calls.proofs.deciding.settle_rows.Tie as tie
+
+abbrev Inv-loop : tie.InvT-loop
+Inv-loop sheet rows₀ files end action committed file₀ rows file = (file ≤ files) × (rows ≡ runTo sheet files end action committed rows₀ file)
+
+abbrev μ-loop : tie.MeasureT-loop
+μ-loop sheet rows₀ files end action committed file₀ rows file = files - file
+
+long : (c : tie.At-loop Inv-loop μ-loop) → length (c .loop .rows) ≡ length (now (c .before .before .before .args .rows))
+long c = ap length (c .loop .inv .1) ∙ run-long _ _ _ _ _ _ (c .before .before .before .pre .0) _
+
+loop-holds : tie.Need-loop-holds Inv-loop μ-loop
+loop-holds c =
+    let s = c .before .before in
+    (search needs, run-none (now (s .args .sheet)) (s .args .files) (s .args .end) (s .args .action) (s .args .committed) (now (s .args .rows)) (s .pre .0))
+
+add-file : tie.Need-add-file Inv-loop μ-loop
+add-file c = search needs
+
+settle-row-requires : tie.Need-settle-row-requires Inv-loop μ-loop
+settle-row-requires c κs = search needs
+
+loop-less : tie.Need-loop-less Inv-loop μ-loop
+loop-less c = search needs
+
+loop-again : tie.Need-loop-again Inv-loop μ-loop
+loop-again c =
+    let d = c .before .before in
+    let l = d .before .before .before in
+    let s = l .before .before .before in
+    (search needs, run-more (now (s .args .sheet)) (s .args .files) (s .args .end) (s .args .action) (s .args .committed) (now (s .args .rows)) (l .loop .file) (omega (arith, s .pre, d .before .before .loop-test .taken)) _ _ (l .loop .inv .1) (d .settle-row .ensures))
+
+same-length : tie.Need-same-length Inv-loop μ-loop
+same-length c = long (c .before)
+
+returns : tie.Need-returns Inv-loop μ-loop
+returns c =
+    let l = c .before in
+    let s = l .before .before .before in
+    run-all (now (s .args .sheet)) (s .args .files) (s .args .end) (s .args .action) (s .args .committed) (now (s .args .rows)) (l .loop .file) _ (omega (arith, s .pre, l .loop .inv .0)) (omega (arith, s .pre, c .loop-test .left)) (l .loop .inv .1)
+
+pub settle-rows-spec : {M : Type 1} → statement M
+settle-rows-spec =
+    tie.close
+    (tie.spec
+    Inv-loop
+    μ-loop
+    loop-holds
+    add-file
+    settle-row-requires
+    loop-less
+    loop-again
+    same-length
+    returns)

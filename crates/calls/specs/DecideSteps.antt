@@ -1,0 +1,41 @@
+-- What smaller functions of test, begin, commit and abort answer. A reader of document 01 can pass this file over: the laws
+-- join it to `call`.
+use mathlib.Core.List.{List}
+use mathlib.Core.Bool.{Bool, cond, _&&_}
+use Prim.Native.Nat.{ℕ, suc, _-_, _/_}
+use lib.ListN.{length}
+use lib.Dec.{eqb, leb}
+use Rattle.recovery.specs.Places.{nth}
+use Rattle.recovery.specs.Sheet.{sealed}
+use Rattle.recovery.specs.World.{fateIn, isBlank}
+use Rattle.recovery.specs.Lent.{rowLength, rowsOf, flat}
+use Rattle.recovery.specs.Steps.{rowOf, withRowOf, sheetWorld, lineOne}
+use Rattle.recovery.specs.declared.Row.{Row}
+use Rattle.recovery.specs.declared.State.{State}
+use Rattle.calls.specs.Calls.{isKnown, decided, holdsToken, settled, eachRow}
+
+-- an action's fate, 1 to 3, or 0 where line 5 refuses
+unfoldable pub knownFate : List ℕ → ℕ → ℕ → ℕ
+knownFate fates end a = cond (leb 1 a && leb a end && isKnown (fateIn fates a)) (nth 0 fates a) 0
+
+-- the line that refuses commit and abort, 0 if none does
+unfoldable pub decideLine : List ℕ → List ℕ → List ℕ → State → ℕ → ℕ
+decideLine s fates rows state a =
+    cond (lineOne (length s) (length fates) (length rows) (state .end) (state .undecided))
+    (cond (eqb (knownFate fates (state .end) a) 0) 5
+    (cond (eqb (knownFate fates (state .end) a) 1)
+    (cond (leb (length fates) (state .end)) 11
+    (cond (isBlank (sealed (length rows / rowLength) s (suc (state .end)))) 0 12))
+    6))
+    1
+
+-- whether a row's token is decided with this action, by the sheet and the end alone
+unfoldable pub holdsTokenIn : List ℕ → ℕ → ℕ → ℕ → ℕ → Row → Bool
+holdsTokenIn s files end a f r = holdsToken (sheetWorld s files end) a f r
+
+-- the lent run with the row of one file settled, and with every row settled
+unfoldable pub settledRow : List ℕ → ℕ → ℕ → ℕ → Bool → ℕ → List ℕ → List ℕ
+settledRow s files end a c f rows = cond (holdsTokenIn s files end a f (rowOf rows f)) (withRowOf rows f (decided c (rowOf rows f))) rows
+
+unfoldable pub settledRows : List ℕ → ℕ → ℕ → ℕ → Bool → List ℕ → List ℕ
+settledRows s files end a c rows = flat (eachRow (settled (sheetWorld s files end) a c) 0 (rowsOf rows))

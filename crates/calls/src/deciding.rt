@@ -1,0 +1,286 @@
+// Test, begin, commit and abort: the calls about an action (a transaction) and its fate.
+use crate::appending::append;
+use crate::appending::is_blank_at;
+use page::Page;
+use page::Sought;
+use recovery::Answer;
+use recovery::Done;
+use recovery::ROW_LENGTH;
+use recovery::Row;
+use recovery::State;
+use recovery::fate_at;
+use recovery::image_at;
+use recovery::is_lent_right;
+use recovery::refuse;
+use recovery::row_of;
+use recovery::set_row;
+ghost use mathlib.Core.Bool.{true, false, cond};
+ghost use mathlib.Core.Path.{_≡_};
+ghost use Prim.Native.Nat.{_*_, _/_, pred};
+ghost use lib.ListN.{length};
+ghost use Rattle.page.specs.Table.{outcome};
+ghost use Rattle.recovery.specs.Log.{verdict};
+ghost use Rattle.recovery.specs.World.{fateNumber};
+ghost use Rattle.recovery.specs.Lent.{rowLength, leftBy};
+ghost use Rattle.calls.specs.Calls.{Call, decided};
+ghost use Rattle.calls.specs.Effect.{callLeaves};
+ghost use Rattle.calls.specs.DecideSteps.{knownFate, decideLine, holdsTokenIn, settledRow, settledRows};
+
+// An action's fate, 0 where line 5 refuses.
+pub(crate) fn known_fate(fates: &[u8], end: u64, action: u64) -> u64
+    ensures { λ r. ⌜ r ≡ knownFate (now (fates .entry)) end action ⌝ }
+{
+    let fate = fate_at(fates, action);
+    if end < action {
+        return 0;
+    }
+    if 3 < fate {
+        return 0;
+    }
+    fate
+}
+
+// The fate of an action.
+pub fn test(sheet: &[u8], fates: &[u8], rows: &[u64], state: State, action: u64) -> Done
+    ensures { λ r. ⌜ leftBy r (now (sheet .entry)) (now (fates .entry)) (now (rows .entry)) ≡ callLeaves (now (sheet .entry)) (now (fates .entry)) (now (rows .entry)) state (Call.test action) ⌝ }
+{
+    if !is_lent_right(sheet.len(), fates.len(), rows.len(), state) {
+        return refuse(1, state);
+    }
+    let fate = known_fate(fates, state.end, action);
+    if fate == 0 {
+        return refuse(5, state);
+    }
+    Done {
+        answer: Answer::Told(fate),
+        state,
+    }
+}
+
+// Begins an action: appends its opening, and leaves room for the outcome of each undecided action.
+pub fn begin(sheet: &mut [u8], fates: &mut [u8], rows: &[u64], state: State) -> Done
+    ensures { λ r. ⌜ leftBy r (now (sheet .exit)) (now (fates .exit)) (now (rows .entry)) ≡ callLeaves (now (sheet .entry)) (now (fates .entry)) (now (rows .entry)) state Call.begin ⌝ }
+{
+    if !is_lent_right(sheet.len(), fates.len(), rows.len(), state) {
+        return refuse(1, state);
+    }
+    let end = state.end;
+    if fates.len() as u64 - end < state.undecided + 2 {
+        return refuse(11, state);
+    }
+    let files = (rows.len() / ROW_LENGTH) as u64;
+    let place = end + 1;
+    if !is_blank_at(&sheet[..], place, files) {
+        return refuse(12, state);
+    }
+    let page = Page {
+        kind: 1,
+        small: 0,
+        file: 0,
+        action: place,
+        link: 0,
+        start: 0,
+    };
+    append(sheet, end, files, page, &[0u8; 32]);
+    fates[end as usize] = 1;
+    Done {
+        answer: Answer::Stored(place),
+        state: State {
+            end: place,
+            floor: state.floor,
+            undecided: state.undecided + 1,
+        },
+    }
+}
+
+// The line that refuses commit and abort, 0 if none does.
+fn decide_line(sheet: &[u8], fates: &[u8], rows: &[u64], state: State, action: u64) -> u64
+    ensures { λ r. ⌜ r ≡ decideLine (now (sheet .entry)) (now (fates .entry)) (now (rows .entry)) state action ⌝ }
+{
+    if !is_lent_right(sheet.len(), fates.len(), rows.len(), state) {
+        return 1;
+    }
+    let fate = known_fate(fates, state.end, action);
+    if fate == 0 {
+        return 5;
+    }
+    if fate != 1 {
+        return 6;
+    }
+    if fates.len() as u64 <= state.end {
+        return 11;
+    }
+    let files = (rows.len() / ROW_LENGTH) as u64;
+    if !is_blank_at(sheet, state.end + 1, files) {
+        return 12;
+    }
+    0
+}
+
+// Whether a row's token is a sealed image of the file under the action.
+fn holds_token(sheet: &[u8], files: u64, end: u64, action: u64, file: u64, row: Row) -> bool
+    ensures { λ r. ⌜ r ≡ holdsTokenIn (now (sheet .entry)) files end action file row ⌝ }
+{
+    if row.mark != 1 {
+        return false;
+    }
+    if row.token == 0 {
+        return false;
+    }
+    if end < row.token {
+        return false;
+    }
+    let found = image_at(sheet, files, file, row.token);
+    let Sought::Image(image) = found else {
+        return false;
+    };
+    image.action == action
+}
+
+// A row whose token is decided: a committed one is the current version.
+fn decided_row(row: Row, committed: bool) -> Row
+    ensures { λ r. ⌜ r ≡ decided committed row ⌝ }
+{
+    if committed {
+        return Row {
+            mark: row.mark,
+            current: row.token,
+            currentend: row.tokenend,
+            token: 0,
+            tokenend: 0,
+        };
+    }
+    Row {
+        mark: row.mark,
+        current: row.current,
+        currentend: row.currentend,
+        token: 0,
+        tokenend: 0,
+    }
+}
+
+// The row of a file, settled where its token is the action's.
+fn settle_row(
+    sheet: &[u8],
+    rows: &mut [u64],
+    files: u64,
+    end: u64,
+    action: u64,
+    committed: bool,
+    file: u64,
+)
+    ensures { λ _. ⌜ now (rows .exit) ≡ settledRow (now (sheet .entry)) files end action committed file (now (rows .entry)) ⌝ }
+{
+    let row = row_of(&rows[..], file);
+    if !holds_token(sheet, files, end, action, file, row) {
+        return;
+    }
+    set_row(rows, file, decided_row(row, committed));
+}
+
+// Every row, settled. Cold rows and rows with no token cost no look at a page.
+fn settle_rows(sheet: &[u8], rows: &mut [u64], files: u64, end: u64, action: u64, committed: bool)
+    requires { ⌜ (rowLength * (length (now rows) / rowLength) ≡ length (now rows)) × (files ≡ length (now rows) / rowLength) ⌝ }
+    ensures { λ _. ⌜ now (rows .exit) ≡ settledRows (now (sheet .entry)) files end action committed (now (rows .entry)) ⌝ }
+{
+    let mut file: u64 = 0;
+    while file < files {
+        file += 1;
+        settle_row(sheet, rows, files, end, action, committed, file);
+    }
+}
+
+// The commit record, 1, or the abort record, 2, of an action.
+fn outcome_page(action: u64, committed: bool) -> Page
+    ensures { λ r. ⌜ r ≡ outcome action (cond committed 1 2) ⌝ }
+{
+    let mut verdict: u64 = 2;
+    if committed {
+        verdict = 1;
+    }
+    Page {
+        kind: 3,
+        small: verdict,
+        file: 0,
+        action,
+        link: 0,
+        start: 0,
+    }
+}
+
+// The fate that an outcome gives its action.
+fn outcome_fate(committed: bool) -> u8
+    ensures { λ r. ⌜ r ≡ fateNumber (verdict committed) ⌝ }
+{
+    if committed {
+        return 2;
+    }
+    3
+}
+
+// One less, and 0 for 0: the open count is lent, so it may be too low.
+fn less_one(n: u64) -> u64
+    ensures { λ r. ⌜ r ≡ pred n ⌝ }
+{
+    if n == 0 {
+        return 0;
+    }
+    n - 1
+}
+
+// Commits or aborts an action: appends its outcome. The rows are settled first, by the sheet as it was.
+fn decide(
+    sheet: &mut [u8],
+    fates: &mut [u8],
+    rows: &mut [u64],
+    state: State,
+    action: u64,
+    committed: bool,
+) -> Done
+    ensures { λ r. ⌜ leftBy r (now (sheet .exit)) (now (fates .exit)) (now (rows .exit)) ≡ callLeaves (now (sheet .entry)) (now (fates .entry)) (now (rows .entry)) state (Call.decide action committed) ⌝ }
+{
+    let line = decide_line(&sheet[..], &fates[..], &rows[..], state, action);
+    if line != 0 {
+        return refuse(line, state);
+    }
+    let end = state.end;
+    let files = (rows.len() / ROW_LENGTH) as u64;
+    settle_rows(&sheet[..], rows, files, end, action, committed);
+    let page = outcome_page(action, committed);
+    append(sheet, end, files, page, &[0u8; 32]);
+    fates[action as usize - 1] = outcome_fate(committed);
+    Done {
+        answer: Answer::Stored(end + 1),
+        state: State {
+            end: end + 1,
+            floor: state.floor,
+            undecided: less_one(state.undecided),
+        },
+    }
+}
+
+// Commits an action.
+pub fn commit(
+    sheet: &mut [u8],
+    fates: &mut [u8],
+    rows: &mut [u64],
+    state: State,
+    action: u64,
+) -> Done
+    ensures { λ r. ⌜ leftBy r (now (sheet .exit)) (now (fates .exit)) (now (rows .exit)) ≡ callLeaves (now (sheet .entry)) (now (fates .entry)) (now (rows .entry)) state (Call.decide action true) ⌝ }
+{
+    decide(sheet, fates, rows, state, action, true)
+}
+
+// Aborts an action.
+pub fn abort(
+    sheet: &mut [u8],
+    fates: &mut [u8],
+    rows: &mut [u64],
+    state: State,
+    action: u64,
+) -> Done
+    ensures { λ r. ⌜ leftBy r (now (sheet .exit)) (now (fates .exit)) (now (rows .exit)) ≡ callLeaves (now (sheet .entry)) (now (fates .entry)) (now (rows .entry)) state (Call.decide action false) ⌝ }
+{
+    decide(sheet, fates, rows, state, action, false)
+}
