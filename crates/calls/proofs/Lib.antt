@@ -7,3 +7,11 @@ pub mod Once
 pub mod DecideLines
 pub mod DecideRows
 pub mod DecideEnds
+pub mod ReadLines
+pub mod ReadImages
+pub mod ReadWalks
+pub mod ReadWarming
+pub mod ReadEnds
+pub mod WritePads
+pub mod WriteAnswers
+pub mod WriteEnds

@@ -2,8 +2,12 @@
 // call left them, trusts none of it, and answers with the state that the next one gets.
 mod appending;
 mod deciding;
+mod reading;
+mod writing;
 
 pub use deciding::abort;
 pub use deciding::begin;
 pub use deciding::commit;
 pub use deciding::test;
+pub use reading::read;
+pub use writing::write;

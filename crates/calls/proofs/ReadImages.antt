@@ -1,0 +1,154 @@
+-- Sealed images as the code finds them: what the page at a place then holds, and line 7 for a row. Assumes nothing.
+use Prim.Native.Nat.{ℕ, zero, suc, _*_, _/_, _≤_, _<_}
+use mathlib.Core.Path.{_≡_, refl, sym, ap, ap₂, _∙_}
+use mathlib.Core.Bool.{Bool, true, false, cond, _&&_, _||_}
+use mathlib.Core.List.{List}
+use mathlib.Core.Option.{some, none}
+use native.Mathlib.Omega.{arith}
+use lib.ListN.{length, drop, length-take, length-drop}
+use lib.Dec.{eqb, leb}
+use borrow.Author.Tests.{eq-eqb, ne-eqb, le-leb, lt-leb, eqb-true, leb-true, leb-false}
+use Rattle.encoding.proofs.Logic.{and-true, and-false}
+use Rattle.page.specs.declared.Page.{Page}
+use Rattle.page.specs.declared.Unpacked.{Unpacked}
+use Rattle.page.specs.declared.Unpacked.the-variants.{Refused, Blank, Torn, Opening, Image, Outcome, Unfit}
+use Rattle.page.specs.declared.Sought as sought
+use Rattle.page.specs.declared.Sought.{Sought}
+use Rattle.page.specs.Layout.{pageSize}
+use Rattle.page.specs.Answers.{tested, onImage}
+use Rattle.page.proofs.Found.{ImageIs, image-is, found}
+use Rattle.recovery.specs.Places.{nth}
+use Rattle.recovery.specs.Log.{blank}
+use Rattle.recovery.specs.Sheet.{pageBytes, entryOf, imageFrom, isOpening, seal, decoded}
+use Rattle.recovery.specs.World.{isImageOf, rowHolds}
+use Rattle.recovery.specs.Lent.{pagesOf}
+use Rattle.recovery.specs.Steps.{sealedImage, placeHoldsIn, rowHoldsIn}
+use Rattle.recovery.specs.declared.Row.{Row}
+use Rattle.recovery.proofs.Pages.{page-at-place, sealed-is}
+use Rattle.recovery.proofs.Held.{held-none, held-above, held-by}
+use Rattle.calls.specs.Calls.{imageOf}
+use Rattle.calls.specs.ReadSteps.{placeKept, rowKept, Looked}
+
+-- ---- what a find tells
+
+pub record Met (files : ℕ) (s : List ℕ) (f p : ℕ) (x : Page) : Type 0 where
+  pub page-is : imageOf (nth blank (pagesOf s files) p) ≡ some (imageFrom (pageBytes s p) x)
+  pub file-is : x .file ≡ f
+  pub rules : ImageIs x p files
+  pub low : 1 ≤ p
+  pub room : pageSize * p ≤ length s
+
+in-room : (s : List ℕ) (p files : ℕ) (x : Page) → Image x ≡ tested (pageBytes s p) p files → (1 ≤ p) × (pageSize * p ≤ length s)
+in-room s zero files x e = let b = found (pageBytes s 0) 0 files (Image x) e .bounds in absurd (omega arith)
+in-room s (suc q) files x e =
+    let b = found (pageBytes s (suc q)) (suc q) files (Image x) e .bounds in
+    (omega arith, omega (arith, b .size-is, length-take pageSize (drop (pageSize * q) s), length-drop (pageSize * q) s))
+
+not-image : {A : Type 0} {x : Page} → sought.Sought.Other ≡ sought.Sought.Image x → A
+not-image e = let z : _≡_ {A = ℕ} 0 1 = cc in absurd (omega arith)
+
+module _ (files : ℕ) (s : List ℕ) (f p : ℕ) (x : Page) where
+  from-image : (y : Page) → Image y ≡ tested (pageBytes s p) p files → (a : Bool) → eqb (y .file) f ≡ a → (o : Bool) → isOpening (decoded files s (y .action)) ≡ o
+      → cond (a && o) (sought.Sought.Image y) sought.Sought.Other ≡ sought.Sought.Image x → Met files s f p x
+  from-image y q true ea true eo k =
+      let z : y ≡ x = cc in
+      let l = in-room s p files y q in
+      let e : imageOf (seal (decoded files s) (entryOf (pageBytes s p) (Image y))) ≡ some (imageFrom (pageBytes s p) x) = rw (eo, z) in
+      record {
+        page-is = ap imageOf (page-at-place files (length s / pageSize) s p (l .0) (omega arith)) ∙ ap imageOf (sym (sealed-is s p files (Image y) q)) ∙ e;
+        file-is = rw z at (eqb-true (y .file) f ea);
+        rules = rw z at (image-is (pageBytes s p) p files y q);
+        low = l .0;
+        room = l .1;
+      }
+  from-image y q true ea false eo k = not-image k
+  from-image y q false ea o eo k = not-image k
+
+  from-test : (u : Unpacked) → u ≡ tested (pageBytes s p) p files
+      → onImage u (λ (y : Page). cond (eqb (y .file) f && isOpening (decoded files s (y .action))) (sought.Sought.Image y) sought.Sought.Other) sought.Sought.Other ≡ sought.Sought.Image x
+      → Met files s f p x
+  from-test Refused q k = not-image k
+  from-test Blank q k = not-image k
+  from-test Torn q k = not-image k
+  from-test (Opening y) q k = not-image k
+  from-test (Outcome y) q k = not-image k
+  from-test Unfit q k = not-image k
+  from-test (Image y) q k = from-image y q (eqb (y .file) f) refl (isOpening (decoded files s (y .action))) refl k
+
+  pub met-at : sealedImage files s f p ≡ sought.Sought.Image x → Met files s f p x
+  unfolding sealedImage
+  met-at e = from-test (tested (pageBytes s p) p files) refl e
+
+pub none-at : (files : ℕ) (s : List ℕ) (f p : ℕ) → sought.Sought.Other ≡ sealedImage files s f p → isImageOf f (nth blank (pagesOf s files) p) ≡ false
+unfolding placeHoldsIn
+none-at files s f zero h = refl
+none-at files s f (suc q) h =
+    let e = held-by s files (suc q) f (suc q) (λ z. omega arith) (omega arith) sought.Sought.Other h in
+    sym (simp (ne-eqb (suc q) 0 (λ z. omega arith), le-leb (suc q) (suc q) (omega arith)) at e)
+
+-- ---- line 7
+
+module _ (e p : ℕ) where
+  pub place-zero : p ≡ 0 → (u : Sought) → true ≡ placeKept e p u
+  unfolding placeKept
+  place-zero h u = simp (eq-eqb p 0 h)
+
+  pub place-above : (p ≡ 0 → ⊥) → e < p → (u : Sought) → false ≡ placeKept e p u
+  unfolding placeKept
+  place-above z h u = simp (ne-eqb p 0 z, lt-leb p e h)
+
+  module _ (z : p ≡ 0 → ⊥) (h : p ≤ e) (u : Sought) where
+    pub place-image : (x : Page) → u ≡ sought.Sought.Image x → true ≡ placeKept e p u
+    unfolding placeKept
+    place-image x i = rw i (simp (ne-eqb p 0 z, le-leb p e h))
+
+    pub place-other : u ≡ sought.Sought.Other → false ≡ placeKept e p u
+    unfolding placeKept
+    place-other i = rw i (simp (ne-eqb p 0 z, le-leb p e h))
+
+module _ (files : ℕ) (s : List ℕ) (e f p : ℕ) where
+  held-kept : (u : Sought) → u ≡ sealedImage files s f p → placeKept e p u ≡ placeHoldsIn s files e f p
+  held-kept u h = go (eqb p 0) refl
+    where
+      inner : (p ≡ 0 → ⊥) → (b : Bool) → leb p e ≡ b → (v : Sought) → v ≡ sealedImage files s f p → placeKept e p v ≡ placeHoldsIn s files e f p
+      inner z true k (sought.Sought.Image x) i = sym (place-image e p z (leb-true p e k) _ x refl) ∙ held-by s files e f p z (leb-true p e k) _ i
+      inner z true k sought.Sought.Other i = sym (place-other e p z (leb-true p e k) _ refl) ∙ held-by s files e f p z (leb-true p e k) _ i
+      inner z false k v i = sym (place-above e p z (leb-false p e k) v) ∙ held-above s files e f p z (leb-false p e k)
+
+      go : (b : Bool) → eqb p 0 ≡ b → placeKept e p u ≡ placeHoldsIn s files e f p
+      go true k = let z : p ≡ 0 = eqb-true p 0 k in sym (place-zero e p z u) ∙ held-none s files e f p z
+      go false k = inner (λ z. let y : true ≡ false = sym (eq-eqb p 0 z) ∙ k in let q : _≡_ {A = ℕ} 0 1 = cc in omega arith) (leb p e) refl u h
+
+  -- what was found at a place that line 7 lets through
+  pub looked : (u : Sought) → u ≡ sealedImage files s f p → placeKept e p u ≡ true → Looked files s f p u
+  unfolding placeKept
+  looked (sought.Sought.Image x) h k = record { found = h; image-is = met-at files s f p x (sym h) .page-is }
+  looked sought.Sought.Other h k = record { found = h; image-is = go p k }
+    where
+      go : (p : ℕ) → (eqb p 0 || (leb p e && false)) ≡ true → imageOf (nth blank (pagesOf s files) p) ≡ none
+      go zero q = refl
+      go (suc j) q = let y : false ≡ true = simp (ne-eqb (suc j) 0 (λ z. omega arith), and-false (leb (suc j) e) false refl) at q in let r : _≡_ {A = ℕ} 0 1 = cc in absurd (omega arith)
+
+module _ (files : ℕ) (s : List ℕ) (e f : ℕ) (r : Row) (u v : Sought) (hu : u ≡ sealedImage files s f (r .current)) (hv : v ≡ sealedImage files s f (r .token)) where
+  pub row-kept : rowKept e r u v ≡ rowHoldsIn s files e f r
+  unfolding rowKept rowHoldsIn rowHolds placeHoldsIn
+  row-kept = ap₂ _&&_ (ap (λ (b : Bool). leb (r .mark) 1 && b) (held-kept files s e f (r .current) u hu)) (held-kept files s e f (r .token) v hv)
+
+  module _ (k : rowKept e r u v ≡ true) where
+    pub looked-current : Looked files s f (r .current) u
+    unfolding rowKept
+    looked-current = looked files s e f (r .current) u hu (and-true (leb (r .mark) 1) (placeKept e (r .current) u) (and-true (leb (r .mark) 1 && placeKept e (r .current) u) (placeKept e (r .token) v) k .0) .1)
+
+    pub looked-token : Looked files s f (r .token) v
+    unfolding rowKept
+    looked-token = looked files s e f (r .token) v hv (and-true (leb (r .mark) 1 && placeKept e (r .current) u) (placeKept e (r .token) v) k .1)
+
+    pub no-token : v ≡ sought.Sought.Other → r .token ≡ 0
+    unfolding rowKept placeKept
+    no-token i =
+        let q : placeKept e (r .token) v ≡ true = and-true (leb (r .mark) 1 && placeKept e (r .current) u) (placeKept e (r .token) v) k .1 in
+        go (eqb (r .token) 0) refl (rw i at q)
+      where
+        go : (b : Bool) → eqb (r .token) 0 ≡ b → (b || (leb (r .token) e && false)) ≡ true → r .token ≡ 0
+        go true p q = eqb-true (r .token) 0 p
+        go false p q = let y : false ≡ true = sym (and-false (leb (r .token) e) false refl) ∙ q in let z : _≡_ {A = ℕ} 0 1 = cc in absurd (omega arith)

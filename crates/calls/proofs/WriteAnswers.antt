@@ -1,0 +1,91 @@
+-- Lines 7 to 12 of write as the code tests them, on a warm row. Assumes nothing.
+use Prim.Native.Nat.{ℕ, suc, _+_, _-_, _/_, _≤_, _<_}
+use mathlib.Core.Path.{_≡_, sym, ap, _∙_}
+use mathlib.Core.Bool.{Bool, true, false, cond}
+use mathlib.Core.List.{List}
+use native.Mathlib.Omega.{arith}
+use native.Mathlib.Numerals.{add-one}
+use lib.ListN.{length}
+use borrow.Author.Tests.{eq-eqb, ne-eqb, le-leb, lt-leb, lt-ltb, le-ltb}
+use Rattle.page.specs.declared.Page.{Page}
+use Rattle.page.specs.declared.Sought as sought
+use Rattle.page.specs.declared.Sought.{Sought}
+use Rattle.page.specs.Layout.{pageSize}
+use Rattle.recovery.specs.Places.{nth}
+use Rattle.recovery.specs.Log.{blank}
+use Rattle.recovery.specs.Sheet.{sealed}
+use Rattle.recovery.specs.declared.Row.{Row}
+use Rattle.recovery.specs.declared.State.{State}
+use Rattle.recovery.specs.declared.Answer.{Answer}
+use Rattle.recovery.specs.declared.Answer.the-variants.{Refused, Stored}
+use Rattle.recovery.specs.World.{isBlank}
+use Rattle.recovery.specs.Lent.{pagesOf}
+use Rattle.recovery.specs.Steps.{sealedImage, rowHoldsIn}
+use Rattle.recovery.proofs.Pages.{pages-long, page-here}
+use Rattle.calls.specs.Calls.{imageOf, actionOf}
+use Rattle.calls.specs.ReadSteps.{rowKept, storeAnswer, writeAnswer}
+use Rattle.calls.proofs.ReadImages.{met-at, row-kept, no-token}
+
+-- ---- lines 10 to 12
+
+module _ (s : List ℕ) (files : ℕ) (st : State) (t : ℕ) (r : Row) where
+  pub store-10 : t ≤ r .currentend → Refused 10 0 ≡ storeAnswer s files st t r
+  unfolding storeAnswer
+  store-10 k = simp (le-ltb (r .currentend) t k)
+
+  module _ (c : r .currentend < t) where
+    pub store-floor : t ≤ st .floor → Refused 10 0 ≡ storeAnswer s files st t r
+    unfolding storeAnswer
+    store-floor k = simp (lt-ltb (r .currentend) t c, le-ltb (st .floor) t k)
+
+    module _ (d : st .floor < t) where
+      pub store-11 : length s / pageSize - st .end ≤ st .undecided → Refused 11 0 ≡ storeAnswer s files st t r
+      unfolding storeAnswer
+      store-11 k =
+          let l : length s / pageSize - st .end < st .undecided + 1 = omega arith in
+          simp (lt-ltb (r .currentend) t c, lt-ltb (st .floor) t d, pages-long files (length s / pageSize) s, lt-leb (st .undecided + 1) (length s / pageSize - st .end) l)
+
+      module _ (m : st .undecided < length s / pageSize - st .end) (o : Bool) (ho : o ≡ isBlank (sealed files s (st .end + 1))) where
+        by-blank : storeAnswer s files st t r ≡ cond o (Stored (suc (st .end))) (Refused 12 0)
+        unfolding storeAnswer
+        by-blank =
+            let l : st .undecided + 1 ≤ length s / pageSize - st .end = omega arith in
+            let e : isBlank (sealed files s (suc (st .end))) ≡ o = sym (rw add-one at ho) in
+            simp (
+              lt-ltb (r .currentend) t c,
+              lt-ltb (st .floor) t d,
+              pages-long files (length s / pageSize) s,
+              le-leb (st .undecided + 1) (length s / pageSize - st .end) l,
+              page-here files (length s / pageSize) s (st .end) (omega arith),
+              e,
+            )
+
+        pub store-12 : o ≡ false → Refused 12 0 ≡ storeAnswer s files st t r
+        store-12 q = sym (by-blank ∙ rw q)
+
+        pub store-yes : o ≡ true → Stored (st .end + 1) ≡ storeAnswer s files st t r
+        store-yes q = rw add-one (sym (by-blank ∙ rw q))
+
+-- ---- lines 7 and 8
+
+module _ (s : List ℕ) (files : ℕ) (st : State) (f t : ℕ) (r : Row) (u v : Sought) (hu : u ≡ sealedImage files s f (r .current)) (hv : v ≡ sealedImage files s f (r .token)) where
+  pub write-7 : rowKept (st .end) r u v ≡ false → Refused 7 0 ≡ writeAnswer s files st f t r
+  unfolding writeAnswer
+  write-7 h =
+      let k : rowHoldsIn s files (st .end) f r ≡ false = sym (row-kept files s (st .end) f r u v hu hv) ∙ h in
+      simp k
+
+  module _ (h : rowKept (st .end) r u v ≡ true) where
+    held : rowHoldsIn s files (st .end) f r ≡ true
+    held = sym (row-kept files s (st .end) f r u v hu hv) ∙ h
+
+    pub write-8 : (x : Page) → v ≡ sought.Sought.Image x → Refused 8 (x .action) ≡ writeAnswer s files st f t r
+    unfolding writeAnswer
+    write-8 x i =
+        let m = met-at files s f (r .token) x (sym hv ∙ i) in
+        let k : actionOf (imageOf (nth blank (pagesOf s files) (r .token))) ≡ x .action = ap actionOf (m .page-is) in
+        simp (held, ne-eqb (r .token) 0 (λ z. omega arith), k)
+
+    pub write-store : v ≡ sought.Sought.Other → (q : Answer) → q ≡ storeAnswer s files st t r → q ≡ writeAnswer s files st f t r
+    unfolding writeAnswer
+    write-store i q hq = simp (held, eq-eqb (r .token) 0 (no-token files s (st .end) f r u v hu hv h i)) hq

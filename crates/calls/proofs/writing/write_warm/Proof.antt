@@ -1,0 +1,83 @@
+-- `calls::writing::write_warm`: a refusal on a warm row, or the page and the row written. Assumes nothing.
+use mathlib.Core.Path.{sym, _∙_}
+use denote.Ref.{now}
+use lib.ListN.{length}
+use native.Mathlib.Omega.{arith}
+use Rattle.calls.proofs.WriteEnds.{write-refused, append-asked, write-done}
+use Rattle.calls.proofs.Ends.{lent-is}
+use borrow.Author.Needs.{needs}
+use Rattle.calls.proofs.writing.write_warm.Statement.{statement}
+use Rattle.calls.proofs.writing.write_warm.Tie as tie
+
+warm-row-requires : tie.Need-warm-row-requires
+warm-row-requires c κs = search needs
+
+write-answer-requires : tie.Need-write-answer-requires
+write-answer-requires c κs =
+    let b = c .before .before .before .before .before .before .before .before .before .before in
+    let a = b .args in
+    lent-is (length (now (a .sheet))) (length (now (a .fates))) (length (now (a .rows))) (a .state .end) (a .state .undecided) (b .pre .0) .end-in
+
+enum-known-answer : tie.Need-enum-known-answer
+enum-known-answer c = search needs
+
+same-length : tie.Need-same-length
+same-length c = search needs
+
+same-length-2 : tie.Need-same-length-2
+same-length-2 c = search needs
+
+returns : tie.Need-returns
+returns c =
+    let b = c .before .before .before .before .before .before .before .before .before .before .before .before in
+    let a = b .args in
+    write-refused (now (a .sheet)) (now (a .fates)) (now (a .rows)) (a .state) (b .pre .0) (a .file) (a .start) (a .action) (now (a .value)) (b .pre .1) (b .pre .2) (b .pre .3) _ _ (c .before .before .before .before .before .warm-row .ensures) (c .before .write-answer .result) (c .before .write-answer .ensures) (c .match .keys2)
+
+written-row-requires : tie.Need-written-row-requires
+written-row-requires c κs = search needs
+
+set-row-requires : tie.Need-set-row-requires
+set-row-requires c κs = search needs
+
+image-page-requires : tie.Need-image-page-requires
+image-page-requires c κs = search needs
+
+pad-requires : tie.Need-pad-requires
+pad-requires c κs = c .before .before .before .before .before .before .before .before .before .before .before .before .before .before .before .before .before .before .before .before .pre .2
+
+append-requires : tie.Need-append-requires
+append-requires c κs =
+    let b = c .before .before .before .before .before .before .before .before .before .before .before .before .before .before .before .before .before .before .before .before .before .before .before in
+    let a = b .args in
+    append-asked (now (a .sheet)) (now (a .fates)) (now (a .rows)) (a .state) (b .pre .0) (a .file) (a .start) (a .action) (now (a .value)) (b .pre .1) (b .pre .2) (b .pre .3) _ _ (c .before .before .before .before .before .before .before .before .before .before .before .before .before .before .before .before .warm-row .ensures) _ (sym (c .before .before .before .before .before .before .before .before .before .before .answer .given .1) ∙ c .before .before .before .before .before .before .before .before .before .before .before .before .write-answer .ensures) (b .fits .start .fits) _ (c .before .before .before .image-page .ensures) _ (c .before .before .pad .ensures)
+
+same-length-3 : tie.Need-same-length-3
+same-length-3 c = search needs
+
+same-length-4 : tie.Need-same-length-4
+same-length-4 c = omega (arith, c .before .before .before .before .before .before .before .before .before .set-row .kept, c .before .before .before .before .before .before .before .before .before .before .before .before .before .before .before .before .before .before .before .warm-row .kept)
+
+returns-2 : tie.Need-returns-2
+returns-2 c =
+    let b = c .before .before .before .before .before .before .before .before .before .before .before .before .before .before .before .before .before .before .before .before .before .before .before .before .before .before in
+    let a = b .args in
+    write-done (now (a .sheet)) (now (a .fates)) (now (a .rows)) (a .state) (b .pre .0) (a .file) (a .start) (a .action) (now (a .value)) (b .pre .1) (b .pre .2) (b .pre .3) _ _ (c .before .before .before .before .before .before .before .before .before .before .before .before .before .before .before .before .before .before .before .warm-row .ensures) _ (sym (c .before .before .before .before .before .before .before .before .before .before .before .before .before .answer .given .1) ∙ c .before .before .before .before .before .before .before .before .before .before .before .before .before .before .before .write-answer .ensures) _ (c .before .before .before .before .before .before .image-page .ensures) _ (c .before .before .before .before .before .before .before .before .before .before .written-row .ensures) _ _ _ (c .before .before .before .before .before .pad .ensures) (c .before .before .append .ensures) (c .before .before .before .before .before .before .before .before .before .set-row .ensures)
+
+pub write-warm-spec : {M : Type 1} → statement M
+write-warm-spec =
+    tie.close
+    (tie.spec
+    warm-row-requires
+    write-answer-requires
+    enum-known-answer
+    same-length
+    same-length-2
+    returns
+    written-row-requires
+    set-row-requires
+    image-page-requires
+    pad-requires
+    append-requires
+    same-length-3
+    same-length-4
+    returns-2)

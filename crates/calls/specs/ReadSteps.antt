@@ -1,0 +1,94 @@
+-- What smaller functions of read and write answer. A reader of document 01 can pass this file over: the laws join it to `on`.
+use mathlib.Core.Path.{_≡_}
+use mathlib.Core.List.{List}
+use mathlib.Core.Bool.{Bool, true, false, cond, _&&_, _||_}
+use mathlib.Core.Option.{Option, some, none}
+use Prim.Native.Nat.{ℕ, suc, _+_, _-_}
+use lib.ListN.{length}
+use lib.Dec.{eqb, leb, ltb}
+use Rattle.page.specs.declared.Page.{Page}
+use Rattle.page.specs.declared.Sought as sought
+use Rattle.page.specs.declared.Sought.{Sought}
+use Rattle.recovery.specs.Places.{nth, put}
+use Rattle.recovery.specs.Log.{Image, blank}
+use Rattle.recovery.specs.Sheet.{pageBytes, imageFrom}
+use Rattle.recovery.specs.declared.Row.{Row}
+use Rattle.recovery.specs.declared.State.{State}
+use Rattle.recovery.specs.declared.Answer.{Answer}
+use Rattle.recovery.specs.declared.Answer.the-variants.{Refused, Stored, Nothing}
+use Rattle.recovery.specs.World.{World, fateIn, withRow, isBlank}
+use Rattle.recovery.specs.Lent.{pagesOf}
+use Rattle.recovery.specs.Steps.{sealedImage, rowHoldsIn}
+use Rattle.calls.specs.declared.reading.Reading.{Reading}
+use Rattle.calls.specs.Walk.{Walk, met, nothing, lost, endless, follow}
+use Rattle.calls.specs.Calls.{isKnown, isDecided, imageOf, actionOf, valueOf, onVersions, onRead}
+
+-- lines 5 and 6: the one that refuses, or 0
+unfoldable pub actionLine : List ℕ → ℕ → ℕ → ℕ
+actionLine fates end a = cond (leb 1 a && leb a end && isKnown (fateIn fates a)) (cond (isDecided (fateIn fates a)) 6 0) 5
+
+unfoldable pub readLine : List ℕ → ℕ → ℕ → ℕ
+readLine fates end a = cond (eqb a 0) 0 (actionLine fates end a)
+
+-- line 7, by what was found at the places of a row
+abbrev pub isFound : Sought → Bool
+isFound (sought.Sought.Image x) = true
+isFound sought.Sought.Other = false
+
+unfoldable pub placeKept : ℕ → ℕ → Sought → Bool
+placeKept end place u = eqb place 0 || (leb place end && isFound u)
+
+unfoldable pub rowKept : ℕ → Row → Sought → Sought → Bool
+rowKept end r u v = leb (r .mark) 1 && placeKept end (r .current) u && placeKept end (r .token) v
+
+-- the image of a page's bytes, by the fields that were found
+abbrev pub imageBy : List ℕ → Sought → Option Image
+imageBy b (sought.Sought.Image x) = some (imageFrom b x)
+imageBy b sought.Sought.Other = none
+
+-- a place of a row that line 7 lets through, and what was found there
+pub record Looked (files : ℕ) (s : List ℕ) (file place : ℕ) (u : Sought) : Type 0 where
+  pub found : u ≡ sealedImage files s file place
+  pub image-is : imageOf (nth blank (pagesOf s files) place) ≡ imageBy (pageBytes s place) u
+
+-- what a walk answers, and the walk from a place whose page has these fields, with room for so many links
+abbrev pub walkAnswer : Walk → Answer
+walkAnswer (met x) = valueOf x
+walkAnswer nothing = Nothing
+walkAnswer (lost place) = Refused 13 place
+walkAnswer endless = Refused 14 0
+
+unfoldable pub walkAt : ℕ → List ℕ → ℕ → ℕ → ℕ → ℕ → Page → Answer
+walkAt files s file time n place x =
+    walkAnswer (follow (λ p. nth blank (pagesOf s files) p) file time n (record { place = place; image = imageFrom (pageBytes s place) x }))
+
+-- a read of a warm row: its answer and the row that it leaves, in any world whose row it is
+abbrev pub world : ℕ → List ℕ → ℕ → List ℕ → List Row → ℕ → ℕ → World
+world files s end fates rows floor n = record { sheet = pagesOf s files; fates = fates; rows = rows; end = end; floor = floor; undecided = n }
+
+pub record Versions (files : ℕ) (s : List ℕ) (file time : ℕ) (r : Row) (x : Reading) : Type 0 where
+  pub is : (end : ℕ) (fates : List ℕ) (rows : List Row) (floor n : ℕ) → put rows file r ≡ rows
+      → onVersions (world files s end fates rows floor n) file time r ≡ (x .answer, withRow (world files s end fates rows floor n) file (x .row))
+
+pub record Reads (files : ℕ) (s : List ℕ) (end file time action : ℕ) (r : Row) (x : Reading) : Type 0 where
+  pub is : (fates : List ℕ) (rows : List Row) (floor n : ℕ) → put rows file r ≡ rows
+      → onRead (world files s end fates rows floor n) file time action r ≡ (x .answer, withRow (world files s end fates rows floor n) file (x .row))
+
+-- lines 10 to 12 of write, and 7 to 12: what is answered on a warm row
+unfoldable pub storeAnswer : List ℕ → ℕ → State → ℕ → Row → Answer
+storeAnswer s files state start r =
+    cond (ltb (r .currentend) start && ltb (state .floor) start)
+    (cond (leb (state .undecided + 1) (length (pagesOf s files) - state .end))
+    (cond (isBlank (nth blank (pagesOf s files) (suc (state .end)))) (Stored (suc (state .end))) (Refused 12 0))
+    (Refused 11 0))
+    (Refused 10 0)
+
+unfoldable pub writeAnswer : List ℕ → ℕ → State → ℕ → ℕ → Row → Answer
+writeAnswer s files state file start r =
+    cond (rowHoldsIn s files (state .end) file r)
+    (cond (eqb (r .token) 0) (storeAnswer s files state start r) (Refused 8 (actionOf (imageOf (nth blank (pagesOf s files) (r .token))))))
+    (Refused 7 0)
+
+-- the row once an image was written at a place
+abbrev pub written : Row → ℕ → ℕ → Row
+written r place start = record { mark = 1; current = r .current; currentend = r .currentend; token = place; tokenend = start }

@@ -1,0 +1,262 @@
+// Read: the value of a file at a time, for an action or for none.
+use page::Page;
+use page::Sought;
+use recovery::Answer;
+use recovery::Done;
+use recovery::ROW_LENGTH;
+use recovery::Row;
+use recovery::State;
+use recovery::fate_at;
+use recovery::image_at;
+use recovery::is_file;
+use recovery::is_lent_right;
+use recovery::refuse;
+use recovery::set_row;
+use recovery::warm_row;
+ghost use mathlib.Core.Bool.{true};
+ghost use mathlib.Core.Path.{_≡_};
+ghost use Prim.Native.Nat.{max, _/_};
+ghost use lib.ListN.{length};
+ghost use Rattle.page.specs.Layout.{pageSize};
+ghost use Rattle.page.specs.declared.Sought as sought;
+ghost use Rattle.recovery.specs.World.{isFile};
+ghost use Rattle.recovery.specs.Lent.{leftBy, rowLength};
+ghost use Rattle.recovery.specs.Steps.{lineOne, sealedImage};
+ghost use Rattle.calls.specs.Calls.{Call, readCurrent, readToken};
+ghost use Rattle.calls.specs.Effect.{callLeaves};
+ghost use Rattle.calls.specs.ReadSteps.{actionLine, readLine, placeKept, rowKept, walkAt, Looked, Versions, Reads};
+
+// What a read of a warm row answers, and the row that it leaves.
+struct Reading {
+    answer: Answer,
+    row: Row,
+}
+
+fn later(a: u64, b: u64) -> u64
+    ensures { λ r. ⌜ r ≡ max a b ⌝ }
+{
+    if a < b {
+        return b;
+    }
+    a
+}
+
+// The row once its current version was read at a time, and once its token was.
+fn current_read(row: Row, time: u64) -> Row
+    ensures { λ r. ⌜ r ≡ readCurrent time true row ⌝ }
+{
+    Row {
+        mark: row.mark,
+        current: row.current,
+        currentend: later(row.currentend, time),
+        token: row.token,
+        tokenend: row.tokenend,
+    }
+}
+
+fn token_read(row: Row, time: u64) -> Row
+    ensures { λ r. ⌜ r ≡ readToken time row ⌝ }
+{
+    Row {
+        mark: row.mark,
+        current: row.current,
+        currentend: row.currentend,
+        token: row.token,
+        tokenend: later(row.tokenend, time),
+    }
+}
+
+// Lines 5 and 6: the one that refuses an action, or 0.
+pub(crate) fn action_line(fates: &[u8], end: u64, action: u64) -> u64
+    ensures { λ r. ⌜ r ≡ actionLine (now (fates .entry)) end action ⌝ }
+{
+    let fate = fate_at(fates, action);
+    let known = (1 <= action) & (action <= end) & ((1 <= fate) & (fate <= 3));
+    if !known {
+        return 5;
+    }
+    if fate != 1 {
+        return 6;
+    }
+    0
+}
+
+// Lines 5 and 6 of read, which are passed over for action 0.
+fn read_line(fates: &[u8], end: u64, action: u64) -> u64
+    ensures { λ r. ⌜ r ≡ readLine (now (fates .entry)) end action ⌝ }
+{
+    if action == 0 {
+        return 0;
+    }
+    action_line(fates, end, action)
+}
+
+// Line 7 for a place of a row, by what was found there.
+fn is_place_kept(end: u64, place: u64, found: Sought) -> bool
+    ensures { λ r. ⌜ r ≡ placeKept end place found ⌝ }
+{
+    if place == 0 {
+        return true;
+    }
+    if end < place {
+        return false;
+    }
+    match found {
+        Sought::Image(_) => true,
+        Sought::Other => false,
+    }
+}
+
+// Line 7, by what was found at both places of a row.
+pub(crate) fn is_row_kept(end: u64, row: Row, current: Sought, token: Sought) -> bool
+    ensures { λ r. ⌜ r ≡ rowKept end row current token ⌝ }
+{
+    (row.mark <= 1)
+        & is_place_kept(end, row.current, current)
+        & is_place_kept(end, row.token, token)
+}
+
+// The first image from a place down the links whose start is not above a time.
+fn walk(sheet: &[u8], files: u64, file: u64, time: u64, from: u64, first: Page) -> Answer
+    requires { ⌜ sealedImage files (now sheet) file from ≡ sought.Sought.Image first ⌝ }
+    ensures { λ r. ⌜ r ≡ walkAt files (now (sheet .entry)) file time (length (now (sheet .entry)) / pageSize) from first ⌝ }
+{
+    let mut place = from;
+    let mut x = first;
+    let mut left = sheet.len() / Page::SIZE;
+    loop {
+        if x.start <= time {
+            return Answer::Value(place, x.start, x.small);
+        }
+        let next = x.link;
+        if next == 0 {
+            return Answer::Nothing;
+        }
+        let found = image_at(sheet, files, file, next);
+        let Sought::Image(y) = found else {
+            return Answer::Refused(13, place);
+        };
+        if left == 0 {
+            return Answer::Refused(14, 0);
+        }
+        left -= 1;
+        place = next;
+        x = y;
+    }
+}
+
+// A read of the committed versions, from what was found at the row's current place.
+fn read_versions(
+    sheet: &[u8],
+    files: u64,
+    file: u64,
+    time: u64,
+    row: Row,
+    current: Sought,
+) -> Reading
+    requires { ⌜ Looked files (now sheet) file (row .current) current ⌝ }
+    ensures { λ r. ⌜ Versions files (now (sheet .entry)) file time row r ⌝ }
+{
+    let reached = current_read(row, time);
+    let Sought::Image(x) = current else {
+        return Reading {
+            answer: Answer::Nothing,
+            row: reached,
+        };
+    };
+    let answer = walk(sheet, files, file, time, row.current, x);
+    if time < x.start {
+        return Reading { answer, row };
+    }
+    Reading {
+        answer,
+        row: reached,
+    }
+}
+
+// Lines 7 to 14 of read on a warm row. Each place of the row is looked at once.
+fn read_row(
+    sheet: &[u8],
+    files: u64,
+    end: u64,
+    file: u64,
+    time: u64,
+    action: u64,
+    row: Row,
+) -> Reading
+    ensures { λ r. ⌜ Reads files (now (sheet .entry)) end file time action row r ⌝ }
+{
+    let current = image_at(sheet, files, file, row.current);
+    let token = image_at(sheet, files, file, row.token);
+    if !is_row_kept(end, row, current, token) {
+        return Reading {
+            answer: Answer::Refused(7, 0),
+            row,
+        };
+    }
+    let Sought::Image(x) = token else {
+        return read_versions(sheet, files, file, time, row, current);
+    };
+    if time < x.start {
+        return read_versions(sheet, files, file, time, row, current);
+    }
+    if x.action != action {
+        return Reading {
+            answer: Answer::Refused(9, x.action),
+            row,
+        };
+    }
+    Reading {
+        answer: Answer::Value(row.token, x.start, x.small),
+        row: token_read(row, time),
+    }
+}
+
+// Read, where no line before 7 refuses.
+fn read_warm(
+    sheet: &[u8],
+    fates: &[u8],
+    rows: &mut [u64],
+    state: State,
+    file: u64,
+    time: u64,
+    action: u64,
+) -> Done
+    requires { ⌜ (lineOne (length (now sheet)) (length (now fates)) (length (now rows)) (state .end) (state .undecided) ≡ true) × (isFile (length (now rows) / rowLength) file ≡ true) × (readLine (now fates) (state .end) action ≡ 0) ⌝ }
+    ensures { λ r. ⌜ leftBy r (now (sheet .entry)) (now (fates .entry)) (now (rows .exit)) ≡ callLeaves (now (sheet .entry)) (now (fates .entry)) (now (rows .entry)) state (Call.read file time action) ⌝ }
+{
+    let end = state.end;
+    let files = (rows.len() / ROW_LENGTH) as u64;
+    let row = warm_row(sheet, fates, rows, file, end);
+    let reading = read_row(sheet, files, end, file, time, action, row);
+    let new = reading.row;
+    set_row(rows, file, new);
+    let answer = reading.answer;
+    Done { answer, state }
+}
+
+// Reads a file at a time, for an action or, with action 0, for none.
+pub fn read(
+    sheet: &[u8],
+    fates: &[u8],
+    rows: &mut [u64],
+    state: State,
+    file: u64,
+    time: u64,
+    action: u64,
+) -> Done
+    ensures { λ r. ⌜ leftBy r (now (sheet .entry)) (now (fates .entry)) (now (rows .exit)) ≡ callLeaves (now (sheet .entry)) (now (fates .entry)) (now (rows .entry)) state (Call.read file time action) ⌝ }
+{
+    if !is_lent_right(sheet.len(), fates.len(), rows.len(), state) {
+        return refuse(1, state);
+    }
+    let files = (rows.len() / ROW_LENGTH) as u64;
+    if !is_file(files, file) {
+        return refuse(3, state);
+    }
+    let line = read_line(fates, state.end, action);
+    if line != 0 {
+        return refuse(line, state);
+    }
+    read_warm(sheet, fates, rows, state, file, time, action)
+}

@@ -1,0 +1,173 @@
+// Write: a value of a file under an action, as the file's token.
+use crate::appending::append;
+use crate::appending::is_blank_at;
+use crate::reading::action_line;
+use crate::reading::is_row_kept;
+use page::Page;
+use page::Sought;
+use recovery::Answer;
+use recovery::Done;
+use recovery::ROW_LENGTH;
+use recovery::Row;
+use recovery::State;
+use recovery::image_at;
+use recovery::is_file;
+use recovery::is_lent_right;
+use recovery::refuse;
+use recovery::set_row;
+use recovery::warm_row;
+ghost use mathlib.Core.Bool.{true};
+ghost use mathlib.Core.Path.{_≡_};
+ghost use Prim.Native.Nat.{_/_, _≤_};
+ghost use lib.ListN.{length};
+ghost use Rattle.page.specs.Layout.{pageSize, valueSize};
+ghost use Rattle.page.specs.Table.{image};
+ghost use Rattle.recovery.specs.World.{isFile};
+ghost use Rattle.recovery.specs.Lent.{leftBy, rowLength};
+ghost use Rattle.recovery.specs.Steps.{lineOne};
+ghost use Rattle.calls.specs.Calls.{Call};
+ghost use Rattle.calls.specs.Effect.{callLeaves, padded};
+ghost use Rattle.calls.specs.ReadSteps.{actionLine, storeAnswer, writeAnswer, written};
+
+// A value and zeros after it.
+fn pad(value: &[u8]) -> [u8; 32]
+    requires { ⌜ length (now value) ≤ valueSize ⌝ }
+    ensures { λ r. ⌜ r ≡ padded (now (value .entry)) ⌝ }
+{
+    let mut bytes = [0u8; 32];
+    let mut i = 0;
+    while i < value.len() {
+        bytes[i] = value[i];
+        i += 1;
+    }
+    bytes
+}
+
+// Lines 10 to 12 of write.
+fn store_answer(sheet: &[u8], files: u64, state: State, start: u64, row: Row) -> Answer
+    requires { ⌜ state .end ≤ length (now sheet) / pageSize ⌝ }
+    ensures { λ r. ⌜ r ≡ storeAnswer (now (sheet .entry)) files state start row ⌝ }
+{
+    if start <= row.currentend {
+        return Answer::Refused(10, 0);
+    }
+    if start <= state.floor {
+        return Answer::Refused(10, 0);
+    }
+    let pages = (sheet.len() / Page::SIZE) as u64;
+    if pages - state.end <= state.undecided {
+        return Answer::Refused(11, 0);
+    }
+    let place = state.end + 1;
+    if !is_blank_at(sheet, place, files) {
+        return Answer::Refused(12, 0);
+    }
+    Answer::Stored(place)
+}
+
+// Lines 7 to 12 of write on a warm row. Each place of the row is looked at once.
+fn write_answer(sheet: &[u8], files: u64, state: State, file: u64, start: u64, row: Row) -> Answer
+    requires { ⌜ state .end ≤ length (now sheet) / pageSize ⌝ }
+    ensures { λ r. ⌜ r ≡ writeAnswer (now (sheet .entry)) files state file start row ⌝ }
+{
+    let current = image_at(sheet, files, file, row.current);
+    let token = image_at(sheet, files, file, row.token);
+    if !is_row_kept(state.end, row, current, token) {
+        return Answer::Refused(7, 0);
+    }
+    match token {
+        Sought::Image(x) => Answer::Refused(8, x.action),
+        Sought::Other => store_answer(sheet, files, state, start, row),
+    }
+}
+
+// The row once an image was written at a place.
+fn written_row(row: Row, place: u64, start: u64) -> Row
+    ensures { λ r. ⌜ r ≡ written row place start ⌝ }
+{
+    Row {
+        mark: 1,
+        current: row.current,
+        currentend: row.currentend,
+        token: place,
+        tokenend: start,
+    }
+}
+
+fn image_page(size: u64, file: u64, action: u64, link: u64, start: u64) -> Page
+    ensures { λ r. ⌜ r ≡ image size file action link start ⌝ }
+{
+    Page {
+        kind: 2,
+        small: size,
+        file,
+        action,
+        link,
+        start,
+    }
+}
+
+// Write, where no line before 7 refuses.
+fn write_warm(
+    sheet: &mut [u8],
+    fates: &[u8],
+    rows: &mut [u64],
+    state: State,
+    file: u64,
+    start: u64,
+    action: u64,
+    value: &[u8],
+) -> Done
+    requires { ⌜ (lineOne (length (now sheet)) (length (now fates)) (length (now rows)) (state .end) (state .undecided) ≡ true) × (isFile (length (now rows) / rowLength) file ≡ true) × (length (now value) ≤ valueSize) × (actionLine (now fates) (state .end) action ≡ 0) ⌝ }
+    ensures { λ r. ⌜ leftBy r (now (sheet .exit)) (now (fates .entry)) (now (rows .exit)) ≡ callLeaves (now (sheet .entry)) (now (fates .entry)) (now (rows .entry)) state (Call.write file start action (now (value .entry))) ⌝ }
+{
+    let end = state.end;
+    let files = (rows.len() / ROW_LENGTH) as u64;
+    let row = warm_row(&sheet[..], fates, rows, file, end);
+    let answer = write_answer(&sheet[..], files, state, file, start, row);
+    let Answer::Stored(place) = answer else {
+        return Done { answer, state };
+    };
+    set_row(rows, file, written_row(row, place, start));
+    let page = image_page(value.len() as u64, file, action, row.current, start);
+    let bytes = pad(value);
+    append(sheet, end, files, page, &bytes);
+    Done {
+        answer: Answer::Stored(place),
+        state: State {
+            end: place,
+            floor: state.floor,
+            undecided: state.undecided,
+        },
+    }
+}
+
+// Writes a value of a file under an action.
+pub fn write(
+    sheet: &mut [u8],
+    fates: &[u8],
+    rows: &mut [u64],
+    state: State,
+    file: u64,
+    start: u64,
+    action: u64,
+    value: &[u8],
+) -> Done
+    ensures { λ r. ⌜ leftBy r (now (sheet .exit)) (now (fates .entry)) (now (rows .exit)) ≡ callLeaves (now (sheet .entry)) (now (fates .entry)) (now (rows .entry)) state (Call.write file start action (now (value .entry))) ⌝ }
+{
+    if !is_lent_right(sheet.len(), fates.len(), rows.len(), state) {
+        return refuse(1, state);
+    }
+    let files = (rows.len() / ROW_LENGTH) as u64;
+    if !is_file(files, file) {
+        return refuse(3, state);
+    }
+    if Page::VALUE_SIZE < value.len() as u64 {
+        return refuse(4, state);
+    }
+    let line = action_line(fates, state.end, action);
+    if line != 0 {
+        return refuse(line, state);
+    }
+    write_warm(sheet, fates, rows, state, file, start, action, value)
+}
