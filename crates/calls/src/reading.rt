@@ -10,12 +10,13 @@ use recovery::fate_at;
 use recovery::image_at;
 use recovery::is_file;
 use recovery::is_lent_right;
+use recovery::raised_row;
 use recovery::refuse;
 use recovery::set_row;
 use recovery::warm_row;
 ghost use mathlib.Core.Bool.{true};
 ghost use mathlib.Core.Path.{_≡_};
-ghost use Prim.Native.Nat.{max, _/_};
+ghost use Prim.Native.Nat.{_/_};
 ghost use lib.ListN.{length};
 ghost use Rattle.page.specs.Layout.{pageSize};
 ghost use Rattle.page.specs.declared.Sought as sought;
@@ -32,38 +33,17 @@ struct Reading {
     row: Row,
 }
 
-fn later(a: u64, b: u64) -> u64
-    ensures { λ r. ⌜ r ≡ max a b ⌝ }
-{
-    if a < b {
-        return b;
-    }
-    a
-}
-
 // The row once its current version was read at a time, and once its token was.
 fn current_read(row: Row, time: u64) -> Row
     ensures { λ r. ⌜ r ≡ readCurrent time true row ⌝ }
 {
-    Row {
-        mark: row.mark,
-        current: row.current,
-        currentend: later(row.currentend, time),
-        token: row.token,
-        tokenend: row.tokenend,
-    }
+    raised_row(row, time, 0)
 }
 
 fn token_read(row: Row, time: u64) -> Row
     ensures { λ r. ⌜ r ≡ readToken time row ⌝ }
 {
-    Row {
-        mark: row.mark,
-        current: row.current,
-        currentend: row.currentend,
-        token: row.token,
-        tokenend: later(row.tokenend, time),
-    }
+    raised_row(row, 0, time)
 }
 
 // Lines 5 and 6: the one that refuses an action, or 0.

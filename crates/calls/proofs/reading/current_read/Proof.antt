@@ -1,17 +1,20 @@
--- `calls::reading::current_read`: the one number that it changes. Assumes nothing.
-use mathlib.Core.Path.{ap}
-use Prim.Native.Nat.{ℕ}
+-- `calls::reading::current_read`: the other end is raised to 0, and so stays. Assumes nothing.
+use mathlib.Core.Path.{ap, _∙_}
+use Prim.Native.Nat.{ℕ, max}
+use native.Mathlib.Nat.{max-zero}
 use borrow.Author.Needs.{needs}
 use Rattle.calls.proofs.reading.current_read.Statement.{statement}
 use Rattle.calls.proofs.reading.current_read.Tie as tie
 
-later-requires : tie.Need-later-requires
-later-requires c κs = search needs
+raised-row-requires : tie.Need-raised-row-requires
+raised-row-requires c κs = search needs
 
 returns : tie.Need-returns
 returns c =
     let r = c .before .args .row in
-    ap (λ (n : ℕ). record { mark = r .mark; current = r .current; currentend = n; token = r .token; tokenend = r .tokenend }) (c .later .ensures)
+    let time = c .before .args .time in
+    c .raised-row .ensures
+    ∙ ap (λ (n : ℕ). record { mark = r .mark; current = r .current; currentend = max (r .currentend) time; token = r .token; tokenend = n }) (max-zero (r .tokenend))
 
 pub current-read-spec : {M : Type 1} → statement M
-current-read-spec = tie.close (tie.spec later-requires returns)
+current-read-spec = tie.close (tie.spec raised-row-requires returns)
