@@ -93,3 +93,58 @@ pub extern "C" fn call_abort(
     };
     pick(calls::abort(sheet, fates, rows, state, action), which)
 }
+
+// Read.
+#[no_mangle]
+pub extern "C" fn call_read(
+    sheet: &[u8],
+    fates: &[u8],
+    rows: &mut [u64],
+    end: u64,
+    floor: u64,
+    undecided: u64,
+    file: u64,
+    time: u64,
+    action: u64,
+    which: u64,
+) -> u64
+    ensures { λ r. ⌜ r ≡ pickedOf (callLeaves (now (sheet .entry)) (now (fates .entry)) (now (rows .entry)) (stateWith end floor undecided) (Call.read file time action)) which ⌝ }
+{
+    let state = State {
+        end,
+        floor,
+        undecided,
+    };
+    pick(
+        calls::read(sheet, fates, rows, state, file, time, action),
+        which,
+    )
+}
+
+// Write.
+#[no_mangle]
+pub extern "C" fn call_write(
+    sheet: &mut [u8],
+    fates: &[u8],
+    rows: &mut [u64],
+    end: u64,
+    floor: u64,
+    undecided: u64,
+    file: u64,
+    start: u64,
+    action: u64,
+    value: &[u8],
+    which: u64,
+) -> u64
+    ensures { λ r. ⌜ r ≡ pickedOf (callLeaves (now (sheet .entry)) (now (fates .entry)) (now (rows .entry)) (stateWith end floor undecided) (Call.write file start action (now (value .entry)))) which ⌝ }
+{
+    let state = State {
+        end,
+        floor,
+        undecided,
+    };
+    pick(
+        calls::write(sheet, fates, rows, state, file, start, action, value),
+        which,
+    )
+}

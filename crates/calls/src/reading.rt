@@ -138,14 +138,14 @@ fn read_versions(
     ensures { λ r. ⌜ Versions files (now (sheet .entry)) file time row r ⌝ }
 {
     let reached = current_read(row, time);
-    let Sought::Image(x) = current else {
+    let Sought::Image(newest) = current else {
         return Reading {
             answer: Answer::Nothing,
             row: reached,
         };
     };
-    let answer = walk(sheet, files, file, time, row.current, x);
-    if time < x.start {
+    let answer = walk(sheet, files, file, time, row.current, newest);
+    if time < newest.start {
         return Reading { answer, row };
     }
     Reading {
