@@ -16,19 +16,25 @@ uint64_t bench_inspect(const uint8_t *sheet, size_t size, uint64_t files);
 uint64_t bench_walk(const uint8_t *sheet, size_t size, const uint8_t *fates, size_t pages, uint64_t files, uint64_t file,
                     uint64_t end);
 
+#define STATE uint64_t end, uint64_t floor, uint64_t undecided, uint64_t
+uint64_t call_begin(uint8_t *sheet, size_t size, uint8_t *fates, size_t pages, const uint64_t *rows, size_t numbers, STATE which);
+uint64_t call_write(uint8_t *sheet, size_t size, const uint8_t *fates, size_t pages, uint64_t *rows, size_t numbers, STATE file,
+                    uint64_t start, uint64_t action, const uint8_t *value, size_t length, uint64_t which);
+uint64_t call_read(const uint8_t *sheet, size_t size, const uint8_t *fates, size_t pages, uint64_t *rows, size_t numbers, STATE file,
+                   uint64_t time, uint64_t action, uint64_t which);
+uint64_t call_commit(uint8_t *sheet, size_t size, uint8_t *fates, size_t pages, uint64_t *rows, size_t numbers, STATE action,
+                     uint64_t which);
+
 enum { FILES = 256, NEWEST = 254, OLDEST = 255, ABSENT = 256, USED = 28, MOST = 65536 };
 static const uint8_t value[32] = "opens at eight, shuts at six";
 static const uint8_t none[32];
 
-static uint8_t fates[MOST];
-static uint64_t numbers[5 * FILES];
-
 /* How a sheet is filled: actions are an opening, six images and an outcome each. */
-enum fill { BLANK, OPENINGS, IMAGES, TORN, ACTIONS };
+enum fill { BLANK, OPENINGS, IMAGES, TORN, ACTIONS, LINKS, TOKENS };
 
 struct sheet {
-    uint8_t *bytes;
-    uint64_t pages;
+    uint8_t *bytes, *fates;
+    uint64_t *numbers, pages; /* of the rows */
 };
 
 static uint64_t run_word(struct sheet s) {
@@ -47,14 +53,61 @@ static uint64_t run_touch(struct sheet s) {
 static uint64_t run_test(struct sheet s) { return bench_test(s.bytes, PAGE * s.pages, FILES); }
 static uint64_t run_seek(struct sheet s) { return bench_seek(s.bytes, PAGE * s.pages, FILES, ABSENT); }
 static uint64_t run_pack(struct sheet s) { return bench_pack(s.bytes, PAGE * s.pages, FILES, USED, value); }
-static uint64_t run_open(struct sheet s) { return bench_open(s.bytes, PAGE * s.pages, fates, s.pages, numbers, 5 * FILES, 0, 5); }
+static uint64_t run_open(struct sheet s) { return bench_open(s.bytes, PAGE * s.pages, s.fates, s.pages, s.numbers, 5 * FILES, 0, 5); }
 static uint64_t run_inspect(struct sheet s) { return bench_inspect(s.bytes, PAGE * s.pages, FILES); }
 static uint64_t rebuild(struct sheet s, uint64_t file) {
-    return bench_walk(s.bytes, PAGE * s.pages, fates, s.pages, FILES, file, s.pages);
+    return bench_walk(s.bytes, PAGE * s.pages, s.fates, s.pages, FILES, file, s.pages);
 }
 static uint64_t run_newest(struct sheet s) { return rebuild(s, NEWEST) > s.pages - 8; }
 static uint64_t run_oldest(struct sheet s) { return rebuild(s, OLDEST); }
 static uint64_t run_absent(struct sheet s) { return rebuild(s, ABSENT); }
+
+/* Whole actions of begin, two writes and commit on a blank sheet, until it is full: how many. */
+static uint64_t act(struct sheet s, uint64_t files) {
+    size_t size = PAGE * s.pages;
+    uint64_t end = 0, done = 0;
+    memset(s.bytes, 0, size);
+    memset(s.fates, 0, s.pages);
+    memset(s.numbers, 0, 5 * FILES * sizeof *s.numbers);
+    for (uint64_t f = 0; f < files; f++)
+        s.numbers[5 * f] = 1; /* rebuilt: these files have no version */
+    for (; end + 4 <= s.pages; done++) {
+        uint64_t action = call_begin(s.bytes, size, s.fates, s.pages, s.numbers, 5 * files, end, 0, 0, 1);
+        for (uint64_t k = 1; k <= 2; k++)
+            if (call_write(s.bytes, size, s.fates, s.pages, s.numbers, 5 * files, end + k, 0, 1, 1 + (2 * done + k) % files, done + 1, action,
+                           value, USED, 0) != 3)
+                return 0;
+        if (call_commit(s.bytes, size, s.fates, s.pages, s.numbers, 5 * files, end + 3, 0, 1, action, 0) != 3)
+            return 0;
+        end += 4;
+    }
+    return done;
+}
+static uint64_t run_act_few(struct sheet s) { return act(s, 8); }
+static uint64_t run_act_many(struct sheet s) { return act(s, FILES); }
+
+/* One read a page of the current version, of file after file. */
+static uint64_t run_current(struct sheet s) {
+    uint64_t values = 0;
+    for (uint64_t p = 0; p < s.pages; p++)
+        values += call_read(s.bytes, PAGE * s.pages, s.fates, s.pages, s.numbers, 5 * FILES, s.pages, 0, 0, 1 + p % 250, UINT64_MAX, 0, 0) == 4;
+    return values;
+}
+/* One read from the newest version of file 1 past the oldest: none. */
+static uint64_t run_links(struct sheet s) {
+    return call_read(s.bytes, PAGE * s.pages, s.fates, s.pages, s.numbers, 5 * FILES, s.pages, 0, 0, 1, 0, 0, 0);
+}
+/* A commit that settles a token of every file, and the outcome, fate and rows put back. */
+static uint64_t run_commit(struct sheet s) {
+    for (uint64_t f = 0; f < FILES; f++) {
+        uint64_t *row = s.numbers + 5 * f;
+        row[0] = 1, row[1] = row[2] = 0, row[3] = f + 2, row[4] = 1;
+    }
+    memset(s.bytes + PAGE * (FILES + 1), 0, PAGE);
+    s.fates[0] = 1;
+    uint64_t which = call_commit(s.bytes, PAGE * s.pages, s.fates, s.pages, s.numbers, 5 * FILES, FILES + 1, 0, 1, 1, 0);
+    return which == 3 && s.numbers[1] == 2 && s.numbers[5 * FILES - 4] == FILES + 1;
+}
 
 struct row {
     const char *what;
@@ -62,8 +115,9 @@ struct row {
     enum fill fill;
     int64_t answer; /* what each run must answer; -1: anything; -2: the number of pages */
     double reach;   /* the ratio to the first row that is to be reached, 0: none asked */
-    double best;    /* nanoseconds a page */
+    double best;    /* nanoseconds a unit */
     struct sheet sheet;
+    uint64_t units; /* what the time is shared among, 0: the pages */
 };
 
 static double now(void) {
@@ -98,15 +152,24 @@ static void fill_actions(struct sheet s) {
 }
 
 static struct sheet filled(enum fill fill, uint64_t pages) {
-    struct sheet s = {calloc(pages, PAGE), pages};
-    if (!s.bytes)
+    struct sheet s = {calloc(pages, PAGE), calloc(pages, 1), calloc(5 * FILES, sizeof *s.numbers), pages};
+    if (!s.bytes || !s.fates || !s.numbers)
         exit(1);
-    if (fill == ACTIONS)
+    if (fill == ACTIONS) {
         fill_actions(s);
+        run_open(s); /* sets the fates that rebuild and read go by */
+    }
+    s.fates[0] = fill == LINKS ? 2 : s.fates[0];
     for (uint64_t p = 1; fill != BLANK && fill != ACTIONS && p <= pages; p++) {
         uint8_t *page = s.bytes + PAGE * (p - 1);
+        if (fill == TOKENS && p > FILES + 1)
+            break;
         if (fill == OPENINGS || p == 1)
             plain_pack(page, 1, 0, 0, p, 0, 0, none, p);
+        else if (fill == LINKS)
+            plain_pack(page, 2, USED, 1, 1, p > 2 ? p - 1 : 0, p, value, p);
+        else if (fill == TOKENS)
+            plain_pack(page, 2, USED, p - 1, 1, 0, 1, value, p);
         else
             plain_pack(page, 2, USED, 1 + p % (FILES - 1), 1, p / 2, p, value, p);
         if (fill == TORN)
@@ -120,7 +183,7 @@ static void time_row(struct row *row, int turns) {
     double t = now();
     for (int k = 0; k < turns; k++)
         answer = row->run(row->sheet);
-    t = (now() - t) / turns / (double)row->sheet.pages;
+    t = (now() - t) / turns / (double)(row->units ? row->units : row->sheet.pages);
     if (t < row->best)
         row->best = t;
     int64_t expected = row->answer == -2 ? (int64_t)row->sheet.pages : row->answer;
@@ -145,7 +208,7 @@ static void table(const char *title, struct row *rows, int count, uint64_t pages
     }
     if (shown)
         fprintf(stderr, "\r%70s\r", "");
-    printf("%-40s %10s %8s %8s\n", title, "ns a page", "ratio", "reach");
+    printf("%-40s %10s %8s %8s\n", title, "ns each", "ratio", "reach");
     for (int i = 0; i < count; i++) {
         double ratio = rows[i].best / rows[0].best;
         printf("  %-38s %10.2f %8.3f", rows[i].what, rows[i].best, ratio);
@@ -153,29 +216,39 @@ static void table(const char *title, struct row *rows, int count, uint64_t pages
             printf(" %8.2f%s", rows[i].reach, ratio <= rows[i].reach ? "" : " missed");
         printf("\n");
         free(rows[i].sheet.bytes);
+        free(rows[i].sheet.fates);
+        free(rows[i].sheet.numbers);
     }
     fflush(stdout);
 }
 
 int main(void) {
     struct row page[] = {
-        {"plain check word of 60 bytes in C", run_word, IMAGES, -1, 0, 0, {0}},
-        {"page test, image", run_test, IMAGES, -2, 0.15, 0, {0}},
-        {"page test, opening", run_test, OPENINGS, -2, 0, 0, {0}},
-        {"page test, blank", run_test, BLANK, 0, 0, 0, {0}},
-        {"page test, torn", run_test, TORN, 0, 0, 0, {0}},
-        {"quick look, another file's image", run_seek, IMAGES, 0, 0.02, 0, {0}},
-        {"pack, image", run_pack, BLANK, 1023, 0.20, 0, {0}},
+        {"plain check word of 60 bytes in C", run_word, IMAGES, -1, 0, 0, {0}, 0},
+        {"page test, image", run_test, IMAGES, -2, 0.15, 0, {0}, 0},
+        {"page test, opening", run_test, OPENINGS, -2, 0, 0, {0}, 0},
+        {"page test, blank", run_test, BLANK, 0, 0, 0, {0}, 0},
+        {"page test, torn", run_test, TORN, 0, 0, 0, {0}, 0},
+        {"quick look, another file's image", run_seek, IMAGES, 0, 0.02, 0, {0}, 0},
+        {"pack, image", run_pack, BLANK, 1023, 0.20, 0, {0}, 0},
     };
-    /* open stands before rebuild: it sets the fates that rebuild goes by */
     struct row recovery[] = {
-        {"page test", run_test, ACTIONS, -2, 0, 0, {0}},
-        {"open", run_open, ACTIONS, -2, 1.3, 0, {0}},
-        {"inspect", run_inspect, ACTIONS, 0, 1.6, 0, {0}},
-        {"rebuild, image newest", run_newest, ACTIONS, 1, 0, 0, {0}},
-        {"rebuild, image oldest", run_oldest, ACTIONS, 2, 0, 0, {0}},
-        {"rebuild, file absent", run_absent, ACTIONS, 0, 0.1, 0, {0}},
-        {"one byte of each page read in C", run_touch, ACTIONS, -1, 0, 0, {0}},
+        {"page test", run_test, ACTIONS, -2, 0, 0, {0}, 0},
+        {"open", run_open, ACTIONS, -2, 1.3, 0, {0}, 0},
+        {"inspect", run_inspect, ACTIONS, 0, 1.6, 0, {0}, 0},
+        {"rebuild, image newest", run_newest, ACTIONS, 1, 0, 0, {0}, 0},
+        {"rebuild, image oldest", run_oldest, ACTIONS, 2, 0, 0, {0}, 0},
+        {"rebuild, file absent", run_absent, ACTIONS, 0, 0.1, 0, {0}, 0},
+        {"one byte of each page read in C", run_touch, ACTIONS, -1, 0, 0, {0}, 0},
+    };
+    /* the unit is a page, an action, a read, a link or a file */
+    struct row calls[] = {
+        {"page test", run_test, IMAGES, -2, 0, 0, {0}, 0},
+        {"begin, 2 writes, commit; 8 files", run_act_few, BLANK, 256, 16, 0, {0}, 256},
+        {"begin, 2 writes, commit; 256 files", run_act_many, BLANK, 256, 0, 0, {0}, 256},
+        {"read of the current version", run_current, ACTIONS, -2, 3, 0, {0}, 0},
+        {"read by 1,022 links, a link", run_links, LINKS, 5, 2, 0, {0}, 1022},
+        {"commit that settles 256 rows, a row", run_commit, TOKENS, 1, 0, 0, {0}, FILES},
     };
     table("the page, 1,024 pages", page, sizeof page / sizeof *page, 1024, 200, 8);
     for (uint64_t pages = 256; pages <= MOST; pages *= 4) {
@@ -183,5 +256,6 @@ int main(void) {
         snprintf(title, sizeof title, "recovery, %llu pages", (unsigned long long)pages);
         table(title, recovery, sizeof recovery / sizeof *recovery, pages, pages > 4096 ? 20 : 100, (int)(1 + 16384 / pages));
     }
+    table("the calls, 1,024 pages", calls, sizeof calls / sizeof *calls, 1024, 100, 8);
     return 0;
 }
