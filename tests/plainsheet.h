@@ -15,7 +15,7 @@ static uint8_t sheet[MOST * PAGE];
 static uint64_t pages, seed;
 static int passed, failed;
 
-static uint64_t below(uint64_t n) {
+__attribute__((unused)) static uint64_t below(uint64_t n) {
     seed ^= seed << 13;
     seed ^= seed >> 7;
     seed ^= seed << 17;
@@ -67,7 +67,7 @@ __attribute__((unused)) static uint8_t fate_of(uint64_t action, uint64_t upto) {
 }
 
 /* A file's row by the fates that are lent. */
-static void row_of(uint64_t file, const uint8_t *fates, uint64_t end, uint64_t row[5]) {
+__attribute__((unused)) static void row_of(uint64_t file, const uint8_t *fates, uint64_t end, uint64_t row[5]) {
     memset(row, 0, 5 * sizeof *row);
     row[0] = 1;
     for (uint64_t p = end; p > 0; p--) {
