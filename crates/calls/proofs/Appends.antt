@@ -1,7 +1,7 @@
 -- A page of a `&mut` sheet that was lent to pack and has come back, and the blank test above the end. Assumes nothing.
 use Prim.Native.Nat.{ℕ, suc, _*_, _+_, _-_, _≤_}
-use mathlib.Core.Path.{_≡_, refl, ap, sym, _∙_}
-use mathlib.Core.Bool.{Bool, true, false}
+use mathlib.Core.Path.{_≡_, refl, ap, _∙_}
+use mathlib.Core.Bool.{true, false}
 use mathlib.Core.List.{List, [], _∷_, _++_}
 use native.Mathlib.Omega.{arith}
 use native.Mathlib.Numerals.{add-one}

@@ -1,13 +1,13 @@
 -- The ways a call ends, from what it does over decoded pages to what it leaves of what is lent: refused by line 1, an answer
 -- alone, one row changed, a page appended. Every law ends in `callLeaves`, the contract. Assumes nothing.
-use Prim.Native.Nat.{ℕ, zero, suc, _+_, _-_, _*_, _/_, _%_, _≤_, _<_}
+use Prim.Native.Nat.{ℕ, suc, _/_, _≤_, _<_}
 use mathlib.Core.Path.{_≡_, refl, sym, ap, _∙_}
-use mathlib.Core.Bool.{Bool, true, false, cond, _&&_}
-use mathlib.Core.List.{List, [], _∷_}
+use mathlib.Core.Bool.{Bool, true, false}
+use mathlib.Core.List.{List}
 use native.Mathlib.Omega.{arith}
 use lib.ListN.{length, getD, set}
 use lib.Seq.{getD-set-same}
-use lib.Dec.{eqb, leb}
+use lib.Dec.{leb}
 use borrow.Author.Tests.{eq-eqb, ne-eqb, leb-true}
 use Rattle.encoding.proofs.Logic.{and-true}
 use Rattle.page.specs.Layout.{pageSize}
@@ -17,7 +17,7 @@ use Rattle.recovery.specs.declared.Row.{Row}
 use Rattle.recovery.specs.declared.State.{State}
 use Rattle.recovery.specs.declared.Answer.{Answer}
 use Rattle.recovery.specs.declared.Answer.the-variants.{Refused, Stored}
-use Rattle.recovery.specs.World.{World, Result, lentRight, isFile, withRow, refuse}
+use Rattle.recovery.specs.World.{isFile, withRow}
 use Rattle.recovery.specs.Lent.{rowLength, rowsOf, flat, pagesOf, lent, whole, Left, refused}
 use Rattle.recovery.specs.Steps.{lineOne, withRowOf}
 use Rattle.recovery.proofs.Pages.{pages-long}

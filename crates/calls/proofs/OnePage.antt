@@ -1,7 +1,7 @@
 -- A call writes nothing of the sheet but the page above the end: every other byte is as it was, and so is the sheet's length. Shuts
 -- out a store that mends or moves an old page. Assumes nothing.
-use Prim.Native.Nat.{ℕ, suc, _+_, _*_, _-_, _/_, _%_, _≤_, _<_}
-use mathlib.Core.Path.{_≡_, refl, sym, ap, _∙_}
+use Prim.Native.Nat.{ℕ, suc, _+_, _*_, _/_, _≤_, _<_}
+use mathlib.Core.Path.{_≡_, refl, sym, _∙_}
 use mathlib.Core.Bool.{Bool, true, false, cond}
 use mathlib.Core.List.{List, _++_, append-assoc}
 use mathlib.Core.Logic.{_⊎_, inl, inr}
@@ -9,18 +9,16 @@ use native.Mathlib.Omega.{arith}
 use lib.ListN.{length, take, drop, getD, length-append, length-take, length-drop, List·getD-append, set}
 use lib.Seq.{getD-take, getD-drop, getD-append-add, getD-set-same}
 use lib.Dec.{eqb}
-use borrow.Author.Tests.{eq-eqb, ne-eqb}
+use borrow.Author.Tests.{eq-eqb}
 use Rattle.encoding.proofs.Logic.{by-test}
 use Rattle.page.specs.Layout.{pageSize, valueSize}
 use Rattle.page.proofs.RoundTrip.{length-packed}
 use Rattle.recovery.specs.Log.{Entry, blank}
-use Rattle.recovery.specs.declared.Row.{Row}
 use Rattle.recovery.specs.declared.State.{State}
-use Rattle.recovery.specs.declared.Answer.{Answer}
-use Rattle.recovery.specs.World.{World, Result, withRow, entryAt}
+use Rattle.recovery.specs.World.{World, Result, entryAt}
 use Rattle.recovery.specs.Lent.{lent, whole, rowLength, refused}
 use Rattle.recovery.proofs.Pages.{pages-long}
-use Rattle.calls.specs.Calls.{Call, append, call}
+use Rattle.calls.specs.Calls.{Call, call}
 use Rattle.calls.specs.Effect.{packedEntry, withPage, fieldsAt, valueAt, grown, lower, callLeaves}
 use Rattle.calls.proofs.EveryCall.{Ways, fileOf, warmed, every-call}
 

@@ -8,15 +8,12 @@ use mathlib.Core.List.{List}
 use mathlib.Core.Logic.{_⊎_, inl, inr}
 use native.Mathlib.Omega.{arith}
 use lib.ListN.{length}
-use lib.Dec.{eqb}
 use borrow.Author.Tests.{eq-eqb}
 use Rattle.recovery.specs.Places.{put}
-use Rattle.recovery.specs.Log.{Entry}
-use Rattle.recovery.specs.declared.Row.{Row}
 use Rattle.recovery.specs.declared.State.{State}
 use Rattle.recovery.specs.declared.Answer.{Answer}
 use Rattle.recovery.specs.declared.Answer.the-variants.{Refused, Stored}
-use Rattle.recovery.specs.World.{World, Result, refuse, withRow, warmRow}
+use Rattle.recovery.specs.World.{World, Result, withRow, warmRow}
 use Rattle.recovery.specs.Lent.{Left, lent, whole, rowsOf, flat, refused}
 use Rattle.recovery.proofs.Leaves.{rows-back}
 use Rattle.calls.specs.Calls.{Call, append, call}

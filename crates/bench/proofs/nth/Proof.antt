@@ -1,32 +1,25 @@
+-- `bench::nth`, by its six ways out. Assumes nothing.
 use native.Mathlib.Omega.{arith}
 use Rattle.bench.proofs.Numbers.{past-five}
 use borrow.Author.Needs.{needs}
 use Rattle.bench.proofs.nth.Statement.{statement}
 use Rattle.bench.proofs.nth.Tie as tie
-use Rattle.bench.proofs.nth.Reads as reads
-use Rattle.bench.proofs.nth.Lts as lts
 
--- src/lib.rt:113:9
 returns : tie.Need-returns
 returns c = search needs
 
--- src/lib.rt:116:9
 returns-2 : tie.Need-returns-2
 returns-2 c = search needs
 
--- src/lib.rt:119:9
 returns-3 : tie.Need-returns-3
 returns-3 c = search needs
 
--- src/lib.rt:122:9
 returns-4 : tie.Need-returns-4
 returns-4 c = search needs
 
--- src/lib.rt:125:9
 returns-5 : tie.Need-returns-5
 returns-5 c = search needs
 
--- src/lib.rt:109:1
 returns-6 : tie.Need-returns-6
 returns-6 c =
     let a = c .before .before .before .before .before .args in

@@ -1,27 +1,20 @@
+-- `bench::pick`, the answer's numbers, then the state's. Assumes nothing.
 use borrow.Author.Tests.{lt-ltb, le-ltb}
 use Rattle.bench.specs.Picks.{picked}
 use borrow.Author.Needs.{needs}
 use Rattle.bench.proofs.pick.Statement.{statement}
 use Rattle.bench.proofs.pick.Tie as tie
-use Rattle.bench.proofs.pick.Reads as reads
-use Rattle.bench.proofs.pick.Lts as lts
-use Rattle.bench.proofs.answer_number.Reads as answer-number-reads
-use Rattle.bench.proofs.nth.Reads as nth-reads
 
--- src/lib.rt:151:9
 answer-number-requires : tie.Need-answer-number-requires
 answer-number-requires c κs = search needs
 
--- src/lib.rt:151:9
 returns : tie.Need-returns
 unfolding picked
 returns c = simp (lt-ltb _ _ (c .before .if1 .taken)) (c .answer-number .ensures)
 
--- src/lib.rt:153:5
 nth-requires : tie.Need-nth-requires
 nth-requires c κs = search needs
 
--- src/lib.rt:145:1
 returns-2 : tie.Need-returns-2
 unfolding picked
 returns-2 c = simp (le-ltb _ _ (c .before .if1 .left)) (c .nth .ensures)

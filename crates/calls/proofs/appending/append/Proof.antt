@@ -1,3 +1,4 @@
+-- `calls::appending::append`: the page that pack leaves, put back into the sheet. Assumes nothing.
 use Rattle.calls.proofs.Appends.{put-page, pack-left}
 use Rattle.calls.specs.Effect.{withPage}
 use denote.Ref.{now}
@@ -5,43 +6,31 @@ use mathlib.Core.Path.{ap, _∙_}
 use borrow.Author.Needs.{needs}
 use Rattle.calls.proofs.appending.append.Statement.{statement}
 use Rattle.calls.proofs.appending.append.Tie as tie
-use Rattle.calls.proofs.appending.append.Reads as reads
-use Rattle.calls.proofs.appending.append.Lts as lts
-use Rattle.page.proofs.Page.pack.Reads as pack-reads
 
--- src/appending.rt:32:13
 mul-a : tie.Need-mul-a
 mul-a c = search needs
 
--- src/appending.rt:33:13
 add-e : tie.Need-add-e
 add-e c = search needs
 
--- src/appending.rt:34:22
 add-pack : tie.Need-add-pack
 add-pack c = search needs
 
--- src/appending.rt:34:38
 sub-pack : tie.Need-sub-pack
 sub-pack c = search needs
 
--- src/appending.rt:34:38
 part-pack-start : tie.Need-part-pack-start
 part-pack-start c = search needs
 
--- src/appending.rt:34:38
 part-pack-end : tie.Need-part-pack-end
 part-pack-end c = search needs
 
--- src/appending.rt:34:5
 pack-requires : tie.Need-pack-requires
 pack-requires c κs = search needs
 
--- src/appending.rt:28:1
 same-length : tie.Need-same-length
 same-length c = search needs
 
--- src/appending.rt:28:1
 returns : tie.Need-returns
 returns c =
     let start = c .before .before .before .before .before in

@@ -1,27 +1,21 @@
+-- `calls::appending::is_blank_at`, by what the page test tells. Assumes nothing.
 use Rattle.calls.proofs.Appends.{blank-yes, blank-no}
 use denote.Ref.{now}
 use borrow.Author.Needs.{needs}
 use Rattle.calls.proofs.appending.is_blank_at.Statement.{statement}
 use Rattle.calls.proofs.appending.is_blank_at.Tie as tie
-use Rattle.calls.proofs.appending.is_blank_at.Reads as reads
-use Rattle.calls.proofs.appending.is_blank_at.Lts as lts
-use Rattle.recovery.proofs.page_at.Reads as page-at-reads
 
--- src/appending.rt:20:9
 page-at-requires : tie.Need-page-at-requires
 page-at-requires c κs = search needs
 
--- src/appending.rt:22:28
 enum-told : tie.Need-enum-told
 enum-told c = search needs
 
--- src/appending.rt:17:1
 returns : tie.Need-returns
 returns c =
     let a = c .before .before .before .before .args in
     blank-yes (now (a .sheet)) (a .place) (a .files) (c .before .before .page-at .result) (c .before .before .page-at .ensures) (c .enum-told .given .1)
 
--- src/appending.rt:17:1
 returns-2 : tie.Need-returns-2
 returns-2 c =
     let a = c .before .before .before .args in
