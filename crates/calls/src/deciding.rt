@@ -73,14 +73,7 @@ pub fn begin(sheet: &mut [u8], fates: &mut [u8], rows: &[u64], state: State) -> 
     if !is_blank_at(&sheet[..], place, files) {
         return refuse(12, state);
     }
-    let page = Page {
-        kind: 1,
-        small: 0,
-        file: 0,
-        action: place,
-        link: 0,
-        start: 0,
-    };
+    let page = Page::opening(place);
     append(sheet, end, files, page, &[0u8; 32]);
     fates[end as usize] = 1;
     Done {
@@ -194,18 +187,10 @@ fn settle_rows(sheet: &[u8], rows: &mut [u64], files: u64, end: u64, action: u64
 fn outcome_page(action: u64, committed: bool) -> Page
     ensures { λ r. ⌜ r ≡ outcome action (cond committed 1 2) ⌝ }
 {
-    let mut verdict: u64 = 2;
     if committed {
-        verdict = 1;
+        return Page::outcome(action, 1);
     }
-    Page {
-        kind: 3,
-        small: verdict,
-        file: 0,
-        action,
-        link: 0,
-        start: 0,
-    }
+    Page::outcome(action, 2)
 }
 
 // The fate that an outcome gives its action.

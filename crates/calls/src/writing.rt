@@ -21,7 +21,6 @@ ghost use mathlib.Core.Path.{_≡_};
 ghost use Prim.Native.Nat.{_/_, _≤_};
 ghost use lib.ListN.{length};
 ghost use Rattle.page.specs.Layout.{pageSize, valueSize};
-ghost use Rattle.page.specs.Table.{image};
 ghost use Rattle.recovery.specs.World.{isFile};
 ghost use Rattle.recovery.specs.Lent.{leftBy, rowLength};
 ghost use Rattle.recovery.specs.Steps.{lineOne};
@@ -94,19 +93,6 @@ fn written_row(row: Row, place: u64, start: u64) -> Row
     }
 }
 
-fn image_page(size: u64, file: u64, action: u64, link: u64, start: u64) -> Page
-    ensures { λ r. ⌜ r ≡ image size file action link start ⌝ }
-{
-    Page {
-        kind: 2,
-        small: size,
-        file,
-        action,
-        link,
-        start,
-    }
-}
-
 // Write, where no line before 7 refuses.
 fn write_warm(
     sheet: &mut [u8],
@@ -129,7 +115,7 @@ fn write_warm(
         return Done { answer, state };
     };
     set_row(rows, file, written_row(row, place, start));
-    let page = image_page(value.len() as u64, file, action, row.current, start);
+    let page = Page::image(value.len() as u64, file, action, row.current, start);
     let bytes = pad(value);
     append(sheet, end, files, page, &bytes);
     Done {

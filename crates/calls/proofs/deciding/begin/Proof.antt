@@ -57,10 +57,14 @@ returns-3 c =
     let b = c .before .before in
     by-refuse _ _ _ _ _ _ (c .refuse3 .ensures) (begin-used _ _ _ _ (fit (b .before .before .before .before)) (b .before .before .if2 .left) _ (b .is-blank-at .ensures) (not-true _ (c .before .if3 .taken)))
 
+opening-requires : tie.Need-opening-requires
+opening-requires c κs = search needs
+
 append-requires : tie.Need-append-requires
 append-requires c κs =
-    let a = c .before .before .before .before .before .before .before .before .before .before .before .before .args in
-    begin-asked (now (a .sheet)) (now (a .fates)) (now (a .rows)) (a .state) (fit (c .before .before .before .before .before .before .before)) (c .before .before .before .before .before .if2 .left)
+    let b = c .before .before .before .before .before .before in
+    let a = b .before .before .before .before .before .before .before .args in
+    rw (c .before .before .opening .ensures) (begin-asked (now (a .sheet)) (now (a .fates)) (now (a .rows)) (a .state) (fit (b .before .before)) (b .if2 .left))
 
 slice-write-fates : tie.Need-slice-write-fates
 slice-write-fates c = search needs
@@ -76,8 +80,9 @@ same-length-3 c = search needs
 
 returns-4 : tie.Need-returns-4
 returns-4 c =
-    let b = c .before .before .before .before .before .before .before in
-    begin-done _ _ _ _ (fit (b .before .before .before .before)) (b .before .before .if2 .left) _ (b .is-blank-at .ensures) (not-false _ (c .before .before .before .before .before .before .if3 .left)) _ (c .before .before .before .append .ensures)
+    let o = c .before .before .before .before .before .before in
+    let b = o .before .before in
+    begin-done _ _ _ _ (fit (b .before .before .before .before)) (b .before .before .if2 .left) _ (b .is-blank-at .ensures) (not-false _ (o .before .if3 .left)) _ (rw (o .opening .ensures) at (c .before .before .before .append .ensures))
 
 pub begin-spec : {M : Type 1} → statement M
 begin-spec =
@@ -95,6 +100,7 @@ begin-spec =
     refuse-requires-3
     same-length
     returns-3
+    opening-requires
     append-requires
     slice-write-fates
     add-t17

@@ -39,8 +39,8 @@ written-row-requires c κs = search needs
 set-row-requires : tie.Need-set-row-requires
 set-row-requires c κs = search needs
 
-image-page-requires : tie.Need-image-page-requires
-image-page-requires c κs = search needs
+image-requires : tie.Need-image-requires
+image-requires c κs = search needs
 
 pad-requires : tie.Need-pad-requires
 pad-requires c κs = c .before .before .before .before .before .before .before .before .before .before .before .before .before .before .before .before .before .before .before .before .pre .2
@@ -49,7 +49,7 @@ append-requires : tie.Need-append-requires
 append-requires c κs =
     let b = c .before .before .before .before .before .before .before .before .before .before .before .before .before .before .before .before .before .before .before .before .before .before .before in
     let a = b .args in
-    append-asked (now (a .sheet)) (now (a .fates)) (now (a .rows)) (a .state) (b .pre .0) (a .file) (a .start) (a .action) (now (a .value)) (b .pre .1) (b .pre .2) (b .pre .3) _ _ (c .before .before .before .before .before .before .before .before .before .before .before .before .before .before .before .before .warm-row .ensures) _ (sym (c .before .before .before .before .before .before .before .before .before .before .answer .given .1) ∙ c .before .before .before .before .before .before .before .before .before .before .before .before .write-answer .ensures) (b .fits .start .fits) _ (c .before .before .before .image-page .ensures) _ (c .before .before .pad .ensures)
+    append-asked (now (a .sheet)) (now (a .fates)) (now (a .rows)) (a .state) (b .pre .0) (a .file) (a .start) (a .action) (now (a .value)) (b .pre .1) (b .pre .2) (b .pre .3) _ _ (c .before .before .before .before .before .before .before .before .before .before .before .before .before .before .before .before .warm-row .ensures) _ (sym (c .before .before .before .before .before .before .before .before .before .before .answer .given .1) ∙ c .before .before .before .before .before .before .before .before .before .before .before .before .write-answer .ensures) (b .fits .start .fits) _ (c .before .before .before .image .ensures) _ (c .before .before .pad .ensures)
 
 same-length-3 : tie.Need-same-length-3
 same-length-3 c = search needs
@@ -61,7 +61,7 @@ returns-2 : tie.Need-returns-2
 returns-2 c =
     let b = c .before .before .before .before .before .before .before .before .before .before .before .before .before .before .before .before .before .before .before .before .before .before .before .before .before .before in
     let a = b .args in
-    write-done (now (a .sheet)) (now (a .fates)) (now (a .rows)) (a .state) (b .pre .0) (a .file) (a .start) (a .action) (now (a .value)) (b .pre .1) (b .pre .2) (b .pre .3) _ _ (c .before .before .before .before .before .before .before .before .before .before .before .before .before .before .before .before .before .before .before .warm-row .ensures) _ (sym (c .before .before .before .before .before .before .before .before .before .before .before .before .before .answer .given .1) ∙ c .before .before .before .before .before .before .before .before .before .before .before .before .before .before .before .write-answer .ensures) _ (c .before .before .before .before .before .before .image-page .ensures) _ (c .before .before .before .before .before .before .before .before .before .before .written-row .ensures) _ _ _ (c .before .before .before .before .before .pad .ensures) (c .before .before .append .ensures) (c .before .before .before .before .before .before .before .before .before .set-row .ensures)
+    write-done (now (a .sheet)) (now (a .fates)) (now (a .rows)) (a .state) (b .pre .0) (a .file) (a .start) (a .action) (now (a .value)) (b .pre .1) (b .pre .2) (b .pre .3) _ _ (c .before .before .before .before .before .before .before .before .before .before .before .before .before .before .before .before .before .before .before .warm-row .ensures) _ (sym (c .before .before .before .before .before .before .before .before .before .before .before .before .before .answer .given .1) ∙ c .before .before .before .before .before .before .before .before .before .before .before .before .before .before .before .write-answer .ensures) _ (c .before .before .before .before .before .before .image .ensures) _ (c .before .before .before .before .before .before .before .before .before .before .written-row .ensures) _ _ _ (c .before .before .before .before .before .pad .ensures) (c .before .before .append .ensures) (c .before .before .before .before .before .before .before .before .before .set-row .ensures)
 
 pub write-warm-spec : {M : Type 1} → statement M
 write-warm-spec =
@@ -75,7 +75,7 @@ write-warm-spec =
     returns
     written-row-requires
     set-row-requires
-    image-page-requires
+    image-requires
     pad-requires
     append-requires
     same-length-3
