@@ -64,6 +64,14 @@ int main(void) {
     uint64_t rows[5 * FILES] = {0};
     pages = MOST;
     signal(SIGTRAP, stepped);
+    plain_pack(whole, 1, 0, 0, 4, 0, 0, none, 4);
+    watch(4);
+    SINGLE_STEPPED(stored_backwards(sheet + 3 * PAGE));
+    if (steps == 0) { /* what is not tried does not count */
+        printf("this machine runs nothing one instruction at a time\n0 passed, 0 failed\n");
+        return 0;
+    }
+    told("a page stored from byte 63 to byte 0 is found out", disorder);
     plain_pack(whole, 1, 0, 0, 1, 0, 0, none, 1);
     watch(1);
     SINGLE_STEPPED(call_begin(sheet, PAGE * pages, fates, pages, rows, 5 * FILES, 0, 0, 0, 0));
@@ -76,10 +84,6 @@ int main(void) {
     watch(3);
     SINGLE_STEPPED(call_commit(sheet, PAGE * pages, fates, pages, rows, 5 * FILES, 2, 0, 1, 1, 0));
     told("commit stores its page from byte 0 to byte 63", in_order());
-    plain_pack(whole, 1, 0, 0, 4, 0, 0, none, 4);
-    watch(4);
-    SINGLE_STEPPED(stored_backwards(sheet + 3 * PAGE));
-    told("a page stored from byte 63 to byte 0 is found out", disorder);
     printf("%d passed, %d failed\n", passed, failed);
     return failed != 0;
 }
