@@ -1,8 +1,7 @@
 /* The proved page layer beside the plain one of plain.h, on sheets of good, damaged, cut and random pages.
    Prints a line for each test and 'N passed, M failed'; the seed may be given, so that a failure can be run again. */
-#include <stdio.h>
-#include <stdlib.h>
 #include "plain.h"
+#include "tell.h"
 
 uint64_t bench_test(const uint8_t *sheet, size_t size, uint64_t files);
 uint64_t bench_seek(const uint8_t *sheet, size_t size, uint64_t files, uint64_t file);
@@ -10,24 +9,6 @@ uint64_t bench_pack(uint8_t *sheet, size_t size, uint64_t files, uint64_t used, 
 
 enum { MOST = 40, SHEETS = 20000 };
 static uint8_t sheet[MOST * PAGE];
-static uint64_t seed;
-static int passed, failed;
-
-/* xorshift: a number below n. */
-static uint64_t below(uint64_t n) {
-    seed ^= seed << 13;
-    seed ^= seed >> 7;
-    seed ^= seed << 17;
-    return seed % n;
-}
-
-static void told(const char *what, int ok) {
-    printf("%s: %s\n", ok ? "ok" : "FAILED", what);
-    if (ok)
-        passed++;
-    else
-        failed++;
-}
 
 /* A number near a bound, or any. */
 static uint64_t near(uint64_t bound) { return below(4) ? bound - 1 + below(3) : below(1 + bound * 2); }

@@ -1,10 +1,8 @@
-/* The plain recovery layer that the proved one is compared with, from document 01 page by page, and what every test needs: random
-   numbers from a seed, and a line for each test. Places are counted from 1. */
+/* The plain recovery layer that the proved one is compared with, from document 01 page by page. Places are counted from 1. */
 #ifndef PLAINSHEET_H
 #define PLAINSHEET_H
-#include <stdio.h>
-#include <stdlib.h>
 #include "plain.h"
+#include "tell.h"
 
 enum { MOST = 30, FILES = 4 };
 /* what a call of the proved code tells by index: which answer, its values, and the state */
@@ -12,23 +10,7 @@ enum { WHICH, FIRST, SECOND, END = 5, FLOOR, UNDECIDED, TOLD };
 enum { REFUSED, OPENED, REBUILT, STORED, VALUE, NOTHING, FATE };
 
 static uint8_t sheet[MOST * PAGE];
-static uint64_t pages, seed;
-static int passed, failed;
-
-__attribute__((unused)) static uint64_t below(uint64_t n) {
-    seed ^= seed << 13;
-    seed ^= seed >> 7;
-    seed ^= seed << 17;
-    return seed % n;
-}
-
-static void told(const char *what, int ok) {
-    printf("%s: %s\n", ok ? "ok" : "FAILED", what);
-    if (ok)
-        passed++;
-    else
-        failed++;
-}
+static uint64_t pages;
 
 static const uint8_t *page_at(uint64_t place) { return sheet + PAGE * (place - 1); }
 static uint64_t action_of(uint64_t place) { return plain_get(page_at(place), 8, 12); }
