@@ -16,19 +16,11 @@ use Rattle.recovery.specs.Log.{Image, Entry, opening, image, outcome, verdict}
 use Rattle.recovery.specs.declared.Row.{Row}
 use Rattle.recovery.specs.declared.Answer.{Answer}
 use Rattle.recovery.specs.declared.Answer.the-variants.{Refused, Opened, Rebuilt, Stored, Value, Nothing, Told}
+use Rattle.recovery.specs.Numbers.{isRefused}
 use Rattle.recovery.specs.World.{World, Result, refuse, entryAt, isBlank, withRow, warmRow, rowHolds, lentRight, isFile, fateAt, fateNumber, answerRow, rebuilt}
 use Rattle.calls.specs.Walk.{Walk, met, nothing, lost, endless}
 use Rattle.calls.specs.Effect.{padded, valueAt}
 use Rattle.calls.specs.Calls.{Call, begin, write, read, test, decide, rebuild, forFile, forAction, forUndecided, hasAction, isDecided, hasRoom, append, store, onBegin, onWrite, onRead, onToken, onVersions, answerWalk, actionOf, valueOf, readCurrent, readToken, reaches, walkFrom, imageOf, settled, eachRow, onDecide, on, call}
-
-unfoldable pub isRefused : Answer → Bool
-isRefused (Refused n p) = true
-isRefused (Opened e u) = false
-isRefused (Rebuilt a b c d) = false
-isRefused (Stored p) = false
-isRefused (Value p s l) = false
-isRefused Nothing = false
-isRefused (Told f) = false
 
 -- the four ways, from one world
 pub record Ways (P : Result → Type 0) (w : World) : Type 0 where

@@ -18,7 +18,8 @@ use Rattle.recovery.specs.Lent.{Left, lent, whole, rowsOf, flat, refused}
 use Rattle.recovery.proofs.Leaves.{rows-back}
 use Rattle.calls.specs.Calls.{Call, append, call}
 use Rattle.calls.specs.Effect.{lower, callLeaves}
-use Rattle.calls.proofs.EveryCall.{isRefused, Ways, fileOf, warmed, every-call}
+use Rattle.recovery.specs.Numbers.{isRefused}
+use Rattle.calls.proofs.EveryCall.{Ways, fileOf, warmed, every-call}
 
 -- this world, or this world with the row of a file rebuilt if it is cold
 unfoldable pub Same : World → ℕ → World → Type 0

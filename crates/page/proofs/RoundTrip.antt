@@ -163,7 +163,7 @@ getD-cut-past n s i h k =
     let e : length (take n s) + (i - n) ≡ i = omega (arith, length-take-le n s k) in
     rw e at (getD-append-add (take n s) r (i - n) 0) ∙ getD-zeros (length s - n) (i - n)
 
-cut-whole : (n : ℕ) (s : List ℕ) → n ≡ length s → cut n s ≡ s
+pub cut-whole : (n : ℕ) (s : List ℕ) → n ≡ length s → cut n s ≡ s
 cut-whole n s e =
     let z : length s - n ≡ 0 = omega arith in
     rw (z, take-all n s (omega arith)) (append-nil s)

@@ -1,6 +1,7 @@
 -- Each answer as numbers, as document 01 gives them.
 use Prim.Native.Nat.{ℕ}
 use mathlib.Core.List.{List, [], _∷_}
+use mathlib.Core.Bool.{Bool, true, false}
 use Rattle.recovery.specs.declared.Answer.{Answer}
 use Rattle.recovery.specs.declared.Answer.the-variants.{Refused, Opened, Rebuilt, Stored, Value, Nothing, Told}
 use Rattle.recovery.specs.declared.Inspected as inspection
@@ -15,6 +16,15 @@ numbersOf (Stored p) = 3 ∷ p ∷ 0 ∷ 0 ∷ 0 ∷ []
 numbersOf (Value p s l) = 4 ∷ p ∷ s ∷ l ∷ 0 ∷ []
 numbersOf Nothing = 5 ∷ 0 ∷ 0 ∷ 0 ∷ 0 ∷ []
 numbersOf (Told f) = 6 ∷ f ∷ 0 ∷ 0 ∷ 0 ∷ []
+
+unfoldable pub isRefused : Answer → Bool
+isRefused (Refused n p) = true
+isRefused (Opened e u) = false
+isRefused (Rebuilt a b c d) = false
+isRefused (Stored p) = false
+isRefused (Value p s l) = false
+isRefused Nothing = false
+isRefused (Told f) = false
 
 -- inspect: the refusal's number, and the place
 abbrev pub inspectNumber : Inspected → ℕ
