@@ -1,3 +1,5 @@
 pub mod Logs
 pub mod Appends
 pub mod Versions
+pub mod Fates
+pub mod Ledger

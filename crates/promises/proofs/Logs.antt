@@ -11,9 +11,10 @@ use borrow.Author.Tests.{eqb-true, ltb-true, eq-eqb, ne-eqb, lt-ltb}
 use Rattle.encoding.proofs.Logic.{by-test, and-true}
 use Rattle.recovery.specs.Log.{Image, Entry, blank, torn, bad, opening, image, outcome, Fate, unknown, undecided, committed, aborted, Placed, verdict, fateOf, imagesOf, currentStep, tokenStep, currentOf, tokenOf, placeOf, startOf}
 use Rattle.recovery.specs.Lawful.{current, token, isNone, fitsBelow, lawful}
+use Rattle.recovery.specs.World.{fateNumber}
 use Rattle.recovery.proofs.InspectLaw.{lawful-parts, lawful-more, lawful-none}
 use Rattle.recovery.proofs.InspectSlots.{cond≡}
-use Rattle.recovery.proofs.InspectFates.{undecided-is}
+use Rattle.recovery.proofs.InspectFates.{undecided-is, fate-place}
 
 -- the page at a place
 abbrev pub entryIn : List Entry → ℕ → Entry
@@ -115,18 +116,27 @@ not-unknown x h e = absurd (rw e at h)
 pub known : (x : Fate) → x ≡ undecided → Known x
 known x e = rw e tt
 
--- no action is known above the log
+-- a known action has a place in the log: none is known at place 0 or above the log
+known-number : (x : Fate) → Known x → 1 ≤ fateNumber x
+known-number unknown h = absurd h
+known-number undecided h = omega arith
+known-number committed h = omega arith
+known-number aborted h = omega arith
+
+pub known-place : (l : List Entry) (a : ℕ) → Lawful l → Known (fateOf l a) → (1 ≤ a) × (a ≤ length l)
+known-place l a w h = fate-place l a (lawful-test l w) (known-number (fateOf l a) h)
+
+none-known : (x : Fate) → (Known x → ⊥) → x ≡ unknown
+none-known unknown h = refl
+none-known undecided h = absurd (h tt)
+none-known committed h = absurd (h tt)
+none-known aborted h = absurd (h tt)
+
 pub fate-above : (l : List Entry) (a : ℕ) → Lawful l → length l < a → fateOf l a ≡ unknown
-unfolding fateOf
-fate-above [] a w h = refl
-fate-above (blank ∷ l) a w h = fate-above l a (w .1) (omega arith)
-fate-above (torn ∷ l) a w h = fate-above l a (w .1) (omega arith)
-fate-above (bad ∷ l) a w h = fate-above l a (w .1) (omega arith)
-fate-above (opening ∷ l) a w h = rw (ne-eqb a (suc (length l)) (λ e. omega arith)) (fate-above l a (w .1) (omega arith))
-fate-above (image i ∷ l) a w h = fate-above l a (w .1) (omega arith)
-fate-above (outcome b c ∷ l) a w h = cond≡ (eqb a b)
-    (λ e. not-unknown (fateOf l a) (known (fateOf l a) (rw (eqb-true a b e) (w .0))) (fate-above l a (w .1) (omega arith)))
-    (λ e. fate-above l a (w .1) (omega arith))
+fate-above l a w h = none-known (fateOf l a) (λ k. omega (arith, known-place l a w k .1))
+
+pub fate-zero : (l : List Entry) → Lawful l → fateOf l 0 ≡ unknown
+fate-zero l w = none-known (fateOf l 0) (λ k. omega (arith, known-place l 0 w k .0))
 
 -- an append that fits keeps what is decided, and of what is known changes only an action that it decides
 pub fate-keeps : (g : Entry) (l : List Entry) → Fits g l → Lawful l → Keeps (fateOf l) (fateOf (g ∷ l))
