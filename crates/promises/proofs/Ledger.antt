@@ -91,11 +91,14 @@ ledgerRead m f t a (some x) = cond (leb (x .image .start) t)
     (ledgerVersions m f t)
 
 -- commit and abort: line 11; the action's tokens end, and a commit makes them current
+abbrev pub currentDecided : Ledger → ℕ → Bool → ℕ → ℕ
+currentDecided m a c f = cond (owns a (token (m .log) f)) (cond c (m .tokenend f) (m .currentend f)) (m .currentend f)
+
+abbrev pub tokenDecided : Ledger → ℕ → ℕ → ℕ
+tokenDecided m a f = cond (owns a (token (m .log) f)) 0 (m .tokenend f)
+
 abbrev pub ledgerDecide : Ledger → ℕ → Bool → LedgerResult
-ledgerDecide m a c = cond (ledgerRoom m 1)
-    (ledgerGrown m (outcome a c) (λ f. cond (owns a (token (m .log) f)) (cond c (m .tokenend f) (m .currentend f)) (m .currentend f))
-    (λ f. cond (owns a (token (m .log) f)) 0 (m .tokenend f)))
-    (ledgerRefuse 11 0 m)
+ledgerDecide m a c = cond (ledgerRoom m 1) (ledgerGrown m (outcome a c) (currentDecided m a c) (tokenDecided m a)) (ledgerRefuse 11 0 m)
 
 -- the row that the store has for a file, once it is rebuilt
 abbrev pub ledgerRow : Ledger → ℕ → Row

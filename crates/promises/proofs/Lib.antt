@@ -3,3 +3,4 @@ pub mod Appends
 pub mod Versions
 pub mod Fates
 pub mod Ledger
+pub mod Sim
