@@ -4,3 +4,5 @@ pub mod Versions
 pub mod Fates
 pub mod Ledger
 pub mod Sim
+pub mod Openings
+pub mod Cuts
