@@ -12,8 +12,8 @@ use borrow.Author.Tests.{eqb-true, eqb-false, eq-eqb, ne-eqb}
 use Rattle.encoding.proofs.Logic.{by-test}
 use Rattle.page.specs.Layout.{pageSize, valueSize}
 use Rattle.recovery.specs.Places.{nth, put}
-use Rattle.recovery.specs.Log.{Entry, blank, torn, image, Placed, fateOf}
-use Rattle.recovery.specs.Lawful.{token, lawful}
+use Rattle.recovery.specs.Log.{Entry, blank, torn, Placed, fateOf}
+use Rattle.recovery.specs.Lawful.{token}
 use Rattle.recovery.specs.World.{World, entryAt, down, isFile}
 use Rattle.recovery.proofs.Places.{nth-put-same, nth-put-other, length-put}
 use Rattle.calls.specs.Calls.{Call, begin, write, read, test, decide, rebuild, isDecided, call}

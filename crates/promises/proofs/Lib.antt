@@ -6,3 +6,4 @@ pub mod Ledger
 pub mod Sim
 pub mod Openings
 pub mod Cuts
+pub mod PageRuns

@@ -8,7 +8,7 @@ use lib.ListN.{length, getD}
 use lib.Dec.{eqb}
 use borrow.Author.Tests.{eqb-true, eqb-false}
 use Rattle.recovery.specs.Places.{nth}
-use Rattle.recovery.specs.Log.{Entry, blank, torn, bad, opening, image, outcome, undecided}
+use Rattle.recovery.specs.Log.{Entry, blank, torn, bad, opening, image, outcome}
 use Rattle.recovery.specs.Lawful.{lawful, lowestUnlawful}
 use Rattle.recovery.specs.World.{World, down, sizes, cold, isBlank, endOf, highestBad, fatesOf, undecidedOf, coldRows, opened}
 use Rattle.recovery.specs.declared.Row.{Row}
