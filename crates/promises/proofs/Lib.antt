@@ -7,3 +7,5 @@ pub mod Sim
 pub mod Openings
 pub mod Cuts
 pub mod PageRuns
+pub mod Stable
+pub mod Shown
