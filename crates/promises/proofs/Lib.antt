@@ -9,3 +9,5 @@ pub mod Cuts
 pub mod PageRuns
 pub mod Stable
 pub mod Shown
+pub mod Found
+pub mod PagePromises
