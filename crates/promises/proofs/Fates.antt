@@ -57,6 +57,7 @@ opening-fates n l = put-tabulate (λ p. fateNumber (fateOf l p)) (λ p. fateNumb
 pub outcome-fates : (n : ℕ) (l : List Entry) (a : ℕ) (c : Bool) → 1 ≤ a → put (fatesOf n l) a (fateNumber (verdict c)) ≡ fatesOf n (outcome a c ∷ l)
 unfolding fateOf
 outcome-fates n l a c h = put-tabulate (λ p. fateNumber (fateOf l p)) (λ p. fateNumber (fateOf (outcome a c ∷ l) p)) n a (fateNumber (verdict c)) h (rw (eq-eqb a a refl)) (λ b u v q. rw (ne-eqb b a q))
+
 pub opening-undecided : (n : ℕ) (l : List Entry) → Lawful l → length l < n → undecidedOf (fatesOf n (opening ∷ l)) ≡ suc (undecidedOf (fatesOf n l))
 opening-undecided n l w h =
     let u : nth 0 (fatesOf n l) (suc (length l)) ≡ 0 = nth-tabulate (λ p. fateNumber (fateOf l p)) n (suc (length l)) 0 (omega arith) h ∙ ap fateNumber (fate-above l (suc (length l)) w (omega arith)) in
