@@ -12,14 +12,15 @@ use Rattle.encoding.proofs.Logic.{by-test}
 use Rattle.recovery.specs.Log.{Image, Entry, torn, opening, image, outcome, Fate, unknown, undecided, committed, aborted, Placed, verdict, fateOf, imagesOf, tokenStep, currentOf, tokenOf}
 use Rattle.recovery.specs.Lawful.{current, token}
 use Rattle.recovery.proofs.InspectSlots.{cond≡}
-use Rattle.promises.proofs.Logs.{ImageFits, Lawful, Known, Keeps, decided-known, not-undecided, not-unknown, fate-above, Chain, decided-keeps, current-keeps, token-keeps, decided-free, chain}
+use Rattle.recovery.proofs.InspectFates.{current-keeps, decided-free}
+use Rattle.promises.proofs.Logs.{ImageFits, Lawful, Known, Keeps, not-undecided, not-unknown, fate-above, Chain, decided-keeps, token-keeps, chain}
 
 -- fates that agree wherever they are known
 abbrev pub Agree : (ℕ → Fate) → (ℕ → Fate) → Type 0
 Agree φ ψ = (a : ℕ) → Known (φ a) → ψ a ≡ φ a
 
 pub agree-keeps : (φ ψ : ℕ → Fate) → Agree φ ψ → Keeps φ ψ
-agree-keeps φ ψ k a d = k a (decided-known (φ a) d)
+agree-keeps φ ψ k a d = k a (omega arith)
 
 pub current-agree : (φ ψ : ℕ → Fate) (xs : List Placed) → Agree φ ψ → Chain φ xs → currentOf ψ xs ≡ currentOf φ xs
 unfolding currentOf

@@ -13,7 +13,8 @@ use Rattle.recovery.specs.World.{down, fateNumber, fateFrom, fateIn, fatesOf, u
 use Rattle.recovery.proofs.Places.{nth-put-other, length-tabulate, getD-tabulate-out, nth-tabulate, put-tabulate}
 use Rattle.recovery.proofs.Pages.{length-down}
 use Rattle.recovery.proofs.InspectSlots.{cond≡}
-use Rattle.promises.proofs.Logs.{entryIn, Lawful, known, known-place, fate-above, fate-zero}
+use Rattle.recovery.proofs.InspectFates.{undecided-known}
+use Rattle.promises.proofs.Logs.{entryIn, Lawful, known-place, fate-above, fate-zero}
 
 from-number : (x : Fate) → fateFrom (fateNumber x) ≡ x
 from-number unknown = refl
@@ -67,7 +68,7 @@ opening-undecided n l w h =
 pub outcome-undecided : (n : ℕ) (l : List Entry) (a : ℕ) (c : Bool) → Lawful l → length l ≤ n → fateOf l a ≡ undecided
     → suc (undecidedOf (fatesOf n (outcome a c ∷ l))) ≡ undecidedOf (fatesOf n l)
 outcome-undecided n l a c w h e =
-    let p = known-place l a w (known (fateOf l a) e) in
+    let p = known-place l a w (undecided-known e) in
     let u : nth 0 (fatesOf n l) a ≡ 1 = nth-tabulate (λ p. fateNumber (fateOf l p)) n a 0 (p .0) (omega (arith, p .1)) ∙ ap fateNumber e in
     let k = undecided-put (fatesOf n l) a (fateNumber (verdict c)) (p .0) (rw length-tabulate (omega arith)) in
     omega (arith, rw (u, outcome-fates n l a c (p .0)) at k, small c)

@@ -14,8 +14,9 @@ use Rattle.recovery.specs.Log.{Image, Entry, blank, torn, opening, image, outco
 use Rattle.recovery.specs.Lawful.{current, token}
 use Rattle.recovery.specs.World.{World, entryAt, isFile}
 use Rattle.recovery.specs.declared.Answer.the-variants.{Refused, Stored}
+use Rattle.recovery.proofs.InspectFates.{undecided-known}
 use Rattle.calls.specs.Calls.{Call, begin, write, read, test, decide, rebuild, isKnown, isDecided, call}
-use Rattle.promises.proofs.Logs.{entryIn, Fits, Lawful, Known, Decided, Keeps, decided-known, known, known-place, fate-keeps, fate-knows, entry-cons, entry-top}
+use Rattle.promises.proofs.Logs.{entryIn, Fits, Lawful, Known, Keeps, known-place, fate-keeps, verdict-decided, fate-knows, entry-cons, entry-top}
 use Rattle.promises.proofs.Versions.{version}
 use Rattle.promises.proofs.Fates.{entry-down}
 use Rattle.promises.proofs.Ledger.{Ledger, LedgerResult, ledgerUndecided, ledgerRoom, ledgerKnows, ledgerForUndecided, ledgerWrite, foundAnswer, ledgerVersions, ledgerRead, toldFate, ledgerCall}
@@ -152,7 +153,7 @@ stays n k b w m p g es s q h e =
     entry-of n k (poweredAfter b es) (runs w es) (ledgerRuns m es) p (run n k b w m es s q) (omega (arith, x .longer)) ∙ x .pages p h ∙ e
 
 known-yes : (x : Fate) → Known x → isKnown x ≡ true
-known-yes unknown h = absurd h
+known-yes unknown h = absurd (omega arith)
 known-yes undecided h = refl
 known-yes committed h = refl
 known-yes aborted h = refl
@@ -170,10 +171,6 @@ outcome-fate a c l = rw (eq-eqb a a refl)
 opening-fate : (l : List Entry) → fateOf (opening ∷ l) (suc (length l)) ≡ undecided
 unfolding fateOf
 opening-fate l = rw (eq-eqb (suc (length l)) (suc (length l)) refl)
-
-verdict-decided : (c : Bool) → Decided (verdict c)
-verdict-decided true = tt
-verdict-decided false = tt
 
 writes-solid : (c : Call) (g : Entry) → Writes c g → (g ≡ blank → ⊥) × (g ≡ torn → ⊥)
 writes-solid begin g h = (λ e. let z : _≡_ {A = ℕ} 0 1 = cc in omega arith, λ e. let z : _≡_ {A = ℕ} 0 1 = cc in omega arith)
@@ -248,7 +245,7 @@ module _ (n k : ℕ) (w : World) (m : Ledger) (s : At n k true w m) (c : Call) (
 pub outcome-told : (n k : ℕ) (w : World) (m : Ledger) → At n k true w m → (a : ℕ) (c : Bool) (p : ℕ) → call w (decide a c) .0 ≡ Stored p
     → (es : List Event) → Proper n k true es → poweredAfter true es ≡ true → call (runs (call w (decide a c) .1) es) (test a) .0 ≡ toldFate (verdict c)
 outcome-told n k w m s a c p e es q b =
-    test-known (runs (call w (decide a c) .1) es) m₂ a (s₂ .stands) (rw f (decided-known (verdict c) (verdict-decided c))) ∙ ap toldFate f
+    test-known (runs (call w (decide a c) .1) es) m₂ a (s₂ .stands) (rw f (omega (arith, verdict-decided c))) ∙ ap toldFate f
   where
     m₁ : Ledger
     m₁ = ledgerCall m (decide a c) .1
@@ -295,4 +292,4 @@ begin-told n k w m s p e es q b = (fateOf (m₂ .log) p, (f, test-known (runs (c
     g = rw (r .log, r .writes, r .place) (opening-fate (m .log))
 
     f : Known (fateOf (m₂ .log) p)
-    f = extends n k true (call w begin .1) m₁ (m₁ .log) es s₁ q (ext-refl (m₁ .log)) .known p (rw g tt)
+    f = extends n k true (call w begin .1) m₁ (m₁ .log) es s₁ q (ext-refl (m₁ .log)) .known p (undecided-known g)

@@ -13,8 +13,8 @@ use Rattle.recovery.specs.Log.{Image, Entry, blank, torn, bad, opening, image, 
 use Rattle.recovery.specs.Lawful.{current, token, isNone, fitsBelow, lawful}
 use Rattle.recovery.specs.World.{fateNumber}
 use Rattle.recovery.proofs.InspectLaw.{lawful-parts, lawful-more, lawful-none}
-use Rattle.recovery.proofs.InspectSlots.{cond≡}
-use Rattle.recovery.proofs.InspectFates.{undecided-is, fate-place}
+use Rattle.recovery.proofs.InspectFates.{undecided-is, undecided-known, fate-place, All, current-keeps}
+use Rattle.recovery.proofs.InspectFates as inspected
 
 -- the page at a place
 abbrev pub entryIn : List Entry → ℕ → Entry
@@ -86,51 +86,30 @@ test-lawful (g ∷ l) w =
 -- ---- fates
 
 abbrev pub Known : Fate → Type 0
-Known unknown = ⊥
-Known undecided = Unit {0}
-Known committed = Unit {0}
-Known aborted = Unit {0}
+Known x = 1 ≤ fateNumber x
 
 abbrev pub Decided : Fate → Type 0
-Decided unknown = ⊥
-Decided undecided = ⊥
-Decided committed = Unit {0}
-Decided aborted = Unit {0}
+Decided x = 2 ≤ fateNumber x
 
 -- decided fates stay
 abbrev pub Keeps : (ℕ → Fate) → (ℕ → Fate) → Type 0
 Keeps φ ψ = (a : ℕ) → Decided (φ a) → ψ a ≡ φ a
 
-pub decided-known : (x : Fate) → Decided x → Known x
-decided-known unknown h = h
-decided-known undecided h = tt
-decided-known committed h = tt
-decided-known aborted h = tt
-
 pub not-undecided : {A : Type 0} (x : Fate) → Decided x → x ≡ undecided → A
-not-undecided x h e = absurd (rw e at h)
+not-undecided x h e = let z : 2 ≤ 1 = rw e at h in absurd (omega arith)
 
 pub not-unknown : {A : Type 0} (x : Fate) → Known x → x ≡ unknown → A
-not-unknown x h e = absurd (rw e at h)
-
-pub known : (x : Fate) → x ≡ undecided → Known x
-known x e = rw e tt
+not-unknown x h e = let z : 1 ≤ 0 = rw e at h in absurd (omega arith)
 
 -- a known action has a place in the log: none is known at place 0 or above the log
-known-number : (x : Fate) → Known x → 1 ≤ fateNumber x
-known-number unknown h = absurd h
-known-number undecided h = omega arith
-known-number committed h = omega arith
-known-number aborted h = omega arith
-
 pub known-place : (l : List Entry) (a : ℕ) → Lawful l → Known (fateOf l a) → (1 ≤ a) × (a ≤ length l)
-known-place l a w h = fate-place l a (lawful-test l w) (known-number (fateOf l a) h)
+known-place l a w h = fate-place l a (lawful-test l w) h
 
 none-known : (x : Fate) → (Known x → ⊥) → x ≡ unknown
 none-known unknown h = refl
-none-known undecided h = absurd (h tt)
-none-known committed h = absurd (h tt)
-none-known aborted h = absurd (h tt)
+none-known undecided h = absurd (h (omega arith))
+none-known committed h = absurd (h (omega arith))
+none-known aborted h = absurd (h (omega arith))
 
 pub fate-above : (l : List Entry) (a : ℕ) → Lawful l → length l < a → fateOf l a ≡ unknown
 fate-above l a w h = none-known (fateOf l a) (λ k. omega (arith, known-place l a w k .1))
@@ -138,17 +117,9 @@ fate-above l a w h = none-known (fateOf l a) (λ k. omega (arith, known-place l 
 pub fate-zero : (l : List Entry) → Lawful l → fateOf l 0 ≡ unknown
 fate-zero l w = none-known (fateOf l 0) (λ k. omega (arith, known-place l 0 w k .0))
 
--- an append that fits keeps what is decided, and of what is known changes only an action that it decides
+-- an append that fits keeps what is decided, and knows what was known
 pub fate-keeps : (g : Entry) (l : List Entry) → Fits g l → Lawful l → Keeps (fateOf l) (fateOf (g ∷ l))
-unfolding fateOf
-fate-keeps blank l h w a d = refl
-fate-keeps torn l h w a d = refl
-fate-keeps bad l h w a d = refl
-fate-keeps opening l h w a d = cond≡ (eqb a (suc (length l)))
-    (λ e. not-unknown (fateOf l a) (decided-known (fateOf l a) d) (fate-above l a w (omega (arith, eqb-true a (suc (length l)) e))))
-    (λ e. refl)
-fate-keeps (image i) l h w a d = refl
-fate-keeps (outcome b c) l h w a d = cond≡ (eqb a b) (λ e. not-undecided (fateOf l a) d (rw (eqb-true a b e) h)) (λ e. refl)
+fate-keeps g l h w a d = inspected.fate-keeps g l (fits-test g l h) (lawful-test l w) a d
 
 -- the images of a file, with the fates that count: all but the newest are decided, each is linked to the newest version
 -- below it and starts later
@@ -158,64 +129,44 @@ pub record Above (φ : ℕ → Fate) (x : Placed) (xs : List Placed) : Type 0 wh
   pub higher : placeOf (currentOf φ xs) < x .place
   pub later : startOf (currentOf φ xs) < x .image .start
 
-abbrev pub AllDecided : (ℕ → Fate) → List Placed → Type 0
-AllDecided φ [] = Unit {0}
-AllDecided φ (x ∷ xs) = Decided (φ (x .image .action)) × AllDecided φ xs
-
 abbrev pub Chain : (ℕ → Fate) → List Placed → Type 0
 Chain φ [] = Unit {0}
-Chain φ (x ∷ xs) = Above φ x xs × AllDecided φ xs × Chain φ xs
+Chain φ (x ∷ xs) = Above φ x xs × All 2 φ xs × Chain φ xs
 
-verdict-known : (c : Bool) → Known (verdict c)
-verdict-known true = tt
-verdict-known false = tt
+pub verdict-decided : (c : Bool) → Decided (verdict c)
+verdict-decided true = omega arith
+verdict-decided false = omega arith
 
 pub fate-knows : (g : Entry) (l : List Entry) (a : ℕ) → Known (fateOf l a) → Known (fateOf (g ∷ l) a)
 unfolding fateOf
 fate-knows blank l a h = h
 fate-knows torn l a h = h
 fate-knows bad l a h = h
-fate-knows opening l a h = by-test Known (eqb a (suc (length l))) (λ e. tt) (λ e. h)
+fate-knows opening l a h = by-test Known (eqb a (suc (length l))) (λ e. omega arith) (λ e. h)
 fate-knows (image i) l a h = h
-fate-knows (outcome b c) l a h = by-test Known (eqb a b) (λ e. verdict-known c) (λ e. h)
+fate-knows (outcome b c) l a h = by-test Known (eqb a b) (λ e. omega (arith, verdict-decided c)) (λ e. h)
 
 module _ (φ ψ : ℕ → Fate) (k : Keeps φ ψ) where
-  pub decided-keeps : (xs : List Placed) → AllDecided φ xs → AllDecided ψ xs
+  pub decided-keeps : (xs : List Placed) → All 2 φ xs → All 2 ψ xs
   decided-keeps [] h = tt
   decided-keeps (x ∷ xs) h = (rw (k (x .image .action) (h .0)) (h .0), decided-keeps xs (h .1))
 
-  pub current-keeps : (xs : List Placed) → AllDecided φ xs → currentOf ψ xs ≡ currentOf φ xs
-  unfolding currentOf
-  current-keeps [] h = refl
-  current-keeps (x ∷ xs) h = rw (k (x .image .action) (h .0), current-keeps xs (h .1))
-
-  pub token-keeps : (xs : List Placed) → AllDecided φ xs → tokenOf ψ xs ≡ tokenOf φ xs
+  pub token-keeps : (xs : List Placed) → All 2 φ xs → tokenOf ψ xs ≡ tokenOf φ xs
   unfolding tokenOf
   token-keeps [] h = refl
   token-keeps (x ∷ xs) h = rw (k (x .image .action) (h .0), token-keeps xs (h .1))
 
--- where all are decided there is no token; and where there is none, all are decided
-pub decided-free : (φ : ℕ → Fate) (xs : List Placed) → AllDecided φ xs → tokenOf φ xs ≡ none
-unfolding tokenOf
-decided-free φ [] h = refl
-decided-free φ (x ∷ xs) h = go (φ (x .image .action)) (h .0) (decided-free φ xs (h .1))
-  where
-    go : (y : Fate) → Decided y → tokenOf φ xs ≡ none → tokenStep y x (tokenOf φ xs) ≡ none
-    go unknown d e = absurd d
-    go undecided d e = absurd d
-    go committed d e = refl
-    go aborted d e = e
-
-pub free-decided : (φ : ℕ → Fate) (xs : List Placed) → Chain φ xs → tokenOf φ xs ≡ none → AllDecided φ xs
+-- where there is no token, all are decided
+pub free-decided : (φ : ℕ → Fate) (xs : List Placed) → Chain φ xs → tokenOf φ xs ≡ none → All 2 φ xs
 unfolding tokenOf
 free-decided φ [] h e = tt
 free-decided φ (x ∷ xs) h e = (go (φ (x .image .action)) (h .0 .sure) e, h .1)
   where
     go : (y : Fate) → Known y → tokenStep y x (tokenOf φ xs) ≡ none → Decided y
-    go unknown d q = d
+    go unknown d q = absurd (omega arith)
     go undecided d q = absurd (Option·some-ne-none _ q)
-    go committed d q = tt
-    go aborted d q = tt
+    go committed d q = omega arith
+    go aborted d q = omega arith
 
 pub chain-keeps : (φ ψ : ℕ → Fate) → Keeps φ ψ → ((a : ℕ) → Known (φ a) → Known (ψ a)) → (xs : List Placed) → Chain φ xs → Chain ψ xs
 chain-keeps φ ψ k n [] h = tt
@@ -292,7 +243,7 @@ chain-image : (i : Image) (l : List Entry) (f : ℕ) → ImageFits i l → i .fi
     → Chain (fateOf l) (record { place = suc (length l); image = i } ∷ imagesOf l f)
 chain-image i l f h e r = (
   record {
-    sure = known (fateOf l (i .action)) (h .live);
+    sure = undecided-known (h .live);
     links = rw (← e) (h .links);
     higher = omega (arith, current-high (fateOf l) l f (imagesOf l f) (spots l f));
     later = rw (← e) (h .later);

@@ -13,8 +13,9 @@ use Rattle.recovery.specs.Log.{Image, Entry, blank, torn, bad, opening, image, 
 use Rattle.recovery.specs.Lawful.{token}
 use Rattle.recovery.specs.World.{World, entryAt, fateAt, isFile}
 use Rattle.recovery.specs.declared.Answer.the-variants.{Refused, Value}
+use Rattle.recovery.proofs.InspectFates.{undecided-known, All, decided-free}
 use Rattle.calls.specs.Calls.{read, isDecided, call}
-use Rattle.promises.proofs.Logs.{entryIn, Known, Decided, not-undecided, known, known-place, AllDecided, Chain, decided-free, Spot, Spots, spots, chain}
+use Rattle.promises.proofs.Logs.{entryIn, Known, Decided, not-undecided, known-place, Chain, Spot, Spots, spots, chain}
 use Rattle.promises.proofs.Versions.{version, Among, first, next, newest, shown, shows}
 use Rattle.promises.proofs.Ledger.{Ledger, LedgerResult, ledgerKnows, foundAnswer, ledgerVersions, ledgerRead, ledgerCall}
 use Rattle.promises.proofs.Sim.{Sim, Lies, token-lies, fate-eq, entry-eq, lies-at, sim-call}
@@ -46,12 +47,12 @@ token-later φ [] y h e = absurd (Option·some-ne-none _ (sym e))
 token-later φ (x ∷ xs) y h e = go (φ (x .image .action)) (h .0 .sure) e
   where
     go : (q : Fate) → Known q → tokenStep q x (tokenOf φ xs) ≡ some y → startOf (currentStep q x (currentOf φ xs)) < y .image .start
-    go unknown k r = absurd k
+    go unknown k r = absurd (omega arith)
     go undecided k r = let i : x ≡ y = cc in rw (← i) (h .0 .later)
     go committed k r = absurd (Option·some-ne-none _ (sym r))
     go aborted k r = absurd (Option·some-ne-none _ (sym r ∙ decided-free φ xs (h .1)))
 
-settled-among : (φ : ℕ → Fate) (x : Placed) (xs : List Placed) → AllDecided φ xs → Among x xs → Decided (φ (x .image .action))
+settled-among : (φ : ℕ → Fate) (x : Placed) (xs : List Placed) → All 2 φ xs → Among x xs → Decided (φ (x .image .action))
 settled-among φ x xs h first = h .0
 settled-among φ x xs h (next {y} {xs = ys} m) = settled-among φ x ys (h .1) m
 
@@ -120,7 +121,7 @@ module _ (w : World) (m : Ledger) (s : Sim w m) where
       d = sym (fate-eq w m s (i .action)) ∙ c
 
       b : (1 ≤ i .action) × (i .action ≤ length (m .log))
-      b = known-place (m .log) (i .action) (s .lawful) (known (fateOf (m .log) (i .action)) d)
+      b = known-place (m .log) (i .action) (s .lawful) (undecided-known d)
 
       fl : isFile (m .files) (i .file) ≡ true
       fl = rw (s .files) at f
@@ -169,7 +170,7 @@ module _ (w : World) (m : Ledger) (s : Sim w m) (f t a p st n : ℕ) where
   shows-token none i l = shows-versions
   shows-token (some x) i l = by-test Seen-in (leb (x .image .start) t)
       (λ q. by-test Seen-in (eqb (x .image .action) a) (λ r e. make x l (leb-true (x .image .start) t q) (own (rw (eqb-true (x .image .action) a r) at
-      (known-place (m .log) (x .image .action) (s .lawful) (known (fateOf (m .log) (x .image .action)) (token-live (fateOf (m .log)) (imagesOf (m .log) f) x i)) .0)) (eqb-true (x .image .action) a r)) e) (λ r. no-such 9 (x .image .action)))
+      (known-place (m .log) (x .image .action) (s .lawful) (undecided-known (token-live (fateOf (m .log)) (imagesOf (m .log) f) x i)) .0)) (eqb-true (x .image .action) a r)) e) (λ r. no-such 9 (x .image .action)))
       (λ q. shows-versions)
 
   shows-read : Seen-in (ledgerCall m (read f t a))

@@ -19,8 +19,9 @@ use Rattle.recovery.specs.declared.Row.{Row}
 use Rattle.recovery.specs.declared.Answer.the-variants.{Stored}
 use Rattle.recovery.proofs.Places.{nth-put-same, nth-put-other, length-put, length-tabulate}
 use Rattle.recovery.proofs.Lookups.{is-file}
+use Rattle.recovery.proofs.InspectFates.{undecided-known}
 use Rattle.calls.specs.Calls.{Call, begin, write, read, test, decide, rebuild, forFile, isKnown, isDecided, hasAction, forAction, forUndecided, hasRoom, append, store, onBegin, imageOf, actionOf, onWrite, walkFrom, answerWalk, reaches, onVersions, onToken, onRead, decided, isTokenOf, settled, eachRow, onDecide, on, call}
-use Rattle.promises.proofs.Logs.{entryIn, ImageFits, Fits, Lawful, known, known-place, Spot, Spots, spots, chain}
+use Rattle.promises.proofs.Logs.{entryIn, ImageFits, Fits, Lawful, known-place, Spot, Spots, spots, chain}
 use Rattle.promises.proofs.Appends.{opening-current, opening-token, image-current, image-token, owns, outcome-current, outcome-token}
 use Rattle.promises.proofs.Versions.{version, walked, version-none, AllSeen, walk-finds}
 use Rattle.promises.proofs.Fates.{fates-are, opening-fates, outcome-fates, opening-undecided, outcome-undecided, undecided-low, entry-down, down-put}
@@ -427,7 +428,7 @@ module _ (w : World) (m : Ledger) (s : Sim w m) where
       go : ledgerRoom m 1 ≡ true → Sim (append w (outcome a c) (put (w .fates) a (fateNumber (verdict c))) (eachRow (settled w a c) 0 (w .rows)) (pred (w .undecided))) (ledgerGrown m (outcome a c) (currentDecided m a c) (tokenDecided m a) .1)
       go e =
           let k : length (m .log) < m .pages = omega (arith, leb-true 1 (m .pages - length (m .log)) e) in
-          let p = known-place (m .log) a (s .lawful) (known (fateOf (m .log) a) o) in
+          let p = known-place (m .log) a (s .lawful) (undecided-known o) in
           sim-append w m s (outcome a c) (put (w .fates) a (fateNumber (verdict c))) (eachRow (settled w a c) 0 (w .rows)) (pred (w .undecided)) (currentDecided m a c) (tokenDecided m a) o k
           (rw (s .fates) (outcome-fates (m .pages) (m .log) a c (p .0)))
           (omega (arith, s .undecided, outcome-undecided (m .pages) (m .log) a c (s .lawful) (s .room) o))

@@ -13,9 +13,10 @@ use Rattle.page.specs.Layout.{pageSize, valueSize}
 use Rattle.recovery.specs.Log.{Image, Entry, blank, torn, image, Fate, unknown, undecided, committed, aborted, Placed, fateOf, imagesOf, tokenStep, tokenOf, placeOf, startOf}
 use Rattle.recovery.specs.Lawful.{current, token}
 use Rattle.recovery.specs.World.{World, sizes, isFile}
+use Rattle.recovery.proofs.InspectFates.{undecided-known}
 use Rattle.calls.specs.Calls.{Call, begin, write, read, test, decide, rebuild, isDecided, call}
 use Rattle.calls.proofs.EveryCall.{isRefused}
-use Rattle.promises.proofs.Logs.{Lawful, not-unknown, known, fate-zero, entry-top}
+use Rattle.promises.proofs.Logs.{Lawful, not-unknown, fate-zero, entry-top}
 use Rattle.promises.proofs.Appends.{opening-token, torn-token, image-token, owns, outcome-token}
 use Rattle.promises.proofs.Versions.{version, shows, Clear, version-keeps}
 use Rattle.promises.proofs.Ledger.{Ledger, LedgerResult, endAt, ledgerUndecided, ledgerRoom, ledgerKnows, ledgerForUndecided, ledgerWrite, foundAnswer, within, raised, ledgerVersions, ledgerRead, ledgerDecide, ledgerCall}
@@ -202,7 +203,7 @@ module _ (m : Ledger) (f t : ℕ) (w : Lawful (m .log)) (r : Reach (m .log) (m .
       by-own : (x : Placed) → token (m .log) f ≡ some x → isFile (m .files) f ≡ true → leb (x .image .start) t ≡ true → (b : Bool) → eqb (x .image .action) 0 ≡ b → ToldAt m f t
       by-own x q e l true o =
           let z : fateOf (m .log) 0 ≡ undecided = rw (eqb-true (x .image .action) 0 o) at (token-live (fateOf (m .log)) (imagesOf (m .log) f) x q) in
-          not-unknown (fateOf (m .log) 0) (known (fateOf (m .log) 0) z) (fate-zero (m .log) w)
+          not-unknown (fateOf (m .log) 0) (undecided-known z) (fate-zero (m .log) w)
       by-own x q e l false o = absurd (true≢false (rw (e, q, l, o) at h))
 
       by-start : (x : Placed) → token (m .log) f ≡ some x → isFile (m .files) f ≡ true → (b : Bool) → leb (x .image .start) t ≡ b → ToldAt m f t

@@ -10,8 +10,9 @@ use borrow.Author.Tests.{eqb-true, leb-true, eq-eqb, ne-eqb, le-leb, lt-leb}
 use Rattle.encoding.proofs.Logic.{by-test}
 use Rattle.recovery.specs.Log.{Entry, blank, torn, bad, opening, image, outcome, Fate, unknown, undecided, committed, aborted, Placed, fateOf, imagesOf, currentStep, currentOf, tokenOf, placeOf, startOf}
 use Rattle.recovery.specs.Lawful.{token}
+use Rattle.recovery.proofs.InspectFates.{All}
 use Rattle.calls.specs.Walk.{Walk, met, nothing, endless, via, follow}
-use Rattle.promises.proofs.Logs.{Fits, Lawful, Keeps, AllDecided, Chain, chain}
+use Rattle.promises.proofs.Logs.{Fits, Lawful, Keeps, Chain, chain}
 use Rattle.promises.proofs.Appends.{Agree, agree-keeps, opening-agree, turned, turn-keeps}
 
 -- the newest version whose start is not above a time
@@ -172,7 +173,7 @@ abbrev pub Clear : ℕ → Option Placed → Type 0
 Clear t none = Unit {0}
 Clear t (some x) = t < x .image .start
 
-version-of-keeps : (φ ψ : ℕ → Fate) (t : ℕ) (xs : List Placed) → Keeps φ ψ → AllDecided φ xs → versionOf ψ t xs ≡ versionOf φ t xs
+version-of-keeps : (φ ψ : ℕ → Fate) (t : ℕ) (xs : List Placed) → Keeps φ ψ → All 2 φ xs → versionOf ψ t xs ≡ versionOf φ t xs
 unfolding versionOf
 version-of-keeps φ ψ t [] k h = refl
 version-of-keeps φ ψ t (x ∷ xs) k h = rw (k (x .image .action) (h .0), version-of-keeps φ ψ t xs k (h .1))
