@@ -13,7 +13,8 @@ use Rattle.recovery.specs.Log.{Image, Entry, torn, opening, image, outcome, Fat
 use Rattle.recovery.specs.Lawful.{current, token}
 use Rattle.recovery.proofs.InspectSlots.{cond≡}
 use Rattle.recovery.proofs.InspectFates.{current-keeps, decided-free}
-use Rattle.promises.proofs.Logs.{ImageFits, Lawful, Known, Keeps, not-undecided, not-unknown, fate-above, Chain, decided-keeps, token-keeps, chain}
+use Rattle.promises.proofs.Logs.{ImageFits, Lawful, Known, Keeps, not-undecided, not-unknown, fate-above}
+use Rattle.promises.proofs.Chains.{Chain, decided-keeps, token-keeps, chain}
 
 -- fates that agree wherever they are known
 abbrev pub Agree : (ℕ → Fate) → (ℕ → Fate) → Type 0

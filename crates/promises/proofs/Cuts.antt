@@ -17,10 +17,11 @@ use Rattle.recovery.specs.Lawful.{token}
 use Rattle.recovery.specs.World.{World, entryAt, down, isFile}
 use Rattle.recovery.proofs.Places.{nth-put-same, nth-put-other, length-put}
 use Rattle.calls.specs.Calls.{Call, begin, write, read, test, decide, rebuild, isDecided, call}
-use Rattle.promises.proofs.Logs.{entryIn, Fits, entry-top}
+use Rattle.promises.proofs.Logs.{entryIn, entry-top, Fits}
 use Rattle.promises.proofs.Fates.{entry-down, down-put}
 use Rattle.promises.proofs.Ledger.{Ledger, LedgerResult, ledgerGrown, withEnds, ledgerUndecided, ledgerRoom, ledgerKnows, ledgerForUndecided, ledgerWrite, ledgerRead, ledgerCall}
-use Rattle.promises.proofs.Sim.{Sim, sim-call}
+use Rattle.promises.proofs.Sim.{Sim}
+use Rattle.promises.proofs.SimCalls.{sim-call}
 use Rattle.promises.proofs.Openings.{Holds, sim-holds}
 
 -- what n stored bytes make of a page at a blank place, by the laws of the page crate

@@ -16,11 +16,12 @@ use Rattle.recovery.specs.World.{World, entryAt, isFile}
 use Rattle.recovery.specs.declared.Answer.the-variants.{Refused, Stored}
 use Rattle.recovery.proofs.InspectFates.{undecided-known}
 use Rattle.calls.specs.Calls.{Call, begin, write, read, test, decide, rebuild, isKnown, isDecided, call}
-use Rattle.promises.proofs.Logs.{entryIn, Fits, Lawful, Known, Keeps, known-place, fate-keeps, verdict-decided, fate-knows, entry-cons, entry-top}
+use Rattle.promises.proofs.Logs.{entryIn, entry-cons, entry-top, Fits, Lawful, Known, Keeps, known-place, fate-keeps, verdict-decided, fate-knows}
 use Rattle.promises.proofs.Versions.{version}
 use Rattle.promises.proofs.Fates.{entry-down}
 use Rattle.promises.proofs.Ledger.{Ledger, LedgerResult, ledgerUndecided, ledgerRoom, ledgerKnows, ledgerForUndecided, ledgerWrite, foundAnswer, ledgerVersions, ledgerRead, toldFate, ledgerCall}
-use Rattle.promises.proofs.Sim.{Sim, sim-call}
+use Rattle.promises.proofs.Sim.{Sim}
+use Rattle.promises.proofs.SimCalls.{sim-call}
 use Rattle.promises.proofs.Cuts.{partialLog, cutLog, Step, stay, add, moves}
 use Rattle.promises.proofs.PageRuns.{Event, calls, opens, fails, cuts, after, runs, Proper, poweredAfter, ledgerAfter, ledgerRuns, At, stands-off, event, run}
 

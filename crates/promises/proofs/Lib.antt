@@ -1,9 +1,14 @@
 pub mod Logs
+pub mod Chains
 pub mod Appends
 pub mod Versions
 pub mod Fates
 pub mod Ledger
 pub mod Sim
+pub mod SimWrites
+pub mod SimReads
+pub mod SimDecides
+pub mod SimCalls
 pub mod Openings
 pub mod Cuts
 pub mod PageRuns

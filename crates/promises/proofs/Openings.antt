@@ -14,7 +14,7 @@ use Rattle.recovery.specs.World.{World, down, sizes, cold, isBlank, endOf, high
 use Rattle.recovery.specs.declared.Row.{Row}
 use Rattle.recovery.specs.declared.Answer.the-variants.{Opened}
 use Rattle.recovery.proofs.InspectLaw.{lowest-none}
-use Rattle.promises.proofs.Logs.{entryIn, Lawful, lawful-test, entry-top}
+use Rattle.promises.proofs.Logs.{entryIn, entry-top, Lawful, lawful-test}
 use Rattle.promises.proofs.Fates.{entry-down}
 use Rattle.promises.proofs.Ledger.{Ledger, ledgerOpened}
 use Rattle.promises.proofs.Sim.{Sim, Agrees}

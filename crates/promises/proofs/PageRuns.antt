@@ -17,7 +17,8 @@ use Rattle.recovery.specs.declared.Answer.the-variants.{Refused, Opened}
 use Rattle.calls.specs.Calls.{Call, begin, write, read, test, decide, rebuild, call}
 use Rattle.promises.proofs.Versions.{next}
 use Rattle.promises.proofs.Ledger.{Ledger, LedgerResult, ledgerCall, ledgerOpened}
-use Rattle.promises.proofs.Sim.{Sim, sim-call}
+use Rattle.promises.proofs.Sim.{Sim}
+use Rattle.promises.proofs.SimCalls.{sim-call}
 use Rattle.promises.proofs.Openings.{Holds, sim-holds, sim-open}
 use Rattle.promises.proofs.Cuts.{cutSheet, cutLog, moves, cut-holds}
 

@@ -15,10 +15,12 @@ use Rattle.recovery.specs.World.{World, entryAt, fateAt, isFile}
 use Rattle.recovery.specs.declared.Answer.the-variants.{Refused, Value}
 use Rattle.recovery.proofs.InspectFates.{undecided-known, All, decided-free}
 use Rattle.calls.specs.Calls.{read, isDecided, call}
-use Rattle.promises.proofs.Logs.{entryIn, Known, Decided, not-undecided, known-place, Chain, Spot, Spots, spots, chain}
+use Rattle.promises.proofs.Logs.{entryIn, Known, Decided, not-undecided, known-place}
+use Rattle.promises.proofs.Chains.{Chain, Spot, Spots, spots, chain}
 use Rattle.promises.proofs.Versions.{version, Among, first, next, newest, shown, shows}
 use Rattle.promises.proofs.Ledger.{Ledger, LedgerResult, ledgerKnows, foundAnswer, ledgerVersions, ledgerRead, ledgerCall}
-use Rattle.promises.proofs.Sim.{Sim, Lies, token-lies, fate-eq, entry-eq, lies-at, sim-call}
+use Rattle.promises.proofs.Sim.{Sim, Lies, token-lies, fate-eq, entry-eq, lies-at}
+use Rattle.promises.proofs.SimCalls.{sim-call}
 use Rattle.promises.proofs.Stable.{token-live}
 
 -- an image of a log is among its file's images

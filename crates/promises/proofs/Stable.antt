@@ -16,11 +16,13 @@ use Rattle.recovery.specs.World.{World, sizes, isFile}
 use Rattle.recovery.proofs.InspectFates.{undecided-known}
 use Rattle.calls.specs.Calls.{Call, begin, write, read, test, decide, rebuild, isDecided, call}
 use Rattle.calls.proofs.EveryCall.{isRefused}
-use Rattle.promises.proofs.Logs.{Lawful, not-unknown, fate-zero, entry-top}
+use Rattle.promises.proofs.Logs.{entry-top, Lawful, not-unknown, fate-zero}
 use Rattle.promises.proofs.Appends.{opening-token, torn-token, image-token, owns, outcome-token}
 use Rattle.promises.proofs.Versions.{version, shows, Clear, version-keeps}
 use Rattle.promises.proofs.Ledger.{Ledger, LedgerResult, endAt, ledgerUndecided, ledgerRoom, ledgerKnows, ledgerForUndecided, ledgerWrite, foundAnswer, within, raised, ledgerVersions, ledgerRead, ledgerDecide, ledgerCall}
-use Rattle.promises.proofs.Sim.{Reach, raised-low, end-at-same, end-at-low, sim-call}
+use Rattle.promises.proofs.Sim.{Reach}
+use Rattle.promises.proofs.SimReads.{raised-low, end-at-same, end-at-low}
+use Rattle.promises.proofs.SimCalls.{sim-call}
 use Rattle.promises.proofs.Cuts.{cutLog, Step, stay, add, moves}
 use Rattle.promises.proofs.PageRuns.{Event, calls, opens, fails, cuts, after, runs, Proper, poweredAfter, ledgerAfter, ledgerRuns, At, event, run, blankWorld, blankLedger, at-blank}
 

@@ -12,7 +12,8 @@ use Rattle.recovery.specs.Log.{Entry, blank, torn, bad, opening, image, outcome
 use Rattle.recovery.specs.Lawful.{token}
 use Rattle.recovery.proofs.InspectFates.{All}
 use Rattle.calls.specs.Walk.{Walk, met, nothing, endless, via, follow}
-use Rattle.promises.proofs.Logs.{Fits, Lawful, Keeps, Chain, chain}
+use Rattle.promises.proofs.Logs.{Fits, Lawful, Keeps}
+use Rattle.promises.proofs.Chains.{Chain, chain}
 use Rattle.promises.proofs.Appends.{Agree, agree-keeps, opening-agree, turned, turn-keeps}
 
 -- the newest version whose start is not above a time
