@@ -16,3 +16,5 @@ pub mod Stable
 pub mod Shown
 pub mod Found
 pub mod PagePromises
+pub mod Replaced
+pub mod Stored

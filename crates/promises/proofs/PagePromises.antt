@@ -10,7 +10,7 @@ use Rattle.recovery.specs.Lawful.{lowestUnlawful}
 use Rattle.recovery.specs.World.{World, entryAt, down, fateAt, sizes, isFile, endOf}
 use Rattle.recovery.specs.declared.Answer.the-variants.{Stored, Value}
 use Rattle.calls.specs.Calls.{Call, begin, read, test, decide, on, call}
-use Rattle.calls.proofs.EveryCall.{isRefused}
+use Rattle.recovery.specs.Numbers.{isRefused}
 use Rattle.promises.proofs.Logs.{Known}
 use Rattle.promises.proofs.Ledger.{Ledger, toldFate}
 use Rattle.promises.proofs.Openings.{holds-lawful}

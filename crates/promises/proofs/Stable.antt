@@ -15,7 +15,7 @@ use Rattle.recovery.specs.Lawful.{current, token}
 use Rattle.recovery.specs.World.{World, sizes, isFile}
 use Rattle.recovery.proofs.InspectFates.{undecided-known}
 use Rattle.calls.specs.Calls.{Call, begin, write, read, test, decide, rebuild, isDecided, call}
-use Rattle.calls.proofs.EveryCall.{isRefused}
+use Rattle.recovery.specs.Numbers.{isRefused}
 use Rattle.promises.proofs.Logs.{entry-top, Lawful, not-unknown, fate-zero}
 use Rattle.promises.proofs.Appends.{opening-token, torn-token, image-token, owns, outcome-token}
 use Rattle.promises.proofs.Versions.{version, shows, Clear, version-keeps}

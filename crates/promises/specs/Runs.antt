@@ -1,0 +1,130 @@
+-- Runs of a box: calls, openings and cuts of the supply, in any number and order, what each is answered and what it leaves.
+use Prim.Native.Nat.{ℕ, _+_, _*_, _^_, max, _≤_, _<_}
+use mathlib.Core.Path.{_≡_}
+use mathlib.Core.List.{List, [], _∷_, _++_}
+use mathlib.Core.Bool.{Bool, true, false, cond}
+use mathlib.Core.Option.{Option, some, none}
+use lib.ListN.{length, take, drop, replicate}
+use lib.Dec.{eqb}
+use Rattle.page.specs.Layout.{pageSize}
+use Rattle.recovery.specs.declared.State.{State}
+use Rattle.recovery.specs.declared.Answer.{Answer}
+use Rattle.recovery.specs.Numbers.{isRefused}
+use Rattle.recovery.specs.World.{sizes}
+use Rattle.recovery.specs.Lent.{Left, rowLength, sizesRight, openLeaves}
+use Rattle.calls.specs.Calls.{Call, begin, write, read, test, decide, rebuild}
+use Rattle.calls.specs.Effect.{callLeaves}
+
+-- a box is on, with all that the last call left it, or off, with its sheet alone
+pub record Memory : Type 0 where
+  pub sheet : List ℕ
+  pub fates : List ℕ
+  pub rows : List ℕ
+  pub state : State
+
+pub data Box : Type 0 where
+  on : Memory → Box
+  off : List ℕ → Box
+
+abbrev pub sheetOf : Box → List ℕ
+sheetOf (on m) = m .sheet
+sheetOf (off s) = s
+
+-- a call; an opening, with its floor and with the fates and rows that it is lent, as they are found; a call that is cut when so
+-- many bytes of the page that it appends are stored
+pub data Event : Type 0 where
+  calls : Call → Event
+  opens : ℕ → List ℕ → List ℕ → Event
+  cuts : Call → ℕ → Event
+
+-- what the functions leave, by their contracts
+abbrev pub callOn : Memory → Call → Left
+callOn m k = callLeaves (m .sheet) (m .fates) (m .rows) (m .state) k
+
+abbrev pub memoryOf : Left → Memory
+memoryOf x = record { sheet = x .sheet; fates = x .fates; rows = x .rows; state = x .state }
+
+-- no call gets a refused opening's state
+abbrev pub boxOf : Left → Box
+boxOf x = cond (isRefused (x .answer)) (off (x .sheet)) (on (memoryOf x))
+
+-- bytes are stored first to last, and nothing but the page above the end is written
+abbrev pub storedTo : ℕ → List ℕ → List ℕ → List ℕ
+storedTo i new old = take i new ++ drop i old
+
+-- a box that is off answers no call
+abbrev pub answerTo : Box → Event → Option Answer
+answerTo (on m) (calls k) = some (callOn m k .answer)
+answerTo (off s) (calls k) = none
+answerTo b (opens floor fates rows) = some (openLeaves (sheetOf b) fates rows floor .answer)
+answerTo b (cuts k n) = none
+
+abbrev pub after : Box → Event → Box
+after (on m) (calls k) = on (memoryOf (callOn m k))
+after (off s) (calls k) = off s
+after b (opens floor fates rows) = boxOf (openLeaves (sheetOf b) fates rows floor)
+after (on m) (cuts k n) = off (storedTo (pageSize * m .state .end + n) (callOn m k .sheet) (m .sheet))
+after (off s) (cuts k n) = off s
+
+abbrev pub runs : Box → List Event → Box
+runs b [] = b
+runs b (e ∷ es) = runs (after b e) es
+
+unfoldable pub heard : Box → List Event → List (Option Answer)
+heard b [] = []
+heard b (e ∷ es) = answerTo b e ∷ heard (after b e) es
+
+-- ---- the premises
+
+-- what the language's types allow
+abbrev pub Typed : Call → Type 0
+Typed begin = Unit {0}
+Typed (write file start action value) = start < 2 ^ 64
+Typed (read file time action) = Unit {0}
+Typed (test action) = Unit {0}
+Typed (decide action committed) = Unit {0}
+Typed (rebuild file) = Unit {0}
+
+-- the file count stays: an opening that line 1 lets pass is lent the rows of that many files
+abbrev pub Allowed : ℕ → ℕ → Event → Type 0
+Allowed pages files (calls k) = Typed k
+Allowed pages files (opens floor fates rows) = sizesRight (pageSize * pages) (length fates) (length rows) ≡ true → length rows ≡ rowLength * files
+Allowed pages files (cuts k n) = Typed k
+
+abbrev pub AllAllowed : ℕ → ℕ → List Event → Type 0
+AllAllowed pages files [] = Unit {0}
+AllAllowed pages files (e ∷ es) = Allowed pages files e × AllAllowed pages files es
+
+-- the events on a sheet that began blank, with so many pages, for so many files
+abbrev pub blankBox : ℕ → Box
+blankBox pages = off (replicate (pageSize * pages) 0)
+
+pub record Run (pages files : ℕ) (es : List Event) : Type 0 where
+  pub sized : sizes pages pages files ≡ true
+  pub allowed : AllAllowed pages files es
+
+-- the time that a read outside any action asks, 0 for another call
+abbrev pub timeOf : Call → ℕ
+timeOf begin = 0
+timeOf (write file start action value) = 0
+timeOf (read file time action) = cond (eqb action 0) time 0
+timeOf (test action) = 0
+timeOf (decide action committed) = 0
+timeOf (rebuild file) = 0
+
+-- that time, of a read that is answered without a refusal
+abbrev pub timeHeard : Box → Event → ℕ
+timeHeard (on m) (calls k) = cond (isRefused (callOn m k .answer)) 0 (timeOf k)
+timeHeard (off s) (calls k) = 0
+timeHeard b (opens floor fates rows) = 0
+timeHeard b (cuts k n) = 0
+
+abbrev pub FloorFrom : ℕ → Event → Type 0
+FloorFrom time (calls k) = Unit {0}
+FloorFrom time (opens floor fates rows) = time ≤ floor
+FloorFrom time (cuts k n) = Unit {0}
+
+-- each opening's floor is at least every time heard before it
+abbrev pub Floors : ℕ → Box → List Event → Type 0
+Floors time b [] = Unit {0}
+Floors time b (e ∷ es) = FloorFrom time e × Floors (max time (timeHeard b e)) (after b e) es
