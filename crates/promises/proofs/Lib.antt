@@ -18,3 +18,6 @@ pub mod Found
 pub mod PagePromises
 pub mod Replaced
 pub mod Stored
+pub mod Appended
+pub mod ByteCalls
+pub mod ByteRuns

@@ -112,7 +112,7 @@ pub record EventAgrees (n k : ℕ) (w : World) (m : Ledger) (e : Event) : Type 0
   pub answer : answerOf w e ≡ ledgerAnswer m e
   pub next : At n k (powered e) (after w e) (ledgerAfter m e)
 
-failed : (s : List Entry) (fs : List ℕ) (rs : List Row) (t : ℕ) → sizes (length s) (length fs) (length rs) ≡ false
+pub failed : (s : List Entry) (fs : List ℕ) (rs : List Row) (t : ℕ) → sizes (length s) (length fs) (length rs) ≡ false
     → opened s fs rs t ≡ (Refused 1 0, unopened s fs rs)
 unfolding opened
 failed s fs rs t e = rw e
