@@ -25,6 +25,9 @@ use Rattle.promises.proofs.SimCalls.{sim-call}
 use Rattle.promises.proofs.Cuts.{partialLog, cutLog, Step, stay, add, moves}
 use Rattle.promises.proofs.PageRuns.{Event, calls, opens, fails, cuts, after, runs, Proper, poweredAfter, ledgerAfter, ledgerRuns, At, stands-off, event, run}
 
+clash : {A : Type 0} → _≡_ {A = ℕ} 0 1 → A
+clash z = absurd (omega arith)
+
 -- a log that goes on from another: the same pages, what was decided decided so, what was known known
 pub record Extends (l l′ : List Entry) : Type 0 where
   pub longer : length l ≤ length l′
@@ -101,7 +104,7 @@ module _ (m : Ledger) (p : ℕ) where
   Does k r = r .0 ≡ Stored p → Wrote m k p (r .1 .log)
 
   not-so : (k : Call) (x y : ℕ) → Does k (Refused x y, m)
-  not-so k x y e = let z : _≡_ {A = ℕ} 0 1 = cc in absurd (omega arith)
+  not-so k x y e = clash cc
 
   does-undecided : (k : Call) (a : ℕ) (r : LedgerResult) → Does k r → Does k (ledgerForUndecided m a r)
   does-undecided k a r h = by-test (Does k) (ledgerKnows m a) (λ e. by-test (Does k) (isDecided (fateOf (m .log) a)) (λ e. not-so k 6 0) (λ e. h)) (λ e. not-so k 5 0)
@@ -121,13 +124,13 @@ module _ (m : Ledger) (p : ℕ) where
   does-versions f t a = go (version (m .log) f t)
     where
       go : (z : Option Placed) → foundAnswer z ≡ Stored p → Wrote m (read f t a) p (m .log)
-      go none e = let z : _≡_ {A = ℕ} 0 1 = cc in absurd (omega arith)
-      go (some x) e = let z : _≡_ {A = ℕ} 0 1 = cc in absurd (omega arith)
+      go none e = clash cc
+      go (some x) e = clash cc
 
   does-read : (f t a : ℕ) (z : Option Placed) → Does (read f t a) (ledgerRead m f t a z)
   does-read f t a none = does-versions f t a
   does-read f t a (some x) = by-test (Does (read f t a)) (leb (x .image .start) t)
-      (λ e. by-test (Does (read f t a)) (eqb (x .image .action) a) (λ e q. let z : _≡_ {A = ℕ} 0 1 = cc in absurd (omega arith)) (λ e. not-so (read f t a) 9 (x .image .action)))
+      (λ e. by-test (Does (read f t a)) (eqb (x .image .action) a) (λ e q. clash cc) (λ e. not-so (read f t a) 9 (x .image .action)))
       (λ e. does-versions f t a)
 
   does : (k : Call) → Does k (ledgerCall m k)
@@ -136,9 +139,9 @@ module _ (m : Ledger) (p : ℕ) where
       (λ e. by-test (Does (write f s a n)) (leb (length n) valueSize) (λ e. does-undecided (write f s a n) a _ (does-write f s a n (token (m .log) f))) (λ e. not-so (write f s a n) 4 0)) (λ e. not-so (write f s a n) 3 0)
   does (read f t a) = by-test (Does (read f t a)) (isFile (m .files) f)
       (λ e. by-test (Does (read f t a)) (eqb a 0) (λ e. does-read f t a (token (m .log) f)) (λ e. does-undecided (read f t a) a _ (does-read f t a (token (m .log) f)))) (λ e. not-so (read f t a) 3 0)
-  does (test a) = by-test (Does (test a)) (ledgerKnows m a) (λ e q. let z : _≡_ {A = ℕ} 0 1 = cc in absurd (omega arith)) (λ e. not-so (test a) 5 0)
+  does (test a) = by-test (Does (test a)) (ledgerKnows m a) (λ e q. clash cc) (λ e. not-so (test a) 5 0)
   does (decide a c) = does-undecided (decide a c) a _ (by-test (Does (decide a c)) (ledgerRoom m 1) (λ e q. record { page = outcome a c; writes = refl; place = cc; log = refl }) (λ e. not-so (decide a c) 11 0))
-  does (rebuild f) = by-test (Does (rebuild f)) (isFile (m .files) f) (λ e q. let z : _≡_ {A = ℕ} 0 1 = cc in absurd (omega arith)) (λ e. not-so (rebuild f) 3 0)
+  does (rebuild f) = by-test (Does (rebuild f)) (isFile (m .files) f) (λ e q. clash cc) (λ e. not-so (rebuild f) 3 0)
 
 -- the pages of a world, with the power on or off
 pub entry-of : (n k : ℕ) (b : Bool) (w : World) (m : Ledger) (p : ℕ) → At n k b w m → p ≤ length (m .log) → entryAt w p ≡ entryIn (m .log) p
@@ -174,11 +177,11 @@ unfolding fateOf
 opening-fate l = rw (eq-eqb (suc (length l)) (suc (length l)) refl)
 
 writes-solid : (c : Call) (g : Entry) → Writes c g → (g ≡ blank → ⊥) × (g ≡ torn → ⊥)
-writes-solid begin g h = (λ e. let z : _≡_ {A = ℕ} 0 1 = cc in omega arith, λ e. let z : _≡_ {A = ℕ} 0 1 = cc in omega arith)
-writes-solid (write f s a v) g h = let i = h .is in (λ e. let z : _≡_ {A = ℕ} 0 1 = cc in omega arith, λ e. let z : _≡_ {A = ℕ} 0 1 = cc in omega arith)
+writes-solid begin g h = (λ e. clash cc, λ e. clash cc)
+writes-solid (write f s a v) g h = let i = h .is in (λ e. clash cc, λ e. clash cc)
 writes-solid (read f t a) g h = absurd h
 writes-solid (test a) g h = absurd h
-writes-solid (decide a c) g h = (λ e. let z : _≡_ {A = ℕ} 0 1 = cc in omega arith, λ e. let z : _≡_ {A = ℕ} 0 1 = cc in omega arith)
+writes-solid (decide a c) g h = (λ e. clash cc, λ e. clash cc)
 writes-solid (rebuild f) g h = absurd h
 
 -- after a call that was answered, or cut after all its bytes: its page is there, and its outcome is told

@@ -1,7 +1,7 @@
 -- A read outside any action, once answered without a refusal, is answered alike again.
 use mathlib.Core.Path.{_≡_, refl, ap, sym, _∙_}
 use mathlib.Core.List.{List, [], _∷_}
-use mathlib.Core.Bool.{Bool, true, false, cond, _&&_, true≢false}
+use mathlib.Core.Bool.{Bool, true, false, cond, _&&_, false≢true, true≢false}
 use mathlib.Core.Option.{Option, some, none, Option·some-ne-none}
 use Prim.Native.Nat.{ℕ, suc, max, _+_, _≤_, _<_}
 use native.Mathlib.Omega.{arith}
@@ -41,7 +41,7 @@ step-kept l l′ f t v stay w h c = h
 step-kept l l′ f t v (add g) w h c = record { clear = c; shows = version-keeps g l f t (w .0) (w .1) (h .clear) ∙ h .shows }
 
 owned-late : (a t : ℕ) (z : Option Placed) → owns a z ≡ true → Clear t z → t < startOf z
-owned-late a t none e c = let z : _≡_ {A = ℕ} 0 1 = cc in absurd (omega arith)
+owned-late a t none e c = absurd (false≢true e)
 owned-late a t (some x) e c = c
 
 module _ (m : Ledger) (f t : ℕ) (r : Reach (m .log) (m .currentend) (m .tokenend)) (h : Near m f t) where
