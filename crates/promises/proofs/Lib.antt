@@ -14,5 +14,6 @@ pub mod Cuts
 pub mod PageRuns
 pub mod Stable
 pub mod Shown
+pub mod Visible
 pub mod Found
 pub mod PagePromises

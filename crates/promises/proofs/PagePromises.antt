@@ -8,7 +8,7 @@ use Rattle.page.specs.Layout.{pageSize}
 use Rattle.recovery.specs.Log.{Image, Entry, torn, image, Fate, undecided, committed, verdict}
 use Rattle.recovery.specs.Lawful.{lowestUnlawful}
 use Rattle.recovery.specs.World.{World, entryAt, down, fateAt, sizes, isFile, endOf}
-use Rattle.recovery.specs.declared.Answer.the-variants.{Stored, Value}
+use Rattle.recovery.specs.declared.Answer.the-variants.{Stored, Value, Nothing}
 use Rattle.calls.specs.Calls.{Call, begin, read, test, decide, on, call}
 use Rattle.calls.proofs.EveryCall.{isRefused}
 use Rattle.promises.proofs.Logs.{Known}
@@ -16,7 +16,8 @@ use Rattle.promises.proofs.Ledger.{Ledger, toldFate}
 use Rattle.promises.proofs.Openings.{holds-lawful}
 use Rattle.promises.proofs.PageRuns.{Event, cuts, after, runs, Proper, poweredAfter, ledgerRuns, At, stands-off, run, blankWorld, blankLedger, at-blank, plain, heard, rebuilds-unheard}
 use Rattle.promises.proofs.Stable.{Floors, stable}
-use Rattle.promises.proofs.Shown.{committed-shown, own-shown, Visible, read-shows}
+use Rattle.promises.proofs.Shown.{committed-shown, own-shown}
+use Rattle.promises.proofs.Visible.{AllLater, Visible, read-shows, read-none}
 use Rattle.promises.proofs.Found.{Writes, Found, answered-found, cut-found, cut-torn, cut-lost, outcome-told, begin-told}
 
 module _ (n k : ℕ) (sz : sizes n n k ≡ true) (es : List Event) (proper : Proper n k false es) where
@@ -42,9 +43,12 @@ module _ (n k : ℕ) (sz : sizes n n k ≡ true) (es : List Event) (proper : Pro
         → call now (read (i .file) (i .start) 0) .0 ≡ Value p (i .start) (length (i .value))
     shows-all = committed-shown now ledger (live .stands)
 
-    -- any other action shows none outside itself
+    -- any other action shows none outside itself; and a read gives the version with the highest start not above its time
     pub shows-no-other : (f t a p s l : ℕ) → call now (read f t a) .0 ≡ Value p s l → Visible now f t a p s l
     shows-no-other = read-shows now ledger (live .stands)
+
+    pub shows-none : (f t a : ℕ) → call now (read f t a) .0 ≡ Nothing → AllLater now f t
+    shows-none = read-none now ledger (live .stands)
 
     -- itself it shows what it wrote
     pub shows-own : (p : ℕ) (i : Image) (t : ℕ) → p ≤ now .end → entryAt now p ≡ image i → isFile (length (now .rows)) (i .file) ≡ true → fateAt now (i .action) ≡ undecided

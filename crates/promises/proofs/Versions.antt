@@ -6,7 +6,7 @@ use mathlib.Core.Option.{Option, some, none, Option·some-ne-none}
 use Prim.Native.Nat.{ℕ, zero, suc, _≤_, _<_}
 use native.Mathlib.Omega.{arith}
 use lib.Dec.{eqb, leb}
-use borrow.Author.Tests.{eqb-true, leb-true, eq-eqb, ne-eqb, le-leb, lt-leb}
+use borrow.Author.Tests.{eqb-true, leb-true, leb-false, eq-eqb, ne-eqb, le-leb, lt-leb}
 use Rattle.encoding.proofs.Logic.{by-test}
 use Rattle.recovery.specs.Log.{Entry, blank, torn, bad, opening, image, outcome, Fate, unknown, undecided, committed, aborted, Placed, fateOf, imagesOf, currentStep, currentOf, tokenOf, placeOf, startOf}
 use Rattle.recovery.specs.Lawful.{token}
@@ -168,6 +168,46 @@ shows φ t x (y ∷ ys) e = go (φ (y .image .action)) refl e (λ k. shows-next 
     go undecided p k r = r k
     go committed p k r = yes-case p (leb (y .image .start) t) refl k r
     go aborted p k r = r k
+
+-- of the versions that start by a time, the one that is found starts last; where none is found, every version starts later
+module _ (φ : ℕ → Fate) (t : ℕ) where
+  pub highest : (x y : Placed) (xs : List Placed) → Chain φ xs → Among y xs → φ (y .image .action) ≡ committed → y .image .start ≤ t → versionOf φ t xs ≡ some x
+      → y .image .start ≤ x .image .start
+  unfolding versionOf
+  highest x y xs h first c k e =
+      let i : some y ≡ some x = rw (c, le-leb (y .image .start) t k) at e in
+      let j : y ≡ x = cc in
+      rw j (omega arith)
+  highest x y xs h (next {y = z} {xs = zs} m) c k e = go (φ (z .image .action)) e (highest x y zs (h .2) m c k)
+    where
+      by-start : (b : Bool) → cond b (some z) (versionOf φ t zs) ≡ some x → (versionOf φ t zs ≡ some x → y .image .start ≤ x .image .start) → y .image .start ≤ x .image .start
+      by-start true e r = let j : z ≡ x = cc in rw (← j) (omega (arith, newest φ y zs (h .2) m c, h .0 .later))
+      by-start false e r = r e
+
+      go : (q : Fate) → versionStep q t z (versionOf φ t zs) ≡ some x → (versionOf φ t zs ≡ some x → y .image .start ≤ x .image .start) → y .image .start ≤ x .image .start
+      go unknown e r = r e
+      go undecided e r = r e
+      go committed e r = by-start (leb (z .image .start) t) e r
+      go aborted e r = r e
+
+  pub all-later : (y : Placed) (xs : List Placed) → Among y xs → φ (y .image .action) ≡ committed → versionOf φ t xs ≡ none → t < y .image .start
+  unfolding versionOf
+  all-later y xs (first {xs = ys}) c e = go (leb (y .image .start) t) refl (rw c at e)
+    where
+      go : (b : Bool) → leb (y .image .start) t ≡ b → cond b (some y) (versionOf φ t ys) ≡ none → t < y .image .start
+      go true q e = absurd (Option·some-ne-none _ e)
+      go false q e = leb-false (y .image .start) t q
+  all-later y xs (next {y = z} {xs = zs} m) c e = go (φ (z .image .action)) e (all-later y zs m c)
+    where
+      by-start : (b : Bool) → cond b (some z) (versionOf φ t zs) ≡ none → (versionOf φ t zs ≡ none → t < y .image .start) → t < y .image .start
+      by-start true e r = absurd (Option·some-ne-none _ e)
+      by-start false e r = r e
+
+      go : (q : Fate) → versionStep q t z (versionOf φ t zs) ≡ none → (versionOf φ t zs ≡ none → t < y .image .start) → t < y .image .start
+      go unknown e r = r e
+      go undecided e r = r e
+      go committed e r = by-start (leb (z .image .start) t) e r
+      go aborted e r = r e
 
 -- what is found at a time stays, while tokens start later
 abbrev pub Clear : ℕ → Option Placed → Type 0
