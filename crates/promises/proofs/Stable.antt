@@ -13,6 +13,7 @@ use Rattle.page.specs.Layout.{pageSize, valueSize}
 use Rattle.recovery.specs.Log.{Image, Entry, blank, torn, image, Fate, unknown, undecided, committed, aborted, Placed, fateOf, imagesOf, tokenStep, tokenOf, placeOf, startOf}
 use Rattle.recovery.specs.Lawful.{current, token}
 use Rattle.recovery.specs.World.{World, sizes, isFile}
+use Rattle.recovery.specs.declared.Answer.the-variants.{Refused, Stored}
 use Rattle.recovery.proofs.InspectFates.{undecided-known}
 use Rattle.calls.specs.Calls.{Call, begin, write, read, test, decide, rebuild, isDecided, call}
 use Rattle.calls.proofs.EveryCall.{isRefused}
@@ -227,40 +228,74 @@ again m f t v e h = rw e (go (token (m .log) f) (h .clear))
     go none c = ap foundAnswer (h .shows)
     go (some x) c = rw (lt-leb (x .image .start) t c) (ap foundAnswer (h .shows))
 
--- a read outside any action that was answered is answered alike after any further events, calls cut at any byte among them,
--- if each later opening's floor is at least its time
-pub stable : (n k : ℕ) → sizes n n k ≡ true → (es es′ : List Event) (f t : ℕ)
-    → Proper n k false es → poweredAfter false es ≡ true → isRefused (call (runs (blankWorld n) es) (read f t 0) .0) ≡ false
-    → Proper n k true es′ → poweredAfter true es′ ≡ true → Floors t es′
-    → call (runs (call (runs (blankWorld n) es) (read f t 0) .1) es′) (read f t 0) .0 ≡ call (runs (blankWorld n) es) (read f t 0) .0
-stable n k sz es es′ f t p b a p′ b′ q =
-    sim-call (runs (call w₀ (read f t 0) .1) es′) m₂ (s₂ .stands) (read f t 0) .answer
-    ∙ again m₂ f t v (rw (s₂ .files) (rw (s₁ .files) at (tl .file))) (lasts-kept (poweredAfter true es′) m₂ f t v last)
-    ∙ sym (tl .says) ∙ sym (sim-call w₀ m₀ (s₁ .stands) (read f t 0) .answer)
-  where
-    w₀ : World
-    w₀ = runs (blankWorld n) es
+-- where no write can start by a time, what is written starts later
+module _ (m : Ledger) (f t s a p : ℕ) (v : List ℕ) (h : Near m f t) where
+  abbrev Late : LedgerResult → Type 0
+  Late r = r .0 ≡ Stored p → t < s
 
-    m₀ : Ledger
-    m₀ = ledgerRuns (blankLedger n k) es
+  refuses : (x y : ℕ) → Late (Refused x y, m)
+  refuses x y e = let z : _≡_ {A = ℕ} 0 1 = cc in absurd (omega arith)
 
-    s₁ : At n k true w₀ m₀
-    s₁ = rw b at (run n k false (blankWorld n) (blankLedger n k) es (at-blank n k sz) p)
+  late-write : (z : Option Placed) → Late (ledgerWrite m f s a v z)
+  late-write none =
+      by-test Late (ltb (m .currentend f) s && ltb (m .floor) s)
+      (λ e q.
+      let b = and-true (ltb (m .currentend f) s) (ltb (m .floor) s) e in
+      omega (arith, h .high, ltb-true (m .currentend f) s (b .0), ltb-true (m .floor) s (b .1)))
+      (λ e. refuses 10 0)
+  late-write (some x) = refuses 8 (x .image .action)
 
-    v : Option Placed
-    v = version (m₀ .log) f t
+  written-later : Late (ledgerCall m (write f s a v))
+  written-later =
+      by-test Late (isFile (m .files) f)
+      (λ e. by-test Late (leb (length v) valueSize)
+      (λ e. by-test Late (ledgerKnows m a)
+      (λ e. by-test Late (isDecided (fateOf (m .log) a)) (λ e. refuses 6 0) (λ e. late-write (token (m .log) f))) (λ e. refuses 5 0))
+      (λ e. refuses 4 0))
+      (λ e. refuses 3 0)
 
-    tl : ToldAt m₀ f t
-    tl = told m₀ f t (s₁ .stands .lawful) (s₁ .stands .reach) (rw (sim-call w₀ m₀ (s₁ .stands) (read f t 0) .answer) at a)
+-- after a read outside any action that was answered, and any further events, calls cut at any byte among them, if each later
+-- opening's floor is at least the time that was read
+module _ (n k : ℕ) (sz : sizes n n k ≡ true) (es es′ : List Event) (f t : ℕ) (p : Proper n k false es) (b : poweredAfter false es ≡ true)
+    (a : isRefused (call (runs (blankWorld n) es) (read f t 0) .0) ≡ false) (p′ : Proper n k true es′) (b′ : poweredAfter true es′ ≡ true) (q : Floors t es′) where
+  w₀ : World
+  w₀ = runs (blankWorld n) es
 
-    s₂′ : At n k true (call w₀ (read f t 0) .1) (ledgerCall m₀ (read f t 0) .1)
-    s₂′ = event n k true w₀ m₀ (calls (read f t 0)) s₁ tt .next
+  m₀ : Ledger
+  m₀ = ledgerRuns (blankLedger n k) es
 
-    m₂ : Ledger
-    m₂ = ledgerRuns (ledgerCall m₀ (read f t 0) .1) es′
+  s₀ : At n k true w₀ m₀
+  unfolding w₀ m₀
+  s₀ = rw b at (run n k false (blankWorld n) (blankLedger n k) es (at-blank n k sz) p)
 
-    s₂ : At n k true (runs (call w₀ (read f t 0) .1) es′) m₂
-    s₂ = rw b′ at (run n k true (call w₀ (read f t 0) .1) (ledgerCall m₀ (read f t 0) .1) es′ s₂′ p′)
+  told-first : ToldAt m₀ f t
+  unfolding w₀
+  told-first = told m₀ f t (s₀ .stands .lawful) (s₀ .stands .reach) (rw (sim-call w₀ m₀ (s₀ .stands) (read f t 0) .answer) at a)
 
-    last : Lasts (poweredAfter true es′) m₂ f t v
-    last = lasts n k f t v true (call w₀ (read f t 0) .1) (ledgerCall m₀ (read f t 0) .1) es′ s₂′ p′ q (tl .lasting)
+  s₁ : At n k true (call w₀ (read f t 0) .1) (ledgerCall m₀ (read f t 0) .1)
+  s₁ = event n k true w₀ m₀ (calls (read f t 0)) s₀ tt .next
+
+  m₂ : Ledger
+  m₂ = ledgerRuns (ledgerCall m₀ (read f t 0) .1) es′
+
+  s₂ : At n k true (runs (call w₀ (read f t 0) .1) es′) m₂
+  unfolding m₂
+  s₂ = rw b′ at (run n k true (call w₀ (read f t 0) .1) (ledgerCall m₀ (read f t 0) .1) es′ s₁ p′)
+
+  last : Lasts true m₂ f t (version (m₀ .log) f t)
+  unfolding m₂
+  last = rw b′ at (lasts n k f t (version (m₀ .log) f t) true (call w₀ (read f t 0) .1) (ledgerCall m₀ (read f t 0) .1) es′ s₁ p′ q (told-first .lasting))
+
+  -- it is answered alike
+  pub stable : call (runs (call (runs (blankWorld n) es) (read f t 0) .1) es′) (read f t 0) .0 ≡ call (runs (blankWorld n) es) (read f t 0) .0
+  unfolding w₀
+  stable =
+      sim-call (runs (call w₀ (read f t 0) .1) es′) m₂ (s₂ .stands) (read f t 0) .answer
+      ∙ again m₂ f t (version (m₀ .log) f t) (rw (s₂ .files) (rw (s₀ .files) at (told-first .file))) (last .0)
+      ∙ sym (told-first .says) ∙ sym (sim-call w₀ m₀ (s₀ .stands) (read f t 0) .answer)
+
+  -- and nothing is written to the file that starts by then
+  pub none-written : (s c d : ℕ) (v : List ℕ) → call (runs (call (runs (blankWorld n) es) (read f t 0) .1) es′) (write f s c v) .0 ≡ Stored d → t < s
+  unfolding w₀
+  none-written s c d v e =
+      written-later m₂ f t s c d v (last .1) (sym (sim-call (runs (call w₀ (read f t 0) .1) es′) m₂ (s₂ .stands) (write f s c v) .answer) ∙ e)
