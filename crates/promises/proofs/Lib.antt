@@ -15,5 +15,8 @@ pub mod PageRuns
 pub mod Stable
 pub mod Shown
 pub mod Visible
+pub mod Extends
+pub mod Written
 pub mod Found
+pub mod FatesTold
 pub mod PagePromises
