@@ -15,7 +15,8 @@ use Rattle.calls.proofs.EveryCall.{isRefused}
 use Rattle.promises.proofs.Ledger.{Ledger, toldFate}
 use Rattle.promises.proofs.Openings.{Holds, holds-lawful, holds-opened}
 use Rattle.promises.proofs.PageRuns.{Event, cuts, after, runs, Proper, poweredAfter, ledgerRuns, At, stands-off, run, blankWorld, blankLedger, at-blank, plain, heard, ledgerAnswers, answers, answers-alike, rebuilds-unheard}
-use Rattle.promises.proofs.Stable.{Floors, stable, none-written}
+use Rattle.promises.proofs.Lasting.{Floors}
+use Rattle.promises.proofs.Stable.{stable, none-written}
 use Rattle.promises.proofs.Shown.{committed-shown, own-shown}
 use Rattle.promises.proofs.Visible.{AllLater, Visible, read-shows, read-none}
 use Rattle.promises.proofs.Written.{Writes}

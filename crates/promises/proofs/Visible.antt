@@ -18,12 +18,11 @@ use Rattle.recovery.proofs.InspectFates.{undecided-known}
 use Rattle.calls.specs.Walk.{nothing}
 use Rattle.calls.specs.Calls.{read, isDecided, valueOf, call}
 use Rattle.promises.proofs.Logs.{known-place}
-use Rattle.promises.proofs.Chains.{Spot, Spots, spots, chain}
+use Rattle.promises.proofs.Chains.{Spot, Spots, spots, chain, token-live}
 use Rattle.promises.proofs.Versions.{version, Among, first, next, newest, Shows, shows, highest, all-later}
 use Rattle.promises.proofs.Ledger.{Ledger, LedgerResult, ledgerKnows, foundAnswer, ledgerRead, ledgerCall}
 use Rattle.promises.proofs.Sim.{Sim, Lies, token-lies, fate-eq, lies-at}
 use Rattle.promises.proofs.SimCalls.{sim-call}
-use Rattle.promises.proofs.Stable.{token-live}
 use Rattle.promises.proofs.Shown.{token-later, among-at}
 
 pub data Whose (w : World) (a : ℕ) (i : Image) : Type 0 where
