@@ -143,7 +143,8 @@ unfolding tokenOf
 token-live φ [] x e = absurd (Option·some-ne-none _ (sym e))
 token-live φ (y ∷ ys) x e = go (φ (y .image .action)) refl e (token-live φ ys x)
   where
-    go : (q : Fate) → φ (y .image .action) ≡ q → tokenStep q y (tokenOf φ ys) ≡ some x → (tokenOf φ ys ≡ some x → φ (x .image .action) ≡ undecided) → φ (x .image .action) ≡ undecided
+    go : (q : Fate) → φ (y .image .action) ≡ q → tokenStep q y (tokenOf φ ys) ≡ some x → (tokenOf φ ys ≡ some x → φ (x .image .action) ≡ undecided)
+        → φ (x .image .action) ≡ undecided
     go unknown p k r = r k
     go undecided p k r = let i : y ≡ x = cc in rw (← i) p
     go committed p k r = absurd (Option·some-ne-none _ (sym k))

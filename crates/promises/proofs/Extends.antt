@@ -50,7 +50,8 @@ ext-cut l k k′ n (add g) w h = rw (ne-eqb (suc (length k)) (length k) (λ e. o
     go false false = ext-add g l k (w .0) (w .1) h
 
 -- a run only adds to the log
-pub extends : (n k : ℕ) (b : Bool) (w : World) (m : Ledger) (l : List Entry) (es : List Event) → At n k b w m → Proper n k b es → Extends l (m .log) → Extends l (ledgerRuns m es .log)
+pub extends : (n k : ℕ) (b : Bool) (w : World) (m : Ledger) (l : List Entry) (es : List Event) → At n k b w m → Proper n k b es → Extends l (m .log)
+    → Extends l (ledgerRuns m es .log)
 extends n k b w m l [] s p h = h
 extends n k true w m l (calls c ∷ es) s p h =
     let u = event n k true w m (calls c) s tt .next in

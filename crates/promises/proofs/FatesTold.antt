@@ -72,7 +72,8 @@ module _ (n k : ℕ) (w : World) (m : Ledger) (s : At n k true w m) where
     outcome-in : (l : List Entry) → l ≡ wrote n k w m s (decide a c) p e .page ∷ m .log → fateOf l a ≡ verdict c
     outcome-in l h = rw (h, wrote n k w m s (decide a c) p e .writes) (outcome-fate a c (m .log))
 
-    pub outcome-told : (es : List Event) → Proper n k true es → poweredAfter true es ≡ true → call (runs (call w (decide a c) .1) es) (test a) .0 ≡ toldFate (verdict c)
+    pub outcome-told : (es : List Event) → Proper n k true es → poweredAfter true es ≡ true
+        → call (runs (call w (decide a c) .1) es) (test a) .0 ≡ toldFate (verdict c)
     outcome-told es q up =
         decided-told n k true (call w (decide a c) .1) (ledgerCall m (decide a c) .1) (called n k w m s (decide a c) p e) a es q up c
         (outcome-in (ledgerCall m (decide a c) .1 .log) (wrote n k w m s (decide a c) p e .log))

@@ -59,7 +59,8 @@ module _ (m : Ledger) (f t : ℕ) (r : Reach (m .log) (m .currentend) (m .tokene
       written : Image
       written = record { file = g; action = a; link = placeOf (current (m .log) g); start = s; value = n }
 
-      go : (ltb (m .currentend g) s && ltb (m .floor) s) ≡ true → Lawful (image written ∷ m .log) → (b : Bool) → eqb g f ≡ b → Clear t (token (image written ∷ m .log) f)
+      go : (ltb (m .currentend g) s && ltb (m .floor) s) ≡ true → Lawful (image written ∷ m .log) → (b : Bool) → eqb g f ≡ b
+          → Clear t (token (image written ∷ m .log) f)
       go e w true q =
           let b = and-true (ltb (m .currentend g) s) (ltb (m .floor) s) e in
           let z : g ≡ f = eqb-true g f q in
@@ -94,7 +95,8 @@ module _ (m : Ledger) (f t : ℕ) (r : Reach (m .log) (m .currentend) (m .tokene
       go true = tt
       go false = h .clear
 
-      up : (b : Bool) → owns a (token (m .log) f) ≡ b → (c : Bool) → t ≤ max (cond b (cond c (m .tokenend f) (m .currentend f)) (m .currentend f)) (m .floor)
+      up : (b : Bool) → owns a (token (m .log) f) ≡ b → (c : Bool)
+          → t ≤ max (cond b (cond c (m .tokenend f) (m .currentend f)) (m .currentend f)) (m .floor)
       up true e true = omega (arith, owned-late a t (token (m .log) f) e (h .clear), r .token-low f)
       up true e false = h .high
       up false e c = h .high
@@ -109,7 +111,8 @@ module _ (m : Ledger) (f t : ℕ) (r : Reach (m .log) (m .currentend) (m .tokene
   near (decide a c) = near-undecided a _ (near-decide a c)
   near (rebuild g) = by-test Goes (isFile (m .files) g) (λ e. hold) (λ e. hold)
 
-cut-kept : (l l′ : List Entry) (f t : ℕ) (v : Option Placed) (n : ℕ) → Step l l′ → Lawful l′ → Kept l f t v → Clear t (token l′ f) → Kept (cutLog l l′ n) f t v
+cut-kept : (l l′ : List Entry) (f t : ℕ) (v : Option Placed) (n : ℕ) → Step l l′ → Lawful l′ → Kept l f t v → Clear t (token l′ f)
+    → Kept (cutLog l l′ n) f t v
 unfolding cutLog
 cut-kept l l′ f t v n stay w h c = rw (eq-eqb (length l) (length l) refl) h
 cut-kept l l′ f t v n (add g) w h c = rw (ne-eqb (suc (length l)) (length l) (λ e. omega arith), entry-top g l) (go (eqb n 0) (ltb n pageSize))

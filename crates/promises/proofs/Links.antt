@@ -26,7 +26,8 @@ abbrev pub AllSeen : (ℕ → Entry) → ℕ → List Placed → Type 0
 AllSeen entry f [] = Unit {0}
 AllSeen entry f (x ∷ xs) = Seen entry f x × AllSeen entry f xs
 
-pub current-seen : (entry : ℕ → Entry) (f : ℕ) (φ : ℕ → Fate) (xs : List Placed) (z : Placed) → AllSeen entry f xs → currentOf φ xs ≡ some z → Seen entry f z
+pub current-seen : (entry : ℕ → Entry) (f : ℕ) (φ : ℕ → Fate) (xs : List Placed) (z : Placed) → AllSeen entry f xs → currentOf φ xs ≡ some z
+    → Seen entry f z
 unfolding currentOf
 current-seen entry f φ [] z h e = absurd (Option·some-ne-none _ (sym e))
 current-seen entry f φ (x ∷ xs) z h e = go (φ (x .image .action)) e (current-seen entry f φ xs z (h .1))
@@ -54,7 +55,8 @@ module _ (entry : ℕ → Entry) (f t : ℕ) (φ : ℕ → Fate) where
       go false = rw (h, version-none φ t ys e)
   walk-down y ys (suc n) none e s h k r b = go (leb (y .image .start) t)
     where
-      go : (q : Bool) → cond q (met y) (cond (eqb (y .image .link) 0) nothing (via (entry (y .image .link)) f (y .place) (λ j. follow entry f t n (record { place = y .image .link; image = j }))))
+      go : (q : Bool)
+          → cond q (met y) (cond (eqb (y .image .link) 0) nothing (via (entry (y .image .link)) f (y .place) (λ j. follow entry f t n (record { place = y .image .link; image = j }))))
           ≡ walked (cond q (some y) (versionOf φ t ys))
       go true = refl
       go false = rw (h, version-none φ t ys e)
@@ -70,7 +72,8 @@ module _ (entry : ℕ → Entry) (f t : ℕ) (φ : ℕ → Fate) where
       own : eqb (x .image .file) f ≡ true
       own = eq-eqb (x .image .file) f (c .mine)
 
-      go : (q : Bool) → cond q (met y) (cond (eqb (y .image .link) 0) nothing (via (entry (y .image .link)) f (y .place) (λ j. follow entry f t n (record { place = y .image .link; image = j }))))
+      go : (q : Bool)
+          → cond q (met y) (cond (eqb (y .image .link) 0) nothing (via (entry (y .image .link)) f (y .place) (λ j. follow entry f t n (record { place = y .image .link; image = j }))))
           ≡ walked (cond q (some y) (versionOf φ t ys))
       go true = refl
       go false = rw (h, off, c .here, own) (r x n e (omega arith))

@@ -87,7 +87,8 @@ holds-lawful s n l h = rw (holds-end s n l h, h .log) (lowest-none l (lawful-tes
 
 -- an opening of a sheet that holds a log is not refused, and stands for the ledger that starts with it
 module _ (s : List Entry) (n k : ℕ) (l : List Entry) (h : Holds s n l) (fits : sizes n n k ≡ true) where
-  started-sim : (t : ℕ) → Sim (record { sheet = s; fates = fatesOf n l; rows = coldRows k; end = length l; floor = t; undecided = undecidedOf (fatesOf n l) }) (ledgerOpened n k l t)
+  started-sim : (t : ℕ)
+      → Sim (record { sheet = s; fates = fatesOf n l; rows = coldRows k; end = length l; floor = t; undecided = undecidedOf (fatesOf n l) }) (ledgerOpened n k l t)
   started-sim t = record {
     long = h .long;
     files = length-cold k;

@@ -49,7 +49,8 @@ module _ (n k : ℕ) (sz : sizes n n k ≡ true) (es : List Event) (proper : Pro
     live = rw up at ran
 
     -- a committed action shows all its versions
-    pub shows-all : (p : ℕ) (i : Image) → p ≤ now .end → entryAt now p ≡ image i → isFile (length (now .rows)) (i .file) ≡ true → fateAt now (i .action) ≡ committed
+    pub shows-all : (p : ℕ) (i : Image) → p ≤ now .end → entryAt now p ≡ image i → isFile (length (now .rows)) (i .file) ≡ true
+        → fateAt now (i .action) ≡ committed
         → call now (read (i .file) (i .start) 0) .0 ≡ Value p (i .start) (length (i .value))
     shows-all = committed-shown now ledger (live .stands)
 
@@ -61,7 +62,8 @@ module _ (n k : ℕ) (sz : sizes n n k ≡ true) (es : List Event) (proper : Pro
     shows-none = read-none now ledger (live .stands)
 
     -- itself it shows what it wrote
-    pub shows-own : (p : ℕ) (i : Image) (t : ℕ) → p ≤ now .end → entryAt now p ≡ image i → isFile (length (now .rows)) (i .file) ≡ true → fateAt now (i .action) ≡ undecided
+    pub shows-own : (p : ℕ) (i : Image) (t : ℕ) → p ≤ now .end → entryAt now p ≡ image i → isFile (length (now .rows)) (i .file) ≡ true
+        → fateAt now (i .action) ≡ undecided
         → i .start ≤ t → call now (read (i .file) t (i .action)) .0 ≡ Value p (i .start) (length (i .value))
     shows-own = own-shown now ledger (live .stands)
 
@@ -77,7 +79,8 @@ module _ (n k : ℕ) (sz : sizes n n k ≡ true) (es : List Event) (proper : Pro
         → (es′ : List Event) → Proper n k false es′ → entryAt (runs (after now (cuts c i)) es′) p ≡ torn
     torn-cut = cut-torn n k now ledger live
 
-    pub lost-cut : (c : Call) (p : ℕ) → call now c .0 ≡ Stored p → (i : ℕ) → i < pageSize → (g : Entry) → Writes c g → entryAt (after now (cuts c i)) p ≡ g → ⊥
+    pub lost-cut : (c : Call) (p : ℕ) → call now c .0 ≡ Stored p → (i : ℕ) → i < pageSize → (g : Entry) → Writes c g
+        → entryAt (after now (cuts c i)) p ≡ g → ⊥
     lost-cut = cut-lost n k now ledger live
 
     -- an action that was begun is known ever after
@@ -85,17 +88,20 @@ module _ (n k : ℕ) (sz : sizes n n k ≡ true) (es : List Event) (proper : Pro
         → (x : ℕ) × ((1 ≤ x) × (x ≤ 3) × (call (runs (call now begin .1) es′) (test p) .0 ≡ Told x))
     told-begin = begin-told n k now ledger live
 
-    pub told-cut-begin : (p : ℕ) → call now begin .0 ≡ Stored p → (i : ℕ) → pageSize ≤ i → (es′ : List Event) → Proper n k false es′ → poweredAfter false es′ ≡ true
+    pub told-cut-begin : (p : ℕ) → call now begin .0 ≡ Stored p → (i : ℕ) → pageSize ≤ i → (es′ : List Event) → Proper n k false es′
+        → poweredAfter false es′ ≡ true
         → (x : ℕ) × ((1 ≤ x) × (x ≤ 3) × (call (runs (after now (cuts begin i)) es′) (test p) .0 ≡ Told x))
     told-cut-begin = cut-begin-told n k now ledger live
 
     -- an outcome is told ever after
     pub told-outcome : (a : ℕ) (c : Bool) (p : ℕ) → call now (decide a c) .0 ≡ Stored p
-        → (es′ : List Event) → Proper n k true es′ → poweredAfter true es′ ≡ true → call (runs (call now (decide a c) .1) es′) (test a) .0 ≡ toldFate (verdict c)
+        → (es′ : List Event) → Proper n k true es′ → poweredAfter true es′ ≡ true
+        → call (runs (call now (decide a c) .1) es′) (test a) .0 ≡ toldFate (verdict c)
     told-outcome = outcome-told n k now ledger live
 
     pub told-cut-outcome : (a : ℕ) (c : Bool) (p : ℕ) → call now (decide a c) .0 ≡ Stored p → (i : ℕ) → pageSize ≤ i
-        → (es′ : List Event) → Proper n k false es′ → poweredAfter false es′ ≡ true → call (runs (after now (cuts (decide a c) i)) es′) (test a) .0 ≡ toldFate (verdict c)
+        → (es′ : List Event) → Proper n k false es′ → poweredAfter false es′ ≡ true
+        → call (runs (after now (cuts (decide a c) i)) es′) (test a) .0 ≡ toldFate (verdict c)
     told-cut-outcome = cut-outcome-told n k now ledger live
 
     -- a read outside any action, once answered, is answered alike again
@@ -111,7 +117,8 @@ module _ (n k : ℕ) (sz : sizes n n k ≡ true) (es : List Event) (proper : Pro
     none-below f t h es′ = none-written n k sz es es′ f t proper up h
 
 -- every answer is the ledger's
-pub as-the-ledger : (n k : ℕ) → sizes n n k ≡ true → (es : List Event) → Proper n k false es → answers (blankWorld n) es ≡ ledgerAnswers (blankLedger n k) es
+pub as-the-ledger : (n k : ℕ) → sizes n n k ≡ true → (es : List Event) → Proper n k false es
+    → answers (blankWorld n) es ≡ ledgerAnswers (blankLedger n k) es
 as-the-ledger = answers-alike
 
 -- rows rebuilt together or one by one, in any order among the same other events

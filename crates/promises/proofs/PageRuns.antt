@@ -217,7 +217,8 @@ answers-from n k b w m (e ∷ es) s p =
     let r = event n k b w m e s (p .0) in
     rw (r .answer, answers-from n k (powered e) (after w e) (ledgerAfter m e) es (r .next) (p .1))
 
-pub answers-alike : (n k : ℕ) → sizes n n k ≡ true → (es : List Event) → Proper n k false es → answers (blankWorld n) es ≡ ledgerAnswers (blankLedger n k) es
+pub answers-alike : (n k : ℕ) → sizes n n k ≡ true → (es : List Event) → Proper n k false es
+    → answers (blankWorld n) es ≡ ledgerAnswers (blankLedger n k) es
 answers-alike n k h es p = answers-from n k false (blankWorld n) (blankLedger n k) es (at-blank n k h) p
 
 -- a rebuild changes nothing of the ledger
@@ -232,13 +233,15 @@ idle m (opens t fs rs) h = absurd (false≢true h)
 idle m (fails t fs rs) h = absurd (false≢true h)
 idle m (cuts c n) h = absurd (false≢true h)
 
-blind : (m : Ledger) (e : Event) (es : List Event) → _≡_ {A = List (Option Answer)} (ledgerAnswer m e ∷ ledgerAnswers (ledgerAfter m e) es) (ledgerAnswer m (bare e) ∷ ledgerAnswers (ledgerAfter m (bare e)) es)
+blind : (m : Ledger) (e : Event) (es : List Event)
+    → _≡_ {A = List (Option Answer)} (ledgerAnswer m e ∷ ledgerAnswers (ledgerAfter m e) es) (ledgerAnswer m (bare e) ∷ ledgerAnswers (ledgerAfter m (bare e)) es)
 blind m (calls k) es = refl
 blind m (opens t fs rs) es = refl
 blind m (fails t fs rs) es = refl
 blind m (cuts k n) es = refl
 
-heard-plain : (n k : ℕ) (b : Bool) (w : World) (m : Ledger) (es : List Event) → At n k b w m → Proper n k b es → heard w es ≡ ledgerAnswers m (plain es)
+heard-plain : (n k : ℕ) (b : Bool) (w : World) (m : Ledger) (es : List Event) → At n k b w m → Proper n k b es
+    → heard w es ≡ ledgerAnswers m (plain es)
 unfolding heard ledgerAnswers
 heard-plain n k b w m [] s p = refl
 heard-plain n k b w m (e ∷ es) s p =

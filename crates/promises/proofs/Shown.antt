@@ -28,7 +28,8 @@ unfolding imagesOf
 entry-among [] p i e = let z : _≡_ {A = ℕ} 0 1 = cc in absurd (omega arith)
 entry-among (g ∷ l) p i e = go (eqb p (suc (length l))) refl e (entry-among l p i)
   where
-    lift : (g : Entry) → Among (record { place = p; image = i }) (imagesOf l (i .file)) → Among (record { place = p; image = i }) (imagesOf (g ∷ l) (i .file))
+    lift : (g : Entry) → Among (record { place = p; image = i }) (imagesOf l (i .file))
+        → Among (record { place = p; image = i }) (imagesOf (g ∷ l) (i .file))
     lift blank h = h
     lift torn h = h
     lift bad h = h
@@ -68,7 +69,8 @@ module _ (w : World) (m : Ledger) (s : Sim w m) where
   among-at p i h e = entry-among (m .log) p i (sym (entry-eq w m s p (rw (← s .ends) h)) ∙ e)
 
   -- a read at its start finds a committed image
-  pub committed-shown : (p : ℕ) (i : Image) → p ≤ w .end → entryAt w p ≡ image i → isFile (length (w .rows)) (i .file) ≡ true → fateAt w (i .action) ≡ committed
+  pub committed-shown : (p : ℕ) (i : Image) → p ≤ w .end → entryAt w p ≡ image i → isFile (length (w .rows)) (i .file) ≡ true
+      → fateAt w (i .action) ≡ committed
       → call w (read (i .file) (i .start) 0) .0 ≡ Value p (i .start) (length (i .value))
   committed-shown p i h e f c = sim-call w m s (read (i .file) (i .start) 0) .answer ∙ go (token (m .log) (i .file)) refl
     where
@@ -104,7 +106,8 @@ module _ (w : World) (m : Ledger) (s : Sim w m) where
       )
 
   -- a read of its own action finds an undecided image, from its start on
-  pub own-shown : (p : ℕ) (i : Image) (t : ℕ) → p ≤ w .end → entryAt w p ≡ image i → isFile (length (w .rows)) (i .file) ≡ true → fateAt w (i .action) ≡ undecided
+  pub own-shown : (p : ℕ) (i : Image) (t : ℕ) → p ≤ w .end → entryAt w p ≡ image i → isFile (length (w .rows)) (i .file) ≡ true
+      → fateAt w (i .action) ≡ undecided
       → i .start ≤ t → call w (read (i .file) t (i .action)) .0 ≡ Value p (i .start) (length (i .value))
   own-shown p i t h e f c l = sim-call w m s (read (i .file) t (i .action)) .answer
       ∙ rw (

@@ -34,7 +34,8 @@ pub record ToldAt (m : Ledger) (f t : ℕ) : Type 0 where
   pub lasting : Lasts true (ledgerCall m (read f t 0) .1) f t (version (m .log) f t)
 
 module _ (m : Ledger) (f t : ℕ) (w : Lawful (m .log)) (r : Reach (m .log) (m .currentend) (m .tokenend)) where
-  told-versions : isFile (m .files) f ≡ true → Clear t (token (m .log) f) → ledgerRead m f t 0 (token (m .log) f) ≡ ledgerVersions m f t → ToldAt m f t
+  told-versions : isFile (m .files) f ≡ true → Clear t (token (m .log) f) → ledgerRead m f t 0 (token (m .log) f) ≡ ledgerVersions m f t
+      → ToldAt m f t
   told-versions e c q = record {
     file = e;
     says = rw (e, q);
@@ -46,7 +47,8 @@ module _ (m : Ledger) (f t : ℕ) (w : Lawful (m .log)) (r : Reach (m .log) (m .
       up true s q h = omega arith
       up false s q h = omega (arith, leb-false s t q)
 
-      high : (z : Option Placed) → startOf z ≤ m .currentend f → t ≤ max (endAt (m .currentend) f (raised (within t z) t (m .currentend f)) f) (m .floor)
+      high : (z : Option Placed) → startOf z ≤ m .currentend f
+          → t ≤ max (endAt (m .currentend) f (raised (within t z) t (m .currentend f)) f) (m .floor)
       high none h = rw (end-at-same (m .currentend) f (max (m .currentend f) t)) (omega arith)
       high (some x) h = rw (end-at-same (m .currentend) f (raised (leb (x .image .start) t) t (m .currentend f))) (up (leb (x .image .start) t) (x .image .start) refl h)
 
@@ -54,7 +56,8 @@ module _ (m : Ledger) (f t : ℕ) (w : Lawful (m .log)) (r : Reach (m .log) (m .
   unfolding isRefused
   told h = by-file (isFile (m .files) f) refl
     where
-      by-own : (x : Placed) → token (m .log) f ≡ some x → isFile (m .files) f ≡ true → leb (x .image .start) t ≡ true → (b : Bool) → eqb (x .image .action) 0 ≡ b → ToldAt m f t
+      by-own : (x : Placed) → token (m .log) f ≡ some x → isFile (m .files) f ≡ true → leb (x .image .start) t ≡ true → (b : Bool)
+          → eqb (x .image .action) 0 ≡ b → ToldAt m f t
       by-own x q e l true o =
           let z : fateOf (m .log) 0 ≡ undecided = rw (eqb-true (x .image .action) 0 o) at (token-live (fateOf (m .log)) (imagesOf (m .log) f) x q) in
           not-unknown (fateOf (m .log) 0) (undecided-known z) (fate-zero (m .log) w)

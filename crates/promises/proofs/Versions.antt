@@ -35,7 +35,8 @@ unfolding currentOf versionOf
 version-none φ t [] h = refl
 version-none φ t (x ∷ xs) h = go (φ (x .image .action)) h (version-none φ t xs)
   where
-    go : (y : Fate) → currentStep y x (currentOf φ xs) ≡ none → (currentOf φ xs ≡ none → versionOf φ t xs ≡ none) → versionStep y t x (versionOf φ t xs) ≡ none
+    go : (y : Fate) → currentStep y x (currentOf φ xs) ≡ none → (currentOf φ xs ≡ none → versionOf φ t xs ≡ none)
+        → versionStep y t x (versionOf φ t xs) ≡ none
     go unknown e r = r e
     go undecided e r = r e
     go committed e r = absurd (Option·some-ne-none _ e)
@@ -46,7 +47,8 @@ pub data Among (x : Placed) : List Placed → Type 0 where
   first : {xs : List Placed} → Among x (x ∷ xs)
   next : {y : Placed} {xs : List Placed} → Among x xs → Among x (y ∷ xs)
 
-pub newest : (φ : ℕ → Fate) (x : Placed) (xs : List Placed) → Chain φ xs → Among x xs → φ (x .image .action) ≡ committed → x .image .start ≤ startOf (currentOf φ xs)
+pub newest : (φ : ℕ → Fate) (x : Placed) (xs : List Placed) → Chain φ xs → Among x xs → φ (x .image .action) ≡ committed
+    → x .image .start ≤ startOf (currentOf φ xs)
 unfolding currentOf
 newest φ x xs h first e = rw e (omega arith)
 newest φ x xs h (next {y} {xs = ys} m) e = go (φ (y .image .action)) (newest φ x ys (h .2) m e)
@@ -57,7 +59,8 @@ newest φ x xs h (next {y} {xs = ys} m) e = go (φ (y .image .action)) (newest �
     go committed k = omega (arith, h .0 .later)
     go aborted k = k
 
-pub shown : (φ : ℕ → Fate) (x : Placed) (xs : List Placed) → Chain φ xs → Among x xs → φ (x .image .action) ≡ committed → versionOf φ (x .image .start) xs ≡ some x
+pub shown : (φ : ℕ → Fate) (x : Placed) (xs : List Placed) → Chain φ xs → Among x xs → φ (x .image .action) ≡ committed
+    → versionOf φ (x .image .start) xs ≡ some x
 unfolding versionOf
 shown φ x xs h first e = rw (e, le-leb (x .image .start) (x .image .start) (omega arith))
 shown φ x xs h (next {y} {xs = ys} m) e = go (φ (y .image .action)) (shown φ x ys (h .2) m e)
@@ -86,7 +89,8 @@ shows φ t x (y ∷ ys) e = go (φ (y .image .action)) refl e (λ k. shows-next 
     yes-case p true q k r = let i : y ≡ x = cc in rw (← i) (record { kept = p; inTime = leb-true (y .image .start) t q; among = first })
     yes-case p false q k r = r k
 
-    go : (q : Fate) → φ (y .image .action) ≡ q → versionStep q t y (versionOf φ t ys) ≡ some x → (versionOf φ t ys ≡ some x → Shows φ t x (y ∷ ys)) → Shows φ t x (y ∷ ys)
+    go : (q : Fate) → φ (y .image .action) ≡ q → versionStep q t y (versionOf φ t ys) ≡ some x → (versionOf φ t ys ≡ some x → Shows φ t x (y ∷ ys))
+        → Shows φ t x (y ∷ ys)
     go unknown p k r = r k
     go undecided p k r = r k
     go committed p k r = yes-case p (leb (y .image .start) t) refl k r
@@ -94,7 +98,8 @@ shows φ t x (y ∷ ys) e = go (φ (y .image .action)) refl e (λ k. shows-next 
 
 -- of the versions that start by a time, the one that is found starts last; where none is found, every version starts later
 module _ (φ : ℕ → Fate) (t : ℕ) where
-  pub highest : (x y : Placed) (xs : List Placed) → Chain φ xs → Among y xs → φ (y .image .action) ≡ committed → y .image .start ≤ t → versionOf φ t xs ≡ some x
+  pub highest : (x y : Placed) (xs : List Placed) → Chain φ xs → Among y xs → φ (y .image .action) ≡ committed → y .image .start ≤ t
+      → versionOf φ t xs ≡ some x
       → y .image .start ≤ x .image .start
   unfolding versionOf
   highest x y xs h first c k e =
@@ -103,11 +108,13 @@ module _ (φ : ℕ → Fate) (t : ℕ) where
       rw j (omega arith)
   highest x y xs h (next {y = z} {xs = zs} m) c k e = go (φ (z .image .action)) e (highest x y zs (h .2) m c k)
     where
-      by-start : (b : Bool) → cond b (some z) (versionOf φ t zs) ≡ some x → (versionOf φ t zs ≡ some x → y .image .start ≤ x .image .start) → y .image .start ≤ x .image .start
+      by-start : (b : Bool) → cond b (some z) (versionOf φ t zs) ≡ some x → (versionOf φ t zs ≡ some x → y .image .start ≤ x .image .start)
+          → y .image .start ≤ x .image .start
       by-start true e r = let j : z ≡ x = cc in rw (← j) (omega (arith, newest φ y zs (h .2) m c, h .0 .later))
       by-start false e r = r e
 
-      go : (q : Fate) → versionStep q t z (versionOf φ t zs) ≡ some x → (versionOf φ t zs ≡ some x → y .image .start ≤ x .image .start) → y .image .start ≤ x .image .start
+      go : (q : Fate) → versionStep q t z (versionOf φ t zs) ≡ some x → (versionOf φ t zs ≡ some x → y .image .start ≤ x .image .start)
+          → y .image .start ≤ x .image .start
       go unknown e r = r e
       go undecided e r = r e
       go committed e r = by-start (leb (z .image .start) t) e r
