@@ -1,8 +1,8 @@
 -- The images of a file in a lawful log are a chain: all but the newest are decided, and each is linked to the newest version below
 -- it, lies above it and starts later.
-use mathlib.Core.Path.{_≡_, refl, _∙_}
+use mathlib.Core.Path.{_≡_, refl, sym, _∙_}
 use mathlib.Core.List.{List, [], _∷_}
-use mathlib.Core.Option.{none, Option·some-ne-none}
+use mathlib.Core.Option.{some, none, Option·some-ne-none}
 use Prim.Native.Nat.{ℕ, suc, _≤_, _<_}
 use native.Mathlib.Omega.{arith}
 use lib.ListN.{length}
@@ -136,3 +136,16 @@ chain (outcome b c ∷ l) f w = chain-same (outcome b c) l f (w .0) (w .1) (chai
 chain (image i ∷ l) f w = by-test (Chain (fateOf l)) (eqb (i .file) f)
     (λ e. chain-image i l f (w .0) (eqb-true (i .file) f e) (chain l f (w .1)))
     (λ e. chain l f (w .1))
+
+-- a token's action is undecided
+pub token-live : (φ : ℕ → Fate) (xs : List Placed) (x : Placed) → tokenOf φ xs ≡ some x → φ (x .image .action) ≡ undecided
+unfolding tokenOf
+token-live φ [] x e = absurd (Option·some-ne-none _ (sym e))
+token-live φ (y ∷ ys) x e = go (φ (y .image .action)) refl e (token-live φ ys x)
+  where
+    go : (q : Fate) → φ (y .image .action) ≡ q → tokenStep q y (tokenOf φ ys) ≡ some x → (tokenOf φ ys ≡ some x → φ (x .image .action) ≡ undecided)
+        → φ (x .image .action) ≡ undecided
+    go unknown p k r = r k
+    go undecided p k r = let i : y ≡ x = cc in rw (← i) p
+    go committed p k r = absurd (Option·some-ne-none _ (sym k))
+    go aborted p k r = r k

@@ -84,7 +84,8 @@ module _ (m : Ledger) where
   moves (rebuild f) = by-test Next (isFile (m .files) f) (λ e. same) (λ e. same)
 
 -- a page stored whole, in part or not at all
-pub holds-put : (s : List Entry) (n : ℕ) (l : List Entry) (g : Entry) → Holds s n l → Fits g l → length l < n → Holds (put s (suc (length l)) g) n (g ∷ l)
+pub holds-put : (s : List Entry) (n : ℕ) (l : List Entry) (g : Entry) → Holds s n l → Fits g l → length l < n
+    → Holds (put s (suc (length l)) g) n (g ∷ l)
 unfolding down
 holds-put s n l g h f k = record {
   long = length-put s (suc (length l)) g ∙ h .long;

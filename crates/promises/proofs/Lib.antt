@@ -2,6 +2,7 @@ pub mod Logs
 pub mod Chains
 pub mod Appends
 pub mod Versions
+pub mod Links
 pub mod Fates
 pub mod Ledger
 pub mod Sim
@@ -12,9 +13,14 @@ pub mod SimCalls
 pub mod Openings
 pub mod Cuts
 pub mod PageRuns
+pub mod Lasting
 pub mod Stable
 pub mod Shown
+pub mod Visible
+pub mod Extends
+pub mod Written
 pub mod Found
+pub mod FatesTold
 pub mod PagePromises
 pub mod Replaced
 pub mod Stored

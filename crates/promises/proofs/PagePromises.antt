@@ -1,23 +1,27 @@
 -- What is promised of a sheet that began blank, after any events: calls, openings, and calls cut after any stored byte.
-use mathlib.Core.Path.{_≡_}
+use mathlib.Core.Path.{_≡_, subst}
 use mathlib.Core.List.{List}
 use mathlib.Core.Bool.{Bool, true, false}
 use Prim.Native.Nat.{ℕ, _≤_, _<_}
 use lib.ListN.{length}
 use Rattle.page.specs.Layout.{pageSize}
-use Rattle.recovery.specs.Log.{Image, Entry, torn, image, Fate, undecided, committed, verdict}
+use Rattle.recovery.specs.Log.{Image, Entry, torn, image, undecided, committed, verdict}
 use Rattle.recovery.specs.Lawful.{lowestUnlawful}
-use Rattle.recovery.specs.World.{World, entryAt, down, fateAt, sizes, isFile, endOf}
-use Rattle.recovery.specs.declared.Answer.the-variants.{Stored, Value}
-use Rattle.calls.specs.Calls.{Call, begin, read, test, decide, on, call}
+use Rattle.recovery.specs.World.{World, entryAt, down, fateAt, sizes, isFile, endOf, fatesOf, undecidedOf, started, opened}
+use Rattle.recovery.specs.declared.Row.{Row}
+use Rattle.recovery.specs.declared.Answer.the-variants.{Opened, Stored, Value, Nothing, Told}
+use Rattle.calls.specs.Calls.{Call, begin, write, read, test, decide, call}
 use Rattle.recovery.specs.Numbers.{isRefused}
-use Rattle.promises.proofs.Logs.{Known}
 use Rattle.promises.proofs.Ledger.{Ledger, toldFate}
-use Rattle.promises.proofs.Openings.{holds-lawful}
-use Rattle.promises.proofs.PageRuns.{Event, cuts, after, runs, Proper, poweredAfter, ledgerRuns, At, stands-off, run, blankWorld, blankLedger, at-blank, plain, heard, rebuilds-unheard}
-use Rattle.promises.proofs.Stable.{Floors, stable}
-use Rattle.promises.proofs.Shown.{committed-shown, own-shown, Visible, read-shows}
-use Rattle.promises.proofs.Found.{Writes, Found, answered-found, cut-found, cut-torn, cut-lost, outcome-told, begin-told}
+use Rattle.promises.proofs.Openings.{Holds, holds-lawful, holds-opened}
+use Rattle.promises.proofs.PageRuns.{Event, cuts, after, runs, Proper, poweredAfter, ledgerRuns, At, stands-off, run, blankWorld, blankLedger, at-blank, plain, heard, ledgerAnswers, answers, answers-alike, rebuilds-unheard}
+use Rattle.promises.proofs.Lasting.{Floors}
+use Rattle.promises.proofs.Stable.{stable, none-written}
+use Rattle.promises.proofs.Shown.{committed-shown, own-shown}
+use Rattle.promises.proofs.Visible.{AllLater, Visible, read-shows, read-none}
+use Rattle.promises.proofs.Written.{Writes}
+use Rattle.promises.proofs.Found.{Found, answered-found, cut-found, cut-torn, cut-lost}
+use Rattle.promises.proofs.FatesTold.{outcome-told, cut-outcome-told, begin-told, cut-begin-told}
 
 module _ (n k : ℕ) (sz : sizes n n k ≡ true) (es : List Event) (proper : Proper n k false es) where
   abbrev now : World
@@ -33,21 +37,33 @@ module _ (n k : ℕ) (sz : sizes n n k ≡ true) (es : List Event) (proper : Pro
   pub always-lawful : lowestUnlawful (down (now .sheet) (endOf (now .sheet) (length (now .sheet)))) ≡ 0
   always-lawful = holds-lawful (now .sheet) (ledger .pages) (ledger .log) (stands-off (poweredAfter false es) now ledger (ran .stands) .holds)
 
-  module _ (on : poweredAfter false es ≡ true) where
+  -- an opening with right sizes is not refused
+  pub always-opened : (fs : List ℕ) (rs : List Row) (t : ℕ) → length fs ≡ n → length rs ≡ k
+      → opened (now .sheet) fs rs t ≡ (Opened (endOf (now .sheet) n) (undecidedOf (fatesOf n (down (now .sheet) (endOf (now .sheet) n)))), started (now .sheet) (endOf (now .sheet) n) k t)
+  always-opened fs rs t a b =
+      let o = stands-off (poweredAfter false es) now ledger (ran .stands) in
+      holds-opened (now .sheet) n k (ledger .log) (subst (λ (x : ℕ). Holds (now .sheet) x (ledger .log)) (ran .pages) (o .holds)) sz fs rs t a b
+
+  module _ (up : poweredAfter false es ≡ true) where
     live : At n k true now ledger
-    live = rw on at ran
+    live = rw up at ran
 
     -- a committed action shows all its versions
-    pub shows-all : (p : ℕ) (i : Image) → p ≤ now .end → entryAt now p ≡ image i → isFile (length (now .rows)) (i .file) ≡ true → fateAt now (i .action) ≡ committed
+    pub shows-all : (p : ℕ) (i : Image) → p ≤ now .end → entryAt now p ≡ image i → isFile (length (now .rows)) (i .file) ≡ true
+        → fateAt now (i .action) ≡ committed
         → call now (read (i .file) (i .start) 0) .0 ≡ Value p (i .start) (length (i .value))
     shows-all = committed-shown now ledger (live .stands)
 
-    -- any other action shows none outside itself
+    -- any other action shows none outside itself; and a read gives the version with the highest start not above its time
     pub shows-no-other : (f t a p s l : ℕ) → call now (read f t a) .0 ≡ Value p s l → Visible now f t a p s l
     shows-no-other = read-shows now ledger (live .stands)
 
+    pub shows-none : (f t a : ℕ) → call now (read f t a) .0 ≡ Nothing → AllLater now f t
+    shows-none = read-none now ledger (live .stands)
+
     -- itself it shows what it wrote
-    pub shows-own : (p : ℕ) (i : Image) (t : ℕ) → p ≤ now .end → entryAt now p ≡ image i → isFile (length (now .rows)) (i .file) ≡ true → fateAt now (i .action) ≡ undecided
+    pub shows-own : (p : ℕ) (i : Image) (t : ℕ) → p ≤ now .end → entryAt now p ≡ image i → isFile (length (now .rows)) (i .file) ≡ true
+        → fateAt now (i .action) ≡ undecided
         → i .start ≤ t → call now (read (i .file) t (i .action)) .0 ≡ Value p (i .start) (length (i .value))
     shows-own = own-shown now ledger (live .stands)
 
@@ -63,24 +79,47 @@ module _ (n k : ℕ) (sz : sizes n n k ≡ true) (es : List Event) (proper : Pro
         → (es′ : List Event) → Proper n k false es′ → entryAt (runs (after now (cuts c i)) es′) p ≡ torn
     torn-cut = cut-torn n k now ledger live
 
-    pub lost-cut : (c : Call) (p : ℕ) → call now c .0 ≡ Stored p → (i : ℕ) → i < pageSize → (g : Entry) → Writes c g → entryAt (after now (cuts c i)) p ≡ g → ⊥
+    pub lost-cut : (c : Call) (p : ℕ) → call now c .0 ≡ Stored p → (i : ℕ) → i < pageSize → (g : Entry) → Writes c g
+        → entryAt (after now (cuts c i)) p ≡ g → ⊥
     lost-cut = cut-lost n k now ledger live
 
     -- an action that was begun is known ever after
     pub told-begin : (p : ℕ) → call now begin .0 ≡ Stored p → (es′ : List Event) → Proper n k true es′ → poweredAfter true es′ ≡ true
-        → (x : Fate) × (Known x × (call (runs (call now begin .1) es′) (test p) .0 ≡ toldFate x))
+        → (x : ℕ) × ((1 ≤ x) × (x ≤ 3) × (call (runs (call now begin .1) es′) (test p) .0 ≡ Told x))
     told-begin = begin-told n k now ledger live
 
-    -- an answered outcome is told ever after
+    pub told-cut-begin : (p : ℕ) → call now begin .0 ≡ Stored p → (i : ℕ) → pageSize ≤ i → (es′ : List Event) → Proper n k false es′
+        → poweredAfter false es′ ≡ true
+        → (x : ℕ) × ((1 ≤ x) × (x ≤ 3) × (call (runs (after now (cuts begin i)) es′) (test p) .0 ≡ Told x))
+    told-cut-begin = cut-begin-told n k now ledger live
+
+    -- an outcome is told ever after
     pub told-outcome : (a : ℕ) (c : Bool) (p : ℕ) → call now (decide a c) .0 ≡ Stored p
-        → (es′ : List Event) → Proper n k true es′ → poweredAfter true es′ ≡ true → call (runs (call now (decide a c) .1) es′) (test a) .0 ≡ toldFate (verdict c)
+        → (es′ : List Event) → Proper n k true es′ → poweredAfter true es′ ≡ true
+        → call (runs (call now (decide a c) .1) es′) (test a) .0 ≡ toldFate (verdict c)
     told-outcome = outcome-told n k now ledger live
+
+    pub told-cut-outcome : (a : ℕ) (c : Bool) (p : ℕ) → call now (decide a c) .0 ≡ Stored p → (i : ℕ) → pageSize ≤ i
+        → (es′ : List Event) → Proper n k false es′ → poweredAfter false es′ ≡ true
+        → call (runs (after now (cuts (decide a c) i)) es′) (test a) .0 ≡ toldFate (verdict c)
+    told-cut-outcome = cut-outcome-told n k now ledger live
 
     -- a read outside any action, once answered, is answered alike again
     pub stable-reads : (f t : ℕ) → isRefused (call now (read f t 0) .0) ≡ false
         → (es′ : List Event) → Proper n k true es′ → poweredAfter true es′ ≡ true → Floors t es′
         → call (runs (call now (read f t 0) .1) es′) (read f t 0) .0 ≡ call now (read f t 0) .0
-    stable-reads f t h es′ = stable n k sz es es′ f t proper on h
+    stable-reads f t h es′ = stable n k sz es es′ f t proper up h
+
+    -- and nothing is written to its file that starts by its time
+    pub none-below : (f t : ℕ) → isRefused (call now (read f t 0) .0) ≡ false
+        → (es′ : List Event) → Proper n k true es′ → poweredAfter true es′ ≡ true → Floors t es′
+        → (s a p : ℕ) (v : List ℕ) → call (runs (call now (read f t 0) .1) es′) (write f s a v) .0 ≡ Stored p → t < s
+    none-below f t h es′ = none-written n k sz es es′ f t proper up h
+
+-- every answer is the ledger's
+pub as-the-ledger : (n k : ℕ) → sizes n n k ≡ true → (es : List Event) → Proper n k false es
+    → answers (blankWorld n) es ≡ ledgerAnswers (blankLedger n k) es
+as-the-ledger = answers-alike
 
 -- rows rebuilt together or one by one, in any order among the same other events
 pub any-rebuilds : (n k : ℕ) → sizes n n k ≡ true → (es es′ : List Event) → Proper n k false es → Proper n k false es′

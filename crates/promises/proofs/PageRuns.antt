@@ -2,7 +2,7 @@
 -- ledger answer alike, so that rebuilding in any order is unheard.
 use mathlib.Core.Path.{_≡_, refl, ap, sym, _∙_, subst}
 use mathlib.Core.List.{List, [], _∷_}
-use mathlib.Core.Bool.{Bool, true, false, cond}
+use mathlib.Core.Bool.{Bool, true, false, cond, false≢true}
 use mathlib.Core.Option.{Option, some, none}
 use Prim.Native.Nat.{ℕ, zero, suc}
 use native.Mathlib.Omega.{arith}
@@ -201,36 +201,55 @@ unfoldable pub heard : World → List Event → List (Option Answer)
 heard w [] = []
 heard w (e ∷ es) = cond (isRebuild e) (heard (after w e) es) (answerOf w e ∷ heard (after w e) es)
 
-ledgerHeard : Ledger → List Event → List (Option Answer)
-ledgerHeard m [] = []
-ledgerHeard m (e ∷ es) = ledgerAnswer m e ∷ ledgerHeard (ledgerAfter m e) es
+unfoldable pub ledgerAnswers : Ledger → List Event → List (Option Answer)
+ledgerAnswers m [] = []
+ledgerAnswers m (e ∷ es) = ledgerAnswer m e ∷ ledgerAnswers (ledgerAfter m e) es
 
+-- every answer of a run is the ledger's
+unfoldable pub answers : World → List Event → List (Option Answer)
+answers w [] = []
+answers w (e ∷ es) = answerOf w e ∷ answers (after w e) es
+
+answers-from : (n k : ℕ) (b : Bool) (w : World) (m : Ledger) (es : List Event) → At n k b w m → Proper n k b es → answers w es ≡ ledgerAnswers m es
+unfolding answers ledgerAnswers
+answers-from n k b w m [] s p = refl
+answers-from n k b w m (e ∷ es) s p =
+    let r = event n k b w m e s (p .0) in
+    rw (r .answer, answers-from n k (powered e) (after w e) (ledgerAfter m e) es (r .next) (p .1))
+
+pub answers-alike : (n k : ℕ) → sizes n n k ≡ true → (es : List Event) → Proper n k false es
+    → answers (blankWorld n) es ≡ ledgerAnswers (blankLedger n k) es
+answers-alike n k h es p = answers-from n k false (blankWorld n) (blankLedger n k) es (at-blank n k h) p
+
+-- a rebuild changes nothing of the ledger
 idle : (m : Ledger) (e : Event) → isRebuild e ≡ true → ledgerAfter m e ≡ m
-idle m (calls begin) h = let z : _≡_ {A = ℕ} 0 1 = cc in absurd (omega arith)
-idle m (calls (write f s a n)) h = let z : _≡_ {A = ℕ} 0 1 = cc in absurd (omega arith)
-idle m (calls (read f t a)) h = let z : _≡_ {A = ℕ} 0 1 = cc in absurd (omega arith)
-idle m (calls (test a)) h = let z : _≡_ {A = ℕ} 0 1 = cc in absurd (omega arith)
-idle m (calls (decide a c)) h = let z : _≡_ {A = ℕ} 0 1 = cc in absurd (omega arith)
+idle m (calls begin) h = absurd (false≢true h)
+idle m (calls (write f s a n)) h = absurd (false≢true h)
+idle m (calls (read f t a)) h = absurd (false≢true h)
+idle m (calls (test a)) h = absurd (false≢true h)
+idle m (calls (decide a c)) h = absurd (false≢true h)
 idle m (calls (rebuild f)) h = by-test (λ (r : LedgerResult). r .1 ≡ m) (isFile (m .files) f) (λ e. refl) (λ e. refl)
-idle m (opens t fs rs) h = let z : _≡_ {A = ℕ} 0 1 = cc in absurd (omega arith)
-idle m (fails t fs rs) h = let z : _≡_ {A = ℕ} 0 1 = cc in absurd (omega arith)
-idle m (cuts c n) h = let z : _≡_ {A = ℕ} 0 1 = cc in absurd (omega arith)
+idle m (opens t fs rs) h = absurd (false≢true h)
+idle m (fails t fs rs) h = absurd (false≢true h)
+idle m (cuts c n) h = absurd (false≢true h)
 
-blind : (m : Ledger) (e : Event) (es : List Event) → _≡_ {A = List (Option Answer)} (ledgerAnswer m e ∷ ledgerHeard (ledgerAfter m e) es) (ledgerAnswer m (bare e) ∷ ledgerHeard (ledgerAfter m (bare e)) es)
+blind : (m : Ledger) (e : Event) (es : List Event)
+    → _≡_ {A = List (Option Answer)} (ledgerAnswer m e ∷ ledgerAnswers (ledgerAfter m e) es) (ledgerAnswer m (bare e) ∷ ledgerAnswers (ledgerAfter m (bare e)) es)
 blind m (calls k) es = refl
 blind m (opens t fs rs) es = refl
 blind m (fails t fs rs) es = refl
 blind m (cuts k n) es = refl
 
-heard-plain : (n k : ℕ) (b : Bool) (w : World) (m : Ledger) (es : List Event) → At n k b w m → Proper n k b es → heard w es ≡ ledgerHeard m (plain es)
-unfolding heard ledgerHeard
+heard-plain : (n k : ℕ) (b : Bool) (w : World) (m : Ledger) (es : List Event) → At n k b w m → Proper n k b es
+    → heard w es ≡ ledgerAnswers m (plain es)
+unfolding heard ledgerAnswers
 heard-plain n k b w m [] s p = refl
 heard-plain n k b w m (e ∷ es) s p =
     let r = event n k b w m e s (p .0) in
     go (isRebuild e) refl (r .answer) (heard-plain n k (powered e) (after w e) (ledgerAfter m e) es (r .next) (p .1))
   where
-    go : (x : Bool) → isRebuild e ≡ x → answerOf w e ≡ ledgerAnswer m e → heard (after w e) es ≡ ledgerHeard (ledgerAfter m e) (plain es)
-        → cond x (heard (after w e) es) (answerOf w e ∷ heard (after w e) es) ≡ ledgerHeard m (cond x (plain es) (bare e ∷ plain es))
+    go : (x : Bool) → isRebuild e ≡ x → answerOf w e ≡ ledgerAnswer m e → heard (after w e) es ≡ ledgerAnswers (ledgerAfter m e) (plain es)
+        → cond x (heard (after w e) es) (answerOf w e ∷ heard (after w e) es) ≡ ledgerAnswers m (cond x (plain es) (bare e ∷ plain es))
     go true q a h = rw (idle m e q) at h
     go false q a h = rw (a, h) (blind m e (plain es))
 
@@ -239,5 +258,5 @@ pub rebuilds-unheard : (n k : ℕ) → sizes n n k ≡ true → (es es′ : List
     → plain es ≡ plain es′ → heard (blankWorld n) es ≡ heard (blankWorld n) es′
 rebuilds-unheard n k h es es′ p p′ e =
     heard-plain n k false (blankWorld n) (blankLedger n k) es (at-blank n k h) p
-    ∙ ap (ledgerHeard (blankLedger n k)) e
+    ∙ ap (ledgerAnswers (blankLedger n k)) e
     ∙ sym (heard-plain n k false (blankWorld n) (blankLedger n k) es′ (at-blank n k h) p′)

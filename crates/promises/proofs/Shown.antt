@@ -1,4 +1,4 @@
--- A committed action shows all its versions; any other shows none outside itself.
+-- A committed action shows all its versions: a read at its start finds each. An undecided one shows them to itself.
 use mathlib.Core.Path.{_≡_, refl, sym, _∙_}
 use mathlib.Core.List.{List, [], _∷_}
 use mathlib.Core.Bool.{Bool, true, false, cond}
@@ -6,22 +6,21 @@ use mathlib.Core.Option.{Option, some, none, Option·some-ne-none}
 use Prim.Native.Nat.{ℕ, suc, _≤_, _<_}
 use native.Mathlib.Omega.{arith}
 use lib.ListN.{length}
-use lib.Dec.{eqb, leb}
-use borrow.Author.Tests.{eqb-true, leb-true, eq-eqb, ne-eqb, le-leb, lt-leb}
+use lib.Dec.{eqb}
+use borrow.Author.Tests.{eqb-true, eq-eqb, ne-eqb, le-leb, lt-leb}
 use Rattle.encoding.proofs.Logic.{by-test}
 use Rattle.recovery.specs.Log.{Image, Entry, blank, torn, bad, opening, image, outcome, Fate, unknown, undecided, committed, aborted, Placed, fateOf, imagesOf, currentStep, tokenStep, currentOf, tokenOf, startOf}
 use Rattle.recovery.specs.Lawful.{token}
 use Rattle.recovery.specs.World.{World, entryAt, fateAt, isFile}
-use Rattle.recovery.specs.declared.Answer.the-variants.{Refused, Value}
+use Rattle.recovery.specs.declared.Answer.the-variants.{Value}
 use Rattle.recovery.proofs.InspectFates.{undecided-known, All, decided-free}
-use Rattle.calls.specs.Calls.{read, isDecided, call}
+use Rattle.calls.specs.Calls.{read, call}
 use Rattle.promises.proofs.Logs.{entryIn, Known, Decided, not-undecided, known-place}
-use Rattle.promises.proofs.Chains.{Chain, Spot, Spots, spots, chain}
-use Rattle.promises.proofs.Versions.{version, Among, first, next, newest, shown, shows}
-use Rattle.promises.proofs.Ledger.{Ledger, LedgerResult, ledgerKnows, foundAnswer, ledgerVersions, ledgerRead, ledgerCall}
-use Rattle.promises.proofs.Sim.{Sim, Lies, token-lies, fate-eq, entry-eq, lies-at}
+use Rattle.promises.proofs.Chains.{Chain, chain}
+use Rattle.promises.proofs.Versions.{version, Among, first, next, newest, shown}
+use Rattle.promises.proofs.Ledger.{Ledger, ledgerCall}
+use Rattle.promises.proofs.Sim.{Sim, fate-eq, entry-eq}
 use Rattle.promises.proofs.SimCalls.{sim-call}
-use Rattle.promises.proofs.Stable.{token-live}
 
 -- an image of a log is among its file's images
 pub entry-among : (l : List Entry) (p : ℕ) (i : Image) → entryIn l p ≡ image i → Among (record { place = p; image = i }) (imagesOf l (i .file))
@@ -29,7 +28,8 @@ unfolding imagesOf
 entry-among [] p i e = let z : _≡_ {A = ℕ} 0 1 = cc in absurd (omega arith)
 entry-among (g ∷ l) p i e = go (eqb p (suc (length l))) refl e (entry-among l p i)
   where
-    lift : (g : Entry) → Among (record { place = p; image = i }) (imagesOf l (i .file)) → Among (record { place = p; image = i }) (imagesOf (g ∷ l) (i .file))
+    lift : (g : Entry) → Among (record { place = p; image = i }) (imagesOf l (i .file))
+        → Among (record { place = p; image = i }) (imagesOf (g ∷ l) (i .file))
     lift blank h = h
     lift torn h = h
     lift bad h = h
@@ -43,7 +43,7 @@ entry-among (g ∷ l) p i e = go (eqb p (suc (length l))) refl e (entry-among l 
     go false q k r = lift g (r k)
 
 -- a token starts after every version, and an undecided image is its file's token
-token-later : (φ : ℕ → Fate) (xs : List Placed) (y : Placed) → Chain φ xs → tokenOf φ xs ≡ some y → startOf (currentOf φ xs) < y .image .start
+pub token-later : (φ : ℕ → Fate) (xs : List Placed) (y : Placed) → Chain φ xs → tokenOf φ xs ≡ some y → startOf (currentOf φ xs) < y .image .start
 unfolding tokenOf currentOf
 token-later φ [] y h e = absurd (Option·some-ne-none _ (sym e))
 token-later φ (x ∷ xs) y h e = go (φ (x .image .action)) (h .0 .sure) e
@@ -69,7 +69,8 @@ module _ (w : World) (m : Ledger) (s : Sim w m) where
   among-at p i h e = entry-among (m .log) p i (sym (entry-eq w m s p (rw (← s .ends) h)) ∙ e)
 
   -- a read at its start finds a committed image
-  pub committed-shown : (p : ℕ) (i : Image) → p ≤ w .end → entryAt w p ≡ image i → isFile (length (w .rows)) (i .file) ≡ true → fateAt w (i .action) ≡ committed
+  pub committed-shown : (p : ℕ) (i : Image) → p ≤ w .end → entryAt w p ≡ image i → isFile (length (w .rows)) (i .file) ≡ true
+      → fateAt w (i .action) ≡ committed
       → call w (read (i .file) (i .start) 0) .0 ≡ Value p (i .start) (length (i .value))
   committed-shown p i h e f c = sim-call w m s (read (i .file) (i .start) 0) .answer ∙ go (token (m .log) (i .file)) refl
     where
@@ -105,7 +106,8 @@ module _ (w : World) (m : Ledger) (s : Sim w m) where
       )
 
   -- a read of its own action finds an undecided image, from its start on
-  pub own-shown : (p : ℕ) (i : Image) (t : ℕ) → p ≤ w .end → entryAt w p ≡ image i → isFile (length (w .rows)) (i .file) ≡ true → fateAt w (i .action) ≡ undecided
+  pub own-shown : (p : ℕ) (i : Image) (t : ℕ) → p ≤ w .end → entryAt w p ≡ image i → isFile (length (w .rows)) (i .file) ≡ true
+      → fateAt w (i .action) ≡ undecided
       → i .start ≤ t → call w (read (i .file) t (i .action)) .0 ≡ Value p (i .start) (length (i .value))
   own-shown p i t h e f c l = sim-call w m s (read (i .file) t (i .action)) .answer
       ∙ rw (
@@ -127,61 +129,3 @@ module _ (w : World) (m : Ledger) (s : Sim w m) where
 
       fl : isFile (m .files) (i .file) ≡ true
       fl = rw (s .files) at f
-
--- what a read shows
-pub data Whose (w : World) (a : ℕ) (i : Image) : Type 0 where
-  kept : fateAt w (i .action) ≡ committed → Whose w a i
-  own : 1 ≤ a → i .action ≡ a → Whose w a i
-
-pub record Visible (w : World) (f t a p s n : ℕ) : Type 0 where
-  pub seen : Image
-  pub here : entryAt w p ≡ image seen
-  pub file : seen .file ≡ f
-  pub start : seen .start ≡ s
-  pub len : length (seen .value) ≡ n
-  pub inTime : s ≤ t
-  pub whose : Whose w a seen
-
-spot-among : (l : List Entry) (f : ℕ) (x : Placed) (xs : List Placed) → Spots l f xs → Among x xs → Spot l f x
-spot-among l f x xs h first = h .0
-spot-among l f x xs h (next {y} {xs = ys} m) = spot-among l f x ys (h .1) m
-
-module _ (w : World) (m : Ledger) (s : Sim w m) (f t a p st n : ℕ) where
-  abbrev Seen-in : LedgerResult → Type 0
-  Seen-in r = r .0 ≡ Value p st n → Visible w f t a p st n
-
-  no-such : (x y : ℕ) → Seen-in (Refused x y, m)
-  no-such x y e = let z : _≡_ {A = ℕ} 0 1 = cc in absurd (omega arith)
-
-  make : (x : Placed) → Spot (m .log) f x → x .image .start ≤ t → Whose w a (x .image) → Value (x .place) (x .image .start) (length (x .image .value)) ≡ Value p st n → Visible w f t a p st n
-  make x l k o e =
-      let a : x .place ≡ p = cc in
-      let b : x .image .start ≡ st = cc in
-      record { seen = x .image; here = rw a at (lies-at w m s f x l); file = l .mine; start = b; len = cc; inTime = rw b at k; whose = o }
-
-  shows-versions : Seen-in (ledgerVersions m f t)
-  shows-versions = go (version (m .log) f t) refl
-    where
-      go : (z : Option Placed) → version (m .log) f t ≡ z → foundAnswer z ≡ Value p st n → Visible w f t a p st n
-      go none q e = let z : _≡_ {A = ℕ} 0 1 = cc in absurd (omega arith)
-      go (some x) q e =
-          let k = shows (fateOf (m .log)) t x (imagesOf (m .log) f) q in
-          make x (spot-among (m .log) f x (imagesOf (m .log) f) (spots (m .log) f) (k .among)) (k .inTime) (kept (fate-eq w m s (x .image .action) ∙ k .kept)) e
-
-  shows-token : (z : Option Placed) → token (m .log) f ≡ z → Lies (m .log) f z → Seen-in (ledgerRead m f t a z)
-  shows-token none i l = shows-versions
-  shows-token (some x) i l = by-test Seen-in (leb (x .image .start) t)
-      (λ q. by-test Seen-in (eqb (x .image .action) a) (λ r e. make x l (leb-true (x .image .start) t q) (own (rw (eqb-true (x .image .action) a r) at
-      (known-place (m .log) (x .image .action) (s .lawful) (undecided-known (token-live (fateOf (m .log)) (imagesOf (m .log) f) x i)) .0)) (eqb-true (x .image .action) a r)) e) (λ r. no-such 9 (x .image .action)))
-      (λ q. shows-versions)
-
-  shows-read : Seen-in (ledgerCall m (read f t a))
-  shows-read =
-      let k = shows-token (token (m .log) f) refl (token-lies (m .log) f) in
-      by-test Seen-in (isFile (m .files) f)
-      (λ e. by-test Seen-in (eqb a 0) (λ e. k) (λ e. by-test Seen-in (ledgerKnows m a) (λ e. by-test Seen-in (isDecided (fateOf (m .log) a)) (λ e. no-such 6 0) (λ e. k)) (λ e. no-such 5 0)))
-      (λ e. no-such 3 0)
-
-  -- what a read answers is an image of the file, of a committed action or of the reader's own
-  pub read-shows : call w (read f t a) .0 ≡ Value p st n → Visible w f t a p st n
-  read-shows e = shows-read (sym (sim-call w m s (read f t a) .answer) ∙ e)

@@ -51,7 +51,8 @@ pub record Agrees (r : Result) (s : LedgerResult) : Type 0 where
   pub answer : r .0 ≡ s .0
   pub after : Sim (r .1) (s .1)
 
-pub agrees-cond : (b c : Bool) {x y : Result} {x′ y′ : LedgerResult} → b ≡ c → (c ≡ true → Agrees x x′) → (c ≡ false → Agrees y y′) → Agrees (cond b x y) (cond c x′ y′)
+pub agrees-cond : (b c : Bool) {x y : Result} {x′ y′ : LedgerResult} → b ≡ c → (c ≡ true → Agrees x x′) → (c ≡ false → Agrees y y′)
+    → Agrees (cond b x y) (cond c x′ y′)
 agrees-cond true true e f g = f refl
 agrees-cond true false e f g = absurd (true≢false e)
 agrees-cond false true e f g = absurd (false≢true e)
@@ -144,7 +145,8 @@ module _ (w : World) (m : Ledger) (s : Sim w m) where
 
   -- one row set, and how far its file reaches
   pub sim-set : (f : ℕ) (ce te : ℕ → ℕ) (r : Row) → isFile (m .files) f ≡ true → r ≡ ledgerRow (withEnds m ce te) f
-      → ((g : ℕ) → (f ≡ g → ⊥) → ce g ≡ m .currentend g) → ((g : ℕ) → (f ≡ g → ⊥) → te g ≡ m .tokenend g) → Reach (m .log) ce te → Sim (withRow w f r) (withEnds m ce te)
+      → ((g : ℕ) → (f ≡ g → ⊥) → ce g ≡ m .currentend g) → ((g : ℕ) → (f ≡ g → ⊥) → te g ≡ m .tokenend g) → Reach (m .log) ce te
+      → Sim (withRow w f r) (withEnds m ce te)
   sim-set f ce te r h e k l o = record {
     reach = o;
     long = s .long;
@@ -161,7 +163,8 @@ module _ (w : World) (m : Ledger) (s : Sim w m) where
     rows = λ g q. go g q (eqb f g) refl;
   }
     where
-      go : (g : ℕ) → isFile (m .files) g ≡ true → (b : Bool) → eqb f g ≡ b → warmOf (nth cold (put (w .rows) f r) g) (m .log) g ≡ ledgerRow (withEnds m ce te) g
+      go : (g : ℕ) → isFile (m .files) g ≡ true → (b : Bool) → eqb f g ≡ b
+          → warmOf (nth cold (put (w .rows) f r) g) (m .log) g ≡ ledgerRow (withEnds m ce te) g
       go g q true i = rw (← eqb-true f g i, nth-put-same cold (w .rows) f r (is-file (m .files) f h .0) (rw (s .files) (is-file (m .files) f h .1)), e)
       go g q false i = rw (nth-put-other cold (w .rows) f g r (λ j. eqb-false f g i (sym j)), k g (eqb-false f g i), l g (eqb-false f g i)) (s .rows g q)
 

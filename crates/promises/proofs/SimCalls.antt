@@ -25,11 +25,13 @@ module _ (w : World) (m : Ledger) (s : Sim w m) where
   agrees-file : (f : ℕ) (x : Result) (y : LedgerResult) → (isFile (m .files) f ≡ true → Agrees x y) → Agrees (forFile w f x) (ledgerForFile m f y)
   agrees-file f x y k = agrees-cond (isFile (length (w .rows)) f) (isFile (m .files) f) (rw (s .files)) k (λ e. record { answer = refl; after = s })
 
-  agrees-action : (a : ℕ) (x : Result) (y : LedgerResult) → (isKnown (fateOf (m .log) a) ≡ true → Agrees x y) → Agrees (forAction w a x) (ledgerForAction m a y)
+  agrees-action : (a : ℕ) (x : Result) (y : LedgerResult) → (isKnown (fateOf (m .log) a) ≡ true → Agrees x y)
+      → Agrees (forAction w a x) (ledgerForAction m a y)
   agrees-action a x y k = agrees-cond (hasAction w a) (ledgerKnows m a) (action-eq w m s a)
       (λ e. k (and-true (leb 1 a && leb a (length (m .log))) (isKnown (fateOf (m .log) a)) e .1)) (λ e. record { answer = refl; after = s })
 
-  agrees-undecided : (a : ℕ) (x : Result) (y : LedgerResult) → (fateOf (m .log) a ≡ undecided → Agrees x y) → Agrees (forUndecided w a x) (ledgerForUndecided m a y)
+  agrees-undecided : (a : ℕ) (x : Result) (y : LedgerResult) → (fateOf (m .log) a ≡ undecided → Agrees x y)
+      → Agrees (forUndecided w a x) (ledgerForUndecided m a y)
   agrees-undecided a x y k = agrees-action a _ _ (λ e. agrees-cond (isDecided (fateAt w a)) (isDecided (fateOf (m .log) a)) (ap isDecided (fate-eq w m s a))
       (λ q. record { answer = refl; after = s }) (λ q. k (undecided-fate (fateOf (m .log) a) e q)))
 

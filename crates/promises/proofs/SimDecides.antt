@@ -97,7 +97,8 @@ module _ (w : World) (m : Ledger) (s : Sim w m) where
       held true t x h = omega arith
       held false t x h = h
 
-      go : ledgerRoom m 1 ≡ true → Sim (append w (outcome a c) (put (w .fates) a (fateNumber (verdict c))) (eachRow (settled w a c) 0 (w .rows)) (pred (w .undecided))) (ledgerGrown m (outcome a c) (currentDecided m a c) (tokenDecided m a) .1)
+      go : ledgerRoom m 1 ≡ true
+          → Sim (append w (outcome a c) (put (w .fates) a (fateNumber (verdict c))) (eachRow (settled w a c) 0 (w .rows)) (pred (w .undecided))) (ledgerGrown m (outcome a c) (currentDecided m a c) (tokenDecided m a) .1)
       go e =
           let k : length (m .log) < m .pages = omega (arith, leb-true 1 (m .pages - length (m .log)) e) in
           let p = known-place (m .log) a (s .lawful) (undecided-known o) in

@@ -15,7 +15,8 @@ use Rattle.recovery.specs.World.{World, entryAt, withRow, isFile}
 use Rattle.recovery.specs.declared.Row.{Row}
 use Rattle.calls.specs.Calls.{imageOf, walkFrom, answerWalk, reaches, onVersions, onToken, onRead}
 use Rattle.promises.proofs.Chains.{Spots, spots, chain}
-use Rattle.promises.proofs.Versions.{version, walked, version-none, AllSeen, walk-finds}
+use Rattle.promises.proofs.Versions.{version, version-none}
+use Rattle.promises.proofs.Links.{walked, AllSeen, walk-finds}
 use Rattle.promises.proofs.Ledger.{Ledger, endAt, withEnds, foundAnswer, within, raised, ledgerVersions, ledgerRead, ledgerRow}
 use Rattle.promises.proofs.Sim.{Sim, Agrees, agrees-cond, Lies, current-lies, token-lies, lies-at, row-holds, sim-set}
 

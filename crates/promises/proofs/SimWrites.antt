@@ -31,7 +31,8 @@ module _ (w : World) (m : Ledger) (s : Sim w m) where
       (λ e. rw (blank-ok w m s) (record { answer = ap Stored (ap suc (s .ends)); after = go e }))
       (λ e. record { answer = refl; after = s })
     where
-      go : ledgerRoom m (ledgerUndecided m + 2) ≡ true → Sim (append w opening (put (w .fates) (suc (w .end)) 1) (w .rows) (suc (w .undecided))) (ledgerGrown m opening (m .currentend) (m .tokenend) .1)
+      go : ledgerRoom m (ledgerUndecided m + 2) ≡ true
+          → Sim (append w opening (put (w .fates) (suc (w .end)) 1) (w .rows) (suc (w .undecided))) (ledgerGrown m opening (m .currentend) (m .tokenend) .1)
       go e =
           let k : length (m .log) < m .pages = omega (arith, leb-true (ledgerUndecided m + 2) (m .pages - length (m .log)) e) in
           sim-append w m s opening (put (w .fates) (suc (w .end)) 1) (w .rows) (suc (w .undecided)) (m .currentend) (m .tokenend) tt k
@@ -76,7 +77,8 @@ module _ (w : World) (m : Ledger) (s : Sim w m) where
         e,
       ) (s .rows g q)
 
-      held-in : ImageFits written (m .log) → (g : ℕ) → (b : Bool) → eqb f g ≡ b → startOf (token (image written ∷ m .log) g) ≤ endAt (m .tokenend) f t g
+      held-in : ImageFits written (m .log) → (g : ℕ) → (b : Bool) → eqb f g ≡ b
+          → startOf (token (image written ∷ m .log) g) ≤ endAt (m .tokenend) f t g
       held-in i g true e = rw (image-token written (m .log) g i, e) (omega arith)
       held-in i g false e = rw (image-token written (m .log) g i, e) (s .reach .token-low g)
 

@@ -1,17 +1,16 @@
--- The version that a read outside its file's token finds: by the histories, and by following links.
+-- The version that a read finds outside its file's token: of those that start by the time, the one that starts last.
 use mathlib.Core.Path.{_≡_, refl, sym}
 use mathlib.Core.List.{List, [], _∷_}
 use mathlib.Core.Bool.{Bool, true, false, cond}
 use mathlib.Core.Option.{Option, some, none, Option·some-ne-none}
-use Prim.Native.Nat.{ℕ, zero, suc, _≤_, _<_}
+use Prim.Native.Nat.{ℕ, _≤_, _<_}
 use native.Mathlib.Omega.{arith}
 use lib.Dec.{eqb, leb}
-use borrow.Author.Tests.{eqb-true, leb-true, eq-eqb, ne-eqb, le-leb, lt-leb}
+use borrow.Author.Tests.{eqb-true, leb-true, leb-false, le-leb, lt-leb}
 use Rattle.encoding.proofs.Logic.{by-test}
-use Rattle.recovery.specs.Log.{Entry, blank, torn, bad, opening, image, outcome, Fate, unknown, undecided, committed, aborted, Placed, fateOf, imagesOf, currentStep, currentOf, tokenOf, placeOf, startOf}
+use Rattle.recovery.specs.Log.{Entry, blank, torn, bad, opening, image, outcome, Fate, unknown, undecided, committed, aborted, Placed, fateOf, imagesOf, currentStep, currentOf, tokenOf, startOf}
 use Rattle.recovery.specs.Lawful.{token}
 use Rattle.recovery.proofs.InspectFates.{All}
-use Rattle.calls.specs.Walk.{Walk, met, nothing, endless, via, follow}
 use Rattle.promises.proofs.Logs.{Fits, Lawful, Keeps}
 use Rattle.promises.proofs.Chains.{Chain, chain}
 use Rattle.promises.proofs.Appends.{Agree, agree-keeps, opening-agree, turned, turn-keeps}
@@ -30,100 +29,26 @@ versionOf φ t (x ∷ xs) = versionStep (φ (x .image .action)) t x (versionOf �
 abbrev pub version : List Entry → ℕ → ℕ → Option Placed
 version l f t = versionOf (fateOf l) t (imagesOf l f)
 
-abbrev pub walked : Option Placed → Walk
-walked none = nothing
-walked (some x) = met x
-
 -- with no version at all, none is found
 pub version-none : (φ : ℕ → Fate) (t : ℕ) (xs : List Placed) → currentOf φ xs ≡ none → versionOf φ t xs ≡ none
 unfolding currentOf versionOf
 version-none φ t [] h = refl
 version-none φ t (x ∷ xs) h = go (φ (x .image .action)) h (version-none φ t xs)
   where
-    go : (y : Fate) → currentStep y x (currentOf φ xs) ≡ none → (currentOf φ xs ≡ none → versionOf φ t xs ≡ none) → versionStep y t x (versionOf φ t xs) ≡ none
+    go : (y : Fate) → currentStep y x (currentOf φ xs) ≡ none → (currentOf φ xs ≡ none → versionOf φ t xs ≡ none)
+        → versionStep y t x (versionOf φ t xs) ≡ none
     go unknown e r = r e
     go undecided e r = r e
     go committed e r = absurd (Option·some-ne-none _ e)
     go aborted e r = r e
-
--- the places of the images, as the pages show them
-pub record Seen (entry : ℕ → Entry) (f : ℕ) (x : Placed) : Type 0 where
-  pub here : entry (x .place) ≡ image (x .image)
-  pub mine : x .image .file ≡ f
-  pub low : 1 ≤ x .place
-
-abbrev pub AllSeen : (ℕ → Entry) → ℕ → List Placed → Type 0
-AllSeen entry f [] = Unit {0}
-AllSeen entry f (x ∷ xs) = Seen entry f x × AllSeen entry f xs
-
-pub current-seen : (entry : ℕ → Entry) (f : ℕ) (φ : ℕ → Fate) (xs : List Placed) (z : Placed) → AllSeen entry f xs → currentOf φ xs ≡ some z → Seen entry f z
-unfolding currentOf
-current-seen entry f φ [] z h e = absurd (Option·some-ne-none _ (sym e))
-current-seen entry f φ (x ∷ xs) z h e = go (φ (x .image .action)) e (current-seen entry f φ xs z (h .1))
-  where
-    go : (y : Fate) → currentStep y x (currentOf φ xs) ≡ some z → (currentOf φ xs ≡ some z → Seen entry f z) → Seen entry f z
-    go unknown q r = r q
-    go undecided q r = r q
-    go committed q r = let s : x ≡ z = cc in rw s at (h .0)
-    go aborted q r = r q
-
--- following links from the current version finds what the history has
-module _ (entry : ℕ → Entry) (f t : ℕ) (φ : ℕ → Fate) where
-  abbrev Walks : List Placed → Type 0
-  Walks xs = (x : Placed) (n : ℕ) → currentOf φ xs ≡ some x → x .place ≤ suc n → follow entry f t n x ≡ walked (versionOf φ t xs)
-
-  -- from a version, given what lies below it
-  walk-down : (y : Placed) (ys : List Placed) (n : ℕ) (z : Option Placed) → currentOf φ ys ≡ z → AllSeen entry f ys
-      → y .image .link ≡ placeOf z → placeOf z < y .place → Walks ys → y .place ≤ suc n
-      → follow entry f t n y ≡ walked (cond (leb (y .image .start) t) (some y) (versionOf φ t ys))
-  unfolding follow
-  walk-down y ys zero none e s h k r b = go (leb (y .image .start) t)
-    where
-      go : (q : Bool) → cond q (met y) (cond (eqb (y .image .link) 0) nothing (via (entry (y .image .link)) f (y .place) (λ j. endless)))
-          ≡ walked (cond q (some y) (versionOf φ t ys))
-      go true = refl
-      go false = rw (h, version-none φ t ys e)
-  walk-down y ys (suc n) none e s h k r b = go (leb (y .image .start) t)
-    where
-      go : (q : Bool) → cond q (met y) (cond (eqb (y .image .link) 0) nothing (via (entry (y .image .link)) f (y .place) (λ j. follow entry f t n (record { place = y .image .link; image = j }))))
-          ≡ walked (cond q (some y) (versionOf φ t ys))
-      go true = refl
-      go false = rw (h, version-none φ t ys e)
-  walk-down y ys zero (some x) e s h k r b = let c : Seen entry f x = current-seen entry f φ ys x s e in absurd (omega arith)
-  walk-down y ys (suc n) (some x) e s h k r b = go (leb (y .image .start) t)
-    where
-      c : Seen entry f x
-      c = current-seen entry f φ ys x s e
-
-      off : eqb (x .place) 0 ≡ false
-      off = ne-eqb (x .place) 0 (λ q. omega (arith, c .low))
-
-      own : eqb (x .image .file) f ≡ true
-      own = eq-eqb (x .image .file) f (c .mine)
-
-      go : (q : Bool) → cond q (met y) (cond (eqb (y .image .link) 0) nothing (via (entry (y .image .link)) f (y .place) (λ j. follow entry f t n (record { place = y .image .link; image = j }))))
-          ≡ walked (cond q (some y) (versionOf φ t ys))
-      go true = refl
-      go false = rw (h, off, c .here, own) (r x n e (omega arith))
-
-  pub walk-finds : (xs : List Placed) → Chain φ xs → AllSeen entry f xs → Walks xs
-  unfolding currentOf versionOf
-  walk-finds [] h s x n e k = absurd (Option·some-ne-none _ (sym e))
-  walk-finds (y ∷ ys) h s x n e k = go (φ (y .image .action)) e (walk-finds ys (h .2) (s .1))
-    where
-      go : (q : Fate) → currentStep q y (currentOf φ ys) ≡ some x → Walks ys → follow entry f t n x ≡ walked (versionStep q t y (versionOf φ t ys))
-      go unknown c r = r x n c k
-      go undecided c r = r x n c k
-      go committed c r = let i : y ≡ x = cc in
-          rw (← i) (walk-down y ys n (currentOf φ ys) refl (s .1) (h .0 .links) (h .0 .higher) r (rw i k))
-      go aborted c r = r x n c k
 
 -- a committed image is found at its own start; what is found is a committed image of the file, not above the time
 pub data Among (x : Placed) : List Placed → Type 0 where
   first : {xs : List Placed} → Among x (x ∷ xs)
   next : {y : Placed} {xs : List Placed} → Among x xs → Among x (y ∷ xs)
 
-pub newest : (φ : ℕ → Fate) (x : Placed) (xs : List Placed) → Chain φ xs → Among x xs → φ (x .image .action) ≡ committed → x .image .start ≤ startOf (currentOf φ xs)
+pub newest : (φ : ℕ → Fate) (x : Placed) (xs : List Placed) → Chain φ xs → Among x xs → φ (x .image .action) ≡ committed
+    → x .image .start ≤ startOf (currentOf φ xs)
 unfolding currentOf
 newest φ x xs h first e = rw e (omega arith)
 newest φ x xs h (next {y} {xs = ys} m) e = go (φ (y .image .action)) (newest φ x ys (h .2) m e)
@@ -134,7 +59,8 @@ newest φ x xs h (next {y} {xs = ys} m) e = go (φ (y .image .action)) (newest �
     go committed k = omega (arith, h .0 .later)
     go aborted k = k
 
-pub shown : (φ : ℕ → Fate) (x : Placed) (xs : List Placed) → Chain φ xs → Among x xs → φ (x .image .action) ≡ committed → versionOf φ (x .image .start) xs ≡ some x
+pub shown : (φ : ℕ → Fate) (x : Placed) (xs : List Placed) → Chain φ xs → Among x xs → φ (x .image .action) ≡ committed
+    → versionOf φ (x .image .start) xs ≡ some x
 unfolding versionOf
 shown φ x xs h first e = rw (e, le-leb (x .image .start) (x .image .start) (omega arith))
 shown φ x xs h (next {y} {xs = ys} m) e = go (φ (y .image .action)) (shown φ x ys (h .2) m e)
@@ -163,11 +89,55 @@ shows φ t x (y ∷ ys) e = go (φ (y .image .action)) refl e (λ k. shows-next 
     yes-case p true q k r = let i : y ≡ x = cc in rw (← i) (record { kept = p; inTime = leb-true (y .image .start) t q; among = first })
     yes-case p false q k r = r k
 
-    go : (q : Fate) → φ (y .image .action) ≡ q → versionStep q t y (versionOf φ t ys) ≡ some x → (versionOf φ t ys ≡ some x → Shows φ t x (y ∷ ys)) → Shows φ t x (y ∷ ys)
+    go : (q : Fate) → φ (y .image .action) ≡ q → versionStep q t y (versionOf φ t ys) ≡ some x → (versionOf φ t ys ≡ some x → Shows φ t x (y ∷ ys))
+        → Shows φ t x (y ∷ ys)
     go unknown p k r = r k
     go undecided p k r = r k
     go committed p k r = yes-case p (leb (y .image .start) t) refl k r
     go aborted p k r = r k
+
+-- of the versions that start by a time, the one that is found starts last; where none is found, every version starts later
+module _ (φ : ℕ → Fate) (t : ℕ) where
+  pub highest : (x y : Placed) (xs : List Placed) → Chain φ xs → Among y xs → φ (y .image .action) ≡ committed → y .image .start ≤ t
+      → versionOf φ t xs ≡ some x
+      → y .image .start ≤ x .image .start
+  unfolding versionOf
+  highest x y xs h first c k e =
+      let i : some y ≡ some x = rw (c, le-leb (y .image .start) t k) at e in
+      let j : y ≡ x = cc in
+      rw j (omega arith)
+  highest x y xs h (next {y = z} {xs = zs} m) c k e = go (φ (z .image .action)) e (highest x y zs (h .2) m c k)
+    where
+      by-start : (b : Bool) → cond b (some z) (versionOf φ t zs) ≡ some x → (versionOf φ t zs ≡ some x → y .image .start ≤ x .image .start)
+          → y .image .start ≤ x .image .start
+      by-start true e r = let j : z ≡ x = cc in rw (← j) (omega (arith, newest φ y zs (h .2) m c, h .0 .later))
+      by-start false e r = r e
+
+      go : (q : Fate) → versionStep q t z (versionOf φ t zs) ≡ some x → (versionOf φ t zs ≡ some x → y .image .start ≤ x .image .start)
+          → y .image .start ≤ x .image .start
+      go unknown e r = r e
+      go undecided e r = r e
+      go committed e r = by-start (leb (z .image .start) t) e r
+      go aborted e r = r e
+
+  pub all-later : (y : Placed) (xs : List Placed) → Among y xs → φ (y .image .action) ≡ committed → versionOf φ t xs ≡ none → t < y .image .start
+  unfolding versionOf
+  all-later y xs (first {xs = ys}) c e = go (leb (y .image .start) t) refl (rw c at e)
+    where
+      go : (b : Bool) → leb (y .image .start) t ≡ b → cond b (some y) (versionOf φ t ys) ≡ none → t < y .image .start
+      go true q e = absurd (Option·some-ne-none _ e)
+      go false q e = leb-false (y .image .start) t q
+  all-later y xs (next {y = z} {xs = zs} m) c e = go (φ (z .image .action)) e (all-later y zs m c)
+    where
+      by-start : (b : Bool) → cond b (some z) (versionOf φ t zs) ≡ none → (versionOf φ t zs ≡ none → t < y .image .start) → t < y .image .start
+      by-start true e r = absurd (Option·some-ne-none _ e)
+      by-start false e r = r e
+
+      go : (q : Fate) → versionStep q t z (versionOf φ t zs) ≡ none → (versionOf φ t zs ≡ none → t < y .image .start) → t < y .image .start
+      go unknown e r = r e
+      go undecided e r = r e
+      go committed e r = by-start (leb (z .image .start) t) e r
+      go aborted e r = r e
 
 -- what is found at a time stays, while tokens start later
 abbrev pub Clear : ℕ → Option Placed → Type 0
