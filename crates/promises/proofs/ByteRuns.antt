@@ -129,6 +129,29 @@ module _ (files n : ℕ) where
     pub proper : paged.Proper n files (isOn b) (eventsOf (isOn b) e)
     pub powered : paged.poweredAfter (isOn b) (eventsOf (isOn b) e) ≡ onAfter (isOn b) e
 
+  abbrev pub eventsIn : Bool → List Event → List paged.Event
+  eventsIn b [] = []
+  eventsIn b (e ∷ es) = eventsOf b e ++ eventsIn (onAfter b e) es
+
+  pub record RunFollows (b : Box) (es : List Event) : Type 0 where
+    pub sound : Sound (runs b es)
+    pub world : worldOf (runs b es) ≡ paged.runs (worldOf b) (eventsIn (isOn b) es)
+    pub proper : paged.Proper n files (isOn b) (eventsIn (isOn b) es)
+    pub powered : paged.poweredAfter (isOn b) (eventsIn (isOn b) es) ≡ isOn (runs b es)
+
+  -- joining two runs over decoded pages
+  runs-join : (w : World) (es es′ : List paged.Event) → paged.runs w (es ++ es′) ≡ paged.runs (paged.runs w es) es′
+  runs-join w [] es′ = refl
+  runs-join w (e ∷ es) es′ = runs-join (paged.after w e) es es′
+
+  proper-join : (b : Bool) (es es′ : List paged.Event) → paged.Proper n files b es → paged.Proper n files (paged.poweredAfter b es) es′ → paged.Proper n files b (es ++ es′)
+  proper-join b [] es′ p q = q
+  proper-join b (e ∷ es) es′ p q = (p .0, proper-join (paged.powered e) es es′ (p .1) q)
+
+  powered-join : (b : Bool) (es es′ : List paged.Event) → paged.poweredAfter b (es ++ es′) ≡ paged.poweredAfter (paged.poweredAfter b es) es′
+  powered-join b [] es′ = refl
+  powered-join b (e ∷ es) es′ = powered-join (paged.powered e) es es′
+
   module _ (sz : sizes n n files ≡ true) where
     z : Bounds n files
     z = bounds n files sz
@@ -281,29 +304,6 @@ module _ (files n : ℕ) where
     event-follows b l a s (opens floor fates rows) t = open-follows b l a s floor fates rows t
     event-follows (on m) l a s (cuts k i) t = cut-follows m l a s k t i
     event-follows (off u) l a s (cuts k i) t = record { sound = s; world = refl; power = refl; answer = refl; proper = tt; powered = refl }
-
-    abbrev pub eventsIn : Bool → List Event → List paged.Event
-    eventsIn b [] = []
-    eventsIn b (e ∷ es) = eventsOf b e ++ eventsIn (onAfter b e) es
-
-    pub record RunFollows (b : Box) (es : List Event) : Type 0 where
-      pub sound : Sound (runs b es)
-      pub world : worldOf (runs b es) ≡ paged.runs (worldOf b) (eventsIn (isOn b) es)
-      pub proper : paged.Proper n files (isOn b) (eventsIn (isOn b) es)
-      pub powered : paged.poweredAfter (isOn b) (eventsIn (isOn b) es) ≡ isOn (runs b es)
-
-    -- joining two runs over decoded pages
-    runs-join : (w : World) (es es′ : List paged.Event) → paged.runs w (es ++ es′) ≡ paged.runs (paged.runs w es) es′
-    runs-join w [] es′ = refl
-    runs-join w (e ∷ es) es′ = runs-join (paged.after w e) es es′
-
-    proper-join : (b : Bool) (es es′ : List paged.Event) → paged.Proper n files b es → paged.Proper n files (paged.poweredAfter b es) es′ → paged.Proper n files b (es ++ es′)
-    proper-join b [] es′ p q = q
-    proper-join b (e ∷ es) es′ p q = (p .0, proper-join (paged.powered e) es es′ (p .1) q)
-
-    powered-join : (b : Bool) (es es′ : List paged.Event) → paged.poweredAfter b (es ++ es′) ≡ paged.poweredAfter (paged.poweredAfter b es) es′
-    powered-join b [] es′ = refl
-    powered-join b (e ∷ es) es′ = powered-join (paged.powered e) es es′
 
     -- the ledger along an event
     pub at-next : (b : Box) (l : Ledger) → At n files (isOn b) (worldOf b) l → (e : Event) → Follows b e

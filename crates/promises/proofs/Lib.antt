@@ -27,3 +27,4 @@ pub mod Stored
 pub mod Appended
 pub mod ByteCalls
 pub mod ByteRuns
+pub mod Reached
