@@ -21,10 +21,10 @@ pub mod Extends
 pub mod Written
 pub mod Found
 pub mod FatesTold
-pub mod PagePromises
 pub mod Replaced
 pub mod Stored
 pub mod Appended
 pub mod ByteCalls
 pub mod ByteRuns
 pub mod Reached
+pub mod BoxFound

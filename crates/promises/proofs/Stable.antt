@@ -24,7 +24,7 @@ use Rattle.promises.proofs.Ledger.{Ledger, LedgerResult, endAt, ledgerK
 use Rattle.promises.proofs.Sim.{Reach}
 use Rattle.promises.proofs.SimReads.{end-at-same}
 use Rattle.promises.proofs.SimCalls.{sim-call}
-use Rattle.promises.proofs.PageRuns.{Event, calls, runs, Proper, poweredAfter, ledgerRuns, At, event, run, blankWorld, blankLedger, at-blank}
+use Rattle.promises.proofs.PageRuns.{Event, calls, runs, Proper, poweredAfter, ledgerRuns, At, event, run}
 use Rattle.promises.proofs.Lasting.{Kept, Near, Lasts, Floors, lasts}
 
 -- the first read
@@ -110,46 +110,31 @@ module _ (m : Ledger) (f t s a p : ℕ) (v : List ℕ) (h : Near m f t) where
 
 -- after a read outside any action that was answered, and any further events, calls cut at any byte among them, if each later
 -- opening's floor is at least the time that was read
-module _ (n k : ℕ) (sz : sizes n n k ≡ true) (es es′ : List Event) (f t : ℕ) (p : Proper n k false es) (b : poweredAfter false es ≡ true)
-    (a : isRefused (call (runs (blankWorld n) es) (read f t 0) .0) ≡ false) (p′ : Proper n k true es′) (b′ : poweredAfter true es′ ≡ true) (q : Floors t es′) where
-  w₀ : World
-  w₀ = runs (blankWorld n) es
+module _ (n k : ℕ) (w : World) (m : Ledger) (s : At n k true w m) (f t : ℕ) (a : isRefused (call w (read f t 0) .0) ≡ false)
+    (es : List Event) (p : Proper n k true es) (b : poweredAfter true es ≡ true) (q : Floors t es) where
+  told-first : ToldAt m f t
+  told-first = told m f t (s .stands .lawful) (s .stands .reach) (rw (sim-call w m (s .stands) (read f t 0) .answer) at a)
 
-  m₀ : Ledger
-  m₀ = ledgerRuns (blankLedger n k) es
+  next : At n k true (call w (read f t 0) .1) (ledgerCall m (read f t 0) .1)
+  next = event n k true w m (calls (read f t 0)) s tt .next
 
-  s₀ : At n k true w₀ m₀
-  unfolding w₀ m₀
-  s₀ = rw b at (run n k false (blankWorld n) (blankLedger n k) es (at-blank n k sz) p)
+  abbrev late : Ledger
+  late = ledgerRuns (ledgerCall m (read f t 0) .1) es
 
-  told-first : ToldAt m₀ f t
-  unfolding w₀
-  told-first = told m₀ f t (s₀ .stands .lawful) (s₀ .stands .reach) (rw (sim-call w₀ m₀ (s₀ .stands) (read f t 0) .answer) at a)
+  at-last : At n k true (runs (call w (read f t 0) .1) es) late
+  at-last = rw b at (run n k true (call w (read f t 0) .1) (ledgerCall m (read f t 0) .1) es next p)
 
-  s₁ : At n k true (call w₀ (read f t 0) .1) (ledgerCall m₀ (read f t 0) .1)
-  s₁ = event n k true w₀ m₀ (calls (read f t 0)) s₀ tt .next
-
-  m₂ : Ledger
-  m₂ = ledgerRuns (ledgerCall m₀ (read f t 0) .1) es′
-
-  s₂ : At n k true (runs (call w₀ (read f t 0) .1) es′) m₂
-  unfolding m₂
-  s₂ = rw b′ at (run n k true (call w₀ (read f t 0) .1) (ledgerCall m₀ (read f t 0) .1) es′ s₁ p′)
-
-  last : Lasts true m₂ f t (version (m₀ .log) f t)
-  unfolding m₂
-  last = rw b′ at (lasts n k f t (version (m₀ .log) f t) true (call w₀ (read f t 0) .1) (ledgerCall m₀ (read f t 0) .1) es′ s₁ p′ q (told-first .lasting))
+  last : Lasts true late f t (version (m .log) f t)
+  last = rw b at (lasts n k f t (version (m .log) f t) true (call w (read f t 0) .1) (ledgerCall m (read f t 0) .1) es next p q (told-first .lasting))
 
   -- it is answered alike
-  pub stable : call (runs (call (runs (blankWorld n) es) (read f t 0) .1) es′) (read f t 0) .0 ≡ call (runs (blankWorld n) es) (read f t 0) .0
-  unfolding w₀
+  pub stable : call (runs (call w (read f t 0) .1) es) (read f t 0) .0 ≡ call w (read f t 0) .0
   stable =
-      sim-call (runs (call w₀ (read f t 0) .1) es′) m₂ (s₂ .stands) (read f t 0) .answer
-      ∙ again m₂ f t (version (m₀ .log) f t) (rw (s₂ .files) (rw (s₀ .files) at (told-first .file))) (last .0)
-      ∙ sym (told-first .says) ∙ sym (sim-call w₀ m₀ (s₀ .stands) (read f t 0) .answer)
+      sim-call (runs (call w (read f t 0) .1) es) late (at-last .stands) (read f t 0) .answer
+      ∙ again late f t (version (m .log) f t) (rw (at-last .files) (rw (s .files) at (told-first .file))) (last .0)
+      ∙ sym (told-first .says) ∙ sym (sim-call w m (s .stands) (read f t 0) .answer)
 
   -- and nothing is written to the file that starts by then
-  pub none-written : (s c d : ℕ) (v : List ℕ) → call (runs (call (runs (blankWorld n) es) (read f t 0) .1) es′) (write f s c v) .0 ≡ Stored d → t < s
-  unfolding w₀
-  none-written s c d v e =
-      written-later m₂ f t s c d v (last .1) (sym (sim-call (runs (call w₀ (read f t 0) .1) es′) m₂ (s₂ .stands) (write f s c v) .answer) ∙ e)
+  pub none-written : (start c d : ℕ) (v : List ℕ) → call (runs (call w (read f t 0) .1) es) (write f start c v) .0 ≡ Stored d → t < start
+  none-written start c d v e =
+      written-later late f t start c d v (last .1) (sym (sim-call (runs (call w (read f t 0) .1) es) late (at-last .stands) (write f start c v) .answer) ∙ e)

@@ -7,7 +7,7 @@ use mathlib.Core.Bool.{Bool, true, false, cond}
 use mathlib.Core.Option.{Option, some, none}
 use lib.ListN.{length, replicate}
 use Rattle.page.specs.Layout.{pageSize}
-use Rattle.recovery.specs.Log.{Image, Entry, blank, torn, bad, opening, image, outcome, Fate, verdict}
+use Rattle.recovery.specs.Log.{Image, Entry, blank, torn, bad, opening, image, outcome, verdict}
 use Rattle.recovery.specs.declared.Answer.{Answer}
 use Rattle.recovery.specs.declared.Answer.the-variants.{Stored, Value, Told}
 use Rattle.recovery.specs.declared.Inspected.the-variants.{Lowest}
@@ -15,7 +15,7 @@ use Rattle.recovery.specs.Numbers.{isRefused}
 use Rattle.recovery.specs.Sheet.{pageBytes, sealed}
 use Rattle.recovery.specs.World.{fateNumber}
 use Rattle.recovery.specs.Lent.{rowLength, openLeaves, inspected}
-use Rattle.calls.specs.Calls.{Call, begin, write, read, test, decide, rebuild, isKnown}
+use Rattle.calls.specs.Calls.{Call, begin, write, read, test, decide, rebuild}
 use Rattle.promises.specs.Runs.{Box, sheetOf, Event, calls, opens, cuts, answerTo, after, runs, heard, Run, blankBox, Floors}
 use Rattle.promises.specs.Model.{Version, latest, blankModel, modelHeard, modelRuns}
 
@@ -100,7 +100,7 @@ module _ (pages files : ℕ) where
         → pageBytes (sheetOf (boxAfter (es ++ es′))) place ≡ pageBytes (sheetOf (boxAfter es)) place
     -- an action that was begun is known ever after, and one that was decided keeps its outcome
     pub begun : (es es′ : List Event) (place : ℕ) (x : Answer) → Run pages files (es ++ calls begin ∷ es′) → answerTo (boxAfter es) (calls begin) ≡ some (Stored place)
-        → answerTo (boxAfter (es ++ calls begin ∷ es′)) (calls (test place)) ≡ some x → (fate : Fate) × (isKnown fate ≡ true) × (x ≡ Told (fateNumber fate))
+        → answerTo (boxAfter (es ++ calls begin ∷ es′)) (calls (test place)) ≡ some x → (fate : ℕ) × (1 ≤ fate) × (fate ≤ 3) × (x ≡ Told fate)
     pub decided : (es es′ : List Event) (action place : ℕ) (c : Bool) (x : Answer) → Run pages files (es ++ calls (decide action c) ∷ es′)
         → answerTo (boxAfter es) (calls (decide action c)) ≡ some (Stored place)
         → answerTo (boxAfter (es ++ calls (decide action c) ∷ es′)) (calls (test action)) ≡ some x → x ≡ Told (fateNumber (verdict c))
