@@ -22,7 +22,7 @@ use Rattle.promises.proofs.FatesTold.{outcome-told, begin-told}
 use Rattle.promises.proofs.PageRuns as paged
 use Rattle.promises.proofs.PageRuns.{At}
 use Rattle.promises.proofs.ByteRuns.{worldIn, worldOf, isOn, answer-is, Follows, event-follows, eventsOf, eventsIn, at-next, run-follows}
-use Rattle.promises.proofs.Reached.{Reached, reached-on, page-in}
+use Rattle.promises.proofs.Reached.{Reached, reached-next, reached-on, page-in}
 
 -- ---- answers
 
@@ -44,8 +44,8 @@ writes-page (rebuild f) g h = h
 module _ (n files : ℕ) where
   -- an event, and the run that goes on after it, over decoded pages
   module _ (b : Box) (r : Reached n files b) (e : Event) (t : Follows files n b e) (es : List Event) (al : AllAllowed n files es) where
-    next : Reached n files (after b e)
-    next = record { sized = r .sized; ledger = paged.ledgerRuns (r .ledger) (eventsOf files n (isOn files n b) e); at = at-next files n (r .sized) b (r .ledger) (r .at) e t; sound = t .sound }
+    abbrev next : Reached n files (after b e)
+    next = reached-next n files b r e t
 
     abbrev then : List paged.Event
     then = eventsIn files n (isOn files n (after b e)) es

@@ -28,3 +28,5 @@ pub mod ByteCalls
 pub mod ByteRuns
 pub mod Reached
 pub mod BoxFound
+pub mod BoxKept
+pub mod BoxShown

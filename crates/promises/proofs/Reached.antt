@@ -96,6 +96,14 @@ module _ (n files : ℕ) where
   pub follows : (b : Box) → Reached n files b → (es : List Event) → AllAllowed n files es → RunFollows files n b es
   follows b r es t = run-follows files n (r .sized) b (r .ledger) (r .at) (r .sound) es t
 
+  abbrev pub reached-next : (b : Box) (r : Reached n files b) (e : Event) → Follows files n b e → Reached n files (after b e)
+  reached-next b r e f = record {
+    sized = r .sized;
+    ledger = paged.ledgerRuns (r .ledger) (eventsOf files n (isOn files n b) e);
+    at = at-next files n (r .sized) b (r .ledger) (r .at) e f;
+    sound = f .sound;
+  }
+
   pub reached-on : (b : Box) → Reached n files b → (es : List Event) → AllAllowed n files es → Reached n files (runs b es)
   reached-on b r es t =
       let f = follows b r es t in

@@ -96,7 +96,7 @@ bad-image i e = let z : _≡_ {A = ℕ} 0 1 = cc in omega arith
 -- ---- what the page test found lies below
 
 module _ (files : ℕ) (s : List ℕ) (p : ℕ) where
-  abbrev Below : Entry → Type 0
+  abbrev pub Below : Entry → Type 0
   Below blank = Unit {0}
   Below torn = Unit {0}
   Below bad = Unit {0}

@@ -1,0 +1,154 @@
+-- Whole or not at all, of a box that a run has reached: a committed action shows all its versions, any other none outside itself.
+use Prim.Native.Nat.{ℕ, zero, suc, _*_, _≤_, _<_}
+use mathlib.Core.Path.{_≡_, refl, sym, ap, _∙_, subst}
+use mathlib.Core.List.{List, [], _∷_}
+use mathlib.Core.Bool.{Bool, true, false}
+use mathlib.Core.Option.{Option, some, none}
+use native.Mathlib.Omega.{arith}
+use lib.ListN.{length}
+use lib.Dec.{leb}
+use borrow.Author.Tests.{leb-true, leb-false, le-leb}
+use Rattle.encoding.proofs.Logic.{by-test}
+use Rattle.page.specs.Layout.{pageSize}
+use Rattle.recovery.specs.Log.{Image, Entry, blank, image, Fate, unknown, undecided, committed, aborted, fateOf}
+use Rattle.recovery.specs.Sheet.{decoded, sealed}
+use Rattle.recovery.specs.World.{World, entryAt, fateAt, fateNumber, isFile}
+use Rattle.recovery.specs.declared.Answer.{Answer}
+use Rattle.recovery.specs.declared.Answer.the-variants.{Refused, Value, Told}
+use Rattle.calls.specs.Calls.{Call, read, test, call}
+use Rattle.promises.specs.Runs.{Memory, Box, on, off, sheetOf, calls, callOn, answerTo}
+use Rattle.promises.proofs.Ledger.{Ledger, LedgerResult, ledgerKnows, toldFate, ledgerCall}
+use Rattle.promises.proofs.Sim.{Sim, fate-eq}
+use Rattle.promises.proofs.SimCalls.{sim-call}
+use Rattle.promises.proofs.Shown.{committed-shown, own-shown}
+use Rattle.promises.proofs.Visible.{Whose, kept, own, read-shows}
+use Rattle.promises.proofs.FatesTold.{test-known}
+use Rattle.promises.proofs.Replaced.{unsealed, bad-image, lies-below, Below}
+use Rattle.promises.proofs.ByteRuns.{worldIn, worldOf, answer-is}
+use Rattle.promises.proofs.Reached.{Reached, page-in, page-lies}
+use Rattle.promises.proofs.BoxFound.{some-is, not-heard}
+
+-- what a test tells is the fate
+told-number : (w : World) (l : Ledger) (s : Sim w l) (a y : ℕ) → call w (test a) .0 ≡ Told y → fateNumber (fateOf (l .log) a) ≡ y
+told-number w l s a y e = go (ledgerKnows l a) refl (sym (sim-call w l s (test a) .answer) ∙ e)
+  where
+    Is : LedgerResult → Type 0
+    Is r = r .0 ≡ Told y → fateNumber (fateOf (l .log) a) ≡ y
+
+    go : (b : Bool) → ledgerKnows l a ≡ b → ledgerCall l (test a) .0 ≡ Told y → fateNumber (fateOf (l .log) a) ≡ y
+    go b q = by-test (λ (r : LedgerResult). r .0 ≡ Told y → fateNumber (fateOf (l .log) a) ≡ y) (ledgerKnows l a) {x = (toldFate (fateOf (l .log) a), l)} {y = (Refused 5 0, l)}
+        (λ t h. cc) (λ t h. let z : _≡_ {A = ℕ} 0 1 = cc in absurd (omega arith))
+
+committed-is : (x : Fate) → fateNumber x ≡ 2 → x ≡ committed
+committed-is unknown e = absurd (omega arith)
+committed-is undecided e = absurd (omega arith)
+committed-is committed e = refl
+committed-is aborted e = absurd (omega arith)
+
+undecided-is : (x : Fate) → fateNumber x ≡ 1 → x ≡ undecided
+undecided-is unknown e = absurd (omega arith)
+undecided-is undecided e = refl
+undecided-is committed e = absurd (omega arith)
+undecided-is aborted e = absurd (omega arith)
+
+module _ (n files : ℕ) where
+  -- an image of the box, where its world has it
+  module _ (m : Memory) (r : Reached n files (on m)) (place : ℕ) (i : Image) (e : sealed files (m .sheet) place ≡ image i) where
+    abbrev w : World
+    w = worldIn files n m
+
+    below : (1 ≤ place) × (place ≤ n)
+    below = page-lies n files (m .sheet) place (image i) (r .sound .long) (bad-image i) e
+
+    entry-is : entryAt w place ≡ image i
+    entry-is = page-in n files (on m) place (below .0) (below .1) ∙ e
+
+    end-is : place ≤ w .end
+    end-is = go (leb place (m .state .end)) refl
+      where
+        go : (b : Bool) → leb place (m .state .end) ≡ b → place ≤ m .state .end
+        go true q = leb-true place (m .state .end) q
+        go false q =
+            let z : image i ≡ blank = sym entry-is ∙ r .at .stands .clean place (leb-false place (m .state .end) q) in
+            let y : _≡_ {A = ℕ} 0 1 = cc in absurd (omega arith)
+
+    numbers : (i .action < place) × (1 ≤ i .action) × (1 ≤ i .file) × (i .file ≤ files)
+    unfolding sealed
+    numbers =
+        let d : decoded files (m .sheet) place ≡ image i = unsealed (decoded files (m .sheet)) (decoded files (m .sheet) place) (image i) (bad-image i) e in
+        subst (Below files (m .sheet) place) d (lies-below files (m .sheet) place)
+
+    file-is : isFile (length (w .rows)) (i .file) ≡ true
+    file-is = rw (r .at .stands .files ∙ r .at .files, le-leb 1 (i .file) (numbers .2), le-leb (i .file) files (numbers .3))
+
+    -- its fate, by the test of its action
+    fate-is : (y : ℕ) → callOn m (test (i .action)) .answer ≡ Told y → fateNumber (fateAt w (i .action)) ≡ y
+    fate-is y t =
+        ap fateNumber (fate-eq w (r .ledger) (r .at .stands) (i .action))
+        ∙ told-number w (r .ledger) (r .at .stands) (i .action) y (sym (answer-is files n m (r .sound) (test (i .action))) ∙ t)
+
+    all-on : callOn m (test (i .action)) .answer ≡ Told 2 → callOn m (read (i .file) (i .start) 0) .answer ≡ Value place (i .start) (length (i .value))
+    all-on t =
+        answer-is files n m (r .sound) (read (i .file) (i .start) 0)
+        ∙ committed-shown w (r .ledger) (r .at .stands) place i end-is entry-is file-is (committed-is (fateAt w (i .action)) (fate-is 2 t))
+
+    own-on : callOn m (test (i .action)) .answer ≡ Told 1 → (time : ℕ) → i .start ≤ time
+        → callOn m (read (i .file) time (i .action)) .answer ≡ Value place (i .start) (length (i .value))
+    own-on t time h =
+        answer-is files n m (r .sound) (read (i .file) time (i .action))
+        ∙ own-shown w (r .ledger) (r .at .stands) place i time end-is entry-is file-is (undecided-is (fateAt w (i .action)) (fate-is 1 t)) h
+
+  module _ (b : Box) (r : Reached n files b) (place : ℕ) (i : Image) (e : sealed files (sheetOf b) place ≡ image i) where
+    pub box-all : answerTo b (calls (test (i .action))) ≡ some (Told 2) → answerTo b (calls (read (i .file) (i .start) 0)) ≡ some (Value place (i .start) (length (i .value)))
+    box-all = go b r e
+      where
+        go : (b : Box) → Reached n files b → sealed files (sheetOf b) place ≡ image i → answerTo b (calls (test (i .action))) ≡ some (Told 2)
+            → answerTo b (calls (read (i .file) (i .start) 0)) ≡ some (Value place (i .start) (length (i .value)))
+        go (on m) r e t = ap some (all-on m r place i e (some-is t))
+        go (off s) r e t = not-heard t
+
+    pub box-own : answerTo b (calls (test (i .action))) ≡ some (Told 1) → (time : ℕ) → i .start ≤ time
+        → answerTo b (calls (read (i .file) time (i .action))) ≡ some (Value place (i .start) (length (i .value)))
+    box-own = go b r e
+      where
+        go : (b : Box) → Reached n files b → sealed files (sheetOf b) place ≡ image i → answerTo b (calls (test (i .action))) ≡ some (Told 1) → (time : ℕ) → i .start ≤ time
+            → answerTo b (calls (read (i .file) time (i .action))) ≡ some (Value place (i .start) (length (i .value)))
+        go (on m) r e t time h = ap some (own-on m r place i e (some-is t) time h)
+        go (off s) r e t time h = not-heard t
+
+  -- ---- what a read shows
+
+  abbrev pub Shows : Box → ℕ → ℕ → ℕ → ℕ → ℕ → ℕ → Type 0
+  Shows b file time action place start size =
+      (i : Image) × (sealed files (sheetOf b) place ≡ image i) × (i .file ≡ file) × (i .start ≡ start) × (length (i .value) ≡ size) × (start ≤ time) × (1 ≤ i .action)
+      × ((i .action ≡ action → ⊥) → answerTo b (calls (test (i .action))) ≡ some (Told 2))
+
+  shows-on : (m : Memory) (r : Reached n files (on m)) (f t a p s l : ℕ) → callOn m (read f t a) .answer ≡ Value p s l → Shows (on m) f t a p s l
+  shows-on m r f t a p s l e =
+      let w = worldIn files n m in
+      let v = read-shows w (r .ledger) (r .at .stands) f t a p s l (sym (answer-is files n m (r .sound) (read f t a)) ∙ e) in
+      let x = v .seen in
+      let inside : (1 ≤ p) × (p ≤ n) = place-in p (v .seen) (v .here) in
+      let here : sealed files (m .sheet) p ≡ image (v .seen) = sym (page-in n files (on m) p (inside .0) (inside .1)) ∙ v .here in
+      (v .seen, here, v .file, v .start, v .len, v .inTime, numbers m r p (v .seen) here .1, λ o. ap some (committed-told (v .seen) (v .whose) o))
+    where
+      place-in : (p : ℕ) (i : Image) → entryAt (worldIn files n m) p ≡ image i → (1 ≤ p) × (p ≤ n)
+      place-in zero i e = let z : _≡_ {A = ℕ} 0 1 = cc in absurd (omega arith)
+      place-in (suc q) i e = go (leb (suc q) (m .state .end)) refl
+        where
+          go : (b : Bool) → leb (suc q) (m .state .end) ≡ b → (1 ≤ suc q) × (suc q ≤ n)
+          go true k = (omega arith, omega (arith, leb-true (suc q) (m .state .end) k, r .at .stands .ends, r .at .stands .room, r .at .pages))
+          go false k =
+              let z : image i ≡ blank = sym e ∙ r .at .stands .clean (suc q) (leb-false (suc q) (m .state .end) k) in
+              let y : _≡_ {A = ℕ} 0 1 = cc in absurd (omega arith)
+
+      committed-told : (i : Image) → Whose (worldIn files n m) a i → (i .action ≡ a → ⊥) → callOn m (test (i .action)) .answer ≡ Told 2
+      committed-told i (kept c) o =
+          let d : fateOf (r .ledger .log) (i .action) ≡ committed = sym (fate-eq (worldIn files n m) (r .ledger) (r .at .stands) (i .action)) ∙ c in
+          answer-is files n m (r .sound) (test (i .action))
+          ∙ test-known (worldIn files n m) (r .ledger) (i .action) (r .at .stands) (rw d (omega arith)) ∙ ap toldFate d
+      committed-told i (own h q) o = absurd (o q)
+
+  pub box-shows : (b : Box) → Reached n files b → (f t a p s l : ℕ) → answerTo b (calls (read f t a)) ≡ some (Value p s l) → Shows b f t a p s l
+  box-shows (on m) r f t a p s l e = shows-on m r f t a p s l (some-is e)
+  box-shows (off u) r f t a p s l e = not-heard e
