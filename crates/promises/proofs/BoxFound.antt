@@ -134,15 +134,15 @@ module _ (n files : ℕ) where
         let f = event-follows files n (r .sized) (on m) (r .ledger) (r .at) (r .sound) (calls k) t in
         reached-on n files (after (on m) (calls k)) (next (on m) r (calls k) f es al) es al
 
-    -- a test on the box that the run has reached, as one over decoded pages
-    tested-later : (k : Call) (t : Typed k) (a : ℕ) (x : Answer) → answerTo (runs (after (on m) (calls k)) es) (calls (test a)) ≡ some x
-        → (paged.poweredAfter true (eventsIn files n true es) ≡ true) × (call (paged.runs (call (worldIn files n m) k .1) (eventsIn files n true es)) (test a) .0 ≡ x)
-    tested-later k t a x e =
+    -- what the box that the run has reached answers, as an answer over decoded pages
+    pub said-later : (k : Call) (t : Typed k) (k′ : Call) (x : Answer) → answerTo (runs (after (on m) (calls k)) es) (calls k′) ≡ some x
+        → (paged.poweredAfter true (eventsIn files n true es) ≡ true) × (call (paged.runs (call (worldIn files n m) k .1) (eventsIn files n true es)) k′ .0 ≡ x)
+    said-later k t k′ x e =
         let f = event-follows files n (r .sized) (on m) (r .ledger) (r .at) (r .sound) (calls k) t in
-        let h = heard-in (runs (after (on m) (calls k)) es) (after-call k t) (test a) x e in
-        (then-powered (on m) r (calls k) f es al ∙ h .0, ap (λ w. call w (test a) .0) (sym (then-world (on m) r (calls k) f es al)) ∙ h .1)
+        let h = heard-in (runs (after (on m) (calls k)) es) (after-call k t) k′ x e in
+        (then-powered (on m) r (calls k) f es al ∙ h .0, ap (λ w. call w k′ .0) (sym (then-world (on m) r (calls k) f es al)) ∙ h .1)
 
-    proper-later : (k : Call) → Typed k → paged.Proper n files true (eventsIn files n true es)
+    pub proper-later : (k : Call) → Typed k → paged.Proper n files true (eventsIn files n true es)
     proper-later k t = then-proper (on m) r (calls k) (event-follows files n (r .sized) (on m) (r .ledger) (r .at) (r .sound) (calls k) t) es al
 
   module _ (b : Box) (r : Reached n files b) (es : List Event) (al : AllAllowed n files es) (place : ℕ) (x : Answer) where
@@ -153,7 +153,7 @@ module _ (n files : ℕ) where
         go : (b : Box) → Reached n files b → answerTo b (calls begin) ≡ some (Stored place) → answerTo (runs (after b (calls begin)) es) (calls (test place)) ≡ some x
             → (fate : ℕ) × (1 ≤ fate) × (fate ≤ 3) × (x ≡ Told fate)
         go (on m) r e h =
-            let q = tested-later m r es al begin tt place x h in
+            let q = said-later m r es al begin tt (test place) x h in
             let y = begin-told n files (worldIn files n m) (r .ledger) (r .at) place (sym (answer-is files n m (r .sound) begin) ∙ some-is e) (eventsIn files n true es) (proper-later m r es al begin tt) (q .0) in
             (y .0, y .1 .0, y .1 .1, sym (q .1) ∙ y .1 .2)
         go (off s) r e h = not-heard e
@@ -165,6 +165,6 @@ module _ (n files : ℕ) where
         go : (b : Box) → Reached n files b → answerTo b (calls (decide a c)) ≡ some (Stored place) → answerTo (runs (after b (calls (decide a c))) es) (calls (test a)) ≡ some x
             → x ≡ Told (fateNumber (verdict c))
         go (on m) r e h =
-            let q = tested-later m r es al (decide a c) tt a x h in
+            let q = said-later m r es al (decide a c) tt (test a) x h in
             sym (q .1) ∙ outcome-told n files (worldIn files n m) (r .ledger) (r .at) a c place (sym (answer-is files n m (r .sound) (decide a c)) ∙ some-is e) (eventsIn files n true es) (proper-later m r es al (decide a c) tt) (q .0)
         go (off s) r e h = not-heard e

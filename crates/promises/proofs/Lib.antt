@@ -30,3 +30,4 @@ pub mod Reached
 pub mod BoxFound
 pub mod BoxKept
 pub mod BoxShown
+pub mod BoxAlike
