@@ -4,7 +4,7 @@ use mathlib.Core.List.{List, _∷_}
 use mathlib.Core.Bool.{Bool, true, false, cond}
 use Prim.Native.Nat.{ℕ, suc, _<_}
 use native.Mathlib.Omega.{arith}
-use lib.ListN.{length, getD}
+use lib.ListN.{length}
 use lib.Seq.{getD-set-same}
 use lib.Dec.{eqb, ltb}
 use borrow.Author.Tests.{eqb-true, eqb-false, eq-eqb, ne-eqb}
@@ -104,7 +104,9 @@ holds-partial s n l g b h f k = go (eqb b 0) (ltb b pageSize)
 
 pub cut-holds : (w : World) (m : Ledger) (k : Call) (b : ℕ) → Sim w m → Holds (cutSheet w k b) (m .pages) (cutLog (m .log) (ledgerCall m k .1 .log) b)
 unfolding cutSheet cutLog
-cut-holds w m k b s = go (moves m k .steps) (call w k .1 .end) (call w k .1 .sheet) (rw (moves m k .pages) at (sim-holds (call w k .1) (ledgerCall m k .1) r)) (r .ends)
+cut-holds w m k b s =
+    let h = rw (moves m k .pages) at (sim-holds (call w k .1) (ledgerCall m k .1) r) in
+    go (moves m k .steps) (call w k .1 .end) (call w k .1 .sheet) h (r .ends)
   where
     r : Sim (call w k .1) (ledgerCall m k .1)
     r = sim-call w m s k .after
@@ -114,6 +116,7 @@ cut-holds w m k b s = go (moves m k .steps) (call w k .1 .end) (call w k .1 .she
         (cond (eqb (length l′) (length (m .log))) (m .log) (partialLog b (entryIn l′ (suc (length (m .log)))) (m .log)))
     go stay e u h q = rw (s .ends, q, eq-eqb (length (m .log)) (length (m .log)) refl) (sim-holds w m s)
     go (add g) e u h q =
-        let z : getD u (length (m .log)) blank ≡ g = sym (entry-down u (suc (length (m .log))) (suc (length (m .log))) (omega arith)) ∙ ap (λ l. entryIn l (suc (length (m .log)))) (h .log) ∙ entry-top g (m .log) in
-        rw (s .ends, q, ne-eqb (suc (length (m .log))) (length (m .log)) (λ e. omega arith), z, eq-eqb (suc (length (m .log))) (suc (length (m .log))) refl)
+        let p : ℕ = suc (length (m .log)) in
+        let z : nth blank u p ≡ g = sym (entry-down u p p (omega arith)) ∙ ap (λ l. entryIn l p) (h .log) ∙ entry-top g (m .log) in
+        rw (s .ends, q, ne-eqb p (length (m .log)) (λ e. omega arith), z, eq-eqb p p refl)
         (holds-partial (w .sheet) (m .pages) (m .log) g b (sim-holds w m s) (h .lawful .0) (h .room))

@@ -38,8 +38,11 @@ module _ (n k : ℕ) (sz : sizes n n k ≡ true) (es : List Event) (proper : Pro
   always-lawful = holds-lawful (now .sheet) (ledger .pages) (ledger .log) (stands-off (poweredAfter false es) now ledger (ran .stands) .holds)
 
   -- an opening with right sizes is not refused
+  abbrev end : ℕ
+  end = endOf (now .sheet) n
+
   pub always-opened : (fs : List ℕ) (rs : List Row) (t : ℕ) → length fs ≡ n → length rs ≡ k
-      → opened (now .sheet) fs rs t ≡ (Opened (endOf (now .sheet) n) (undecidedOf (fatesOf n (down (now .sheet) (endOf (now .sheet) n)))), started (now .sheet) (endOf (now .sheet) n) k t)
+      → opened (now .sheet) fs rs t ≡ (Opened end (undecidedOf (fatesOf n (down (now .sheet) end))), started (now .sheet) end k t)
   always-opened fs rs t a b =
       let o = stands-off (poweredAfter false es) now ledger (ran .stands) in
       holds-opened (now .sheet) n k (ledger .log) (subst (λ (x : ℕ). Holds (now .sheet) x (ledger .log)) (ran .pages) (o .holds)) sz fs rs t a b

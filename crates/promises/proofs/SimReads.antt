@@ -12,12 +12,13 @@ use Rattle.encoding.proofs.Logic.{by-test}
 use Rattle.recovery.specs.Log.{Placed, fateOf, imagesOf, placeOf, startOf}
 use Rattle.recovery.specs.Lawful.{current, token}
 use Rattle.recovery.specs.World.{World, entryAt, withRow, isFile}
+use Rattle.recovery.specs.declared.Row.{Row}
 use Rattle.calls.specs.Calls.{imageOf, walkFrom, answerWalk, reaches, readCurrent, readToken, onVersions, onToken, onRead}
 use Rattle.promises.proofs.Chains.{Spots, spots, chain}
 use Rattle.promises.proofs.Versions.{version, version-none}
 use Rattle.promises.proofs.Links.{walked, AllSeen, walk-finds}
 use Rattle.promises.proofs.Ledger.{Ledger, endAt, withEnds, foundAnswer, within, raised, currentRead, tokenRead, ledgerVersions, ledgerRead, ledgerRow}
-use Rattle.promises.proofs.Sim.{Sim, Agrees, agrees-cond, Lies, current-lies, token-lies, lies-at, row-holds, sim-set}
+use Rattle.promises.proofs.Sim.{Reach, Sim, Agrees, agrees-cond, Lies, current-lies, token-lies, lies-at, row-holds, sim-set}
 
 pub raised-low : (b : Bool) (t e k : ℕ) → k ≤ e → k ≤ raised b t e
 raised-low true t e k h = omega arith
@@ -62,16 +63,22 @@ module _ (w : World) (m : Ledger) (s : Sim w m) where
       v : ℕ
       v = raised (within t (current (m .log) f)) t e
 
-      new : Sim (withRow w f (readCurrent t (within t (current (m .log) f)) (ledgerRow m f))) (withEnds m (currentRead m f t) (m .tokenend))
-      new =
-          sim-set w m s f (currentRead m f t) (m .tokenend) _ h (rw (end-at-same (m .currentend) f v)) (λ g q. end-at-other (m .currentend) f v g q) (λ g q. refl)
-          (record {
-            current-low = λ g. end-at-low (m .currentend) f v g (λ g. startOf (current (m .log) g)) (s .reach .current-low)
-                (raised-low (within t (current (m .log) f)) t e e (omega arith));
-            token-low = s .reach .token-low;
-          })
+      row : Row
+      row = readCurrent t (within t (current (m .log) f)) (ledgerRow m f)
 
-      go : (z : Option Placed) → Agrees (answerWalk w f (readCurrent t (within t (current (m .log) f)) (ledgerRow m f)) (walked z)) (foundAnswer z, withEnds m (currentRead m f t) (m .tokenend))
+      reach : Reach (m .log) (currentRead m f t) (m .tokenend)
+      reach = record {
+        current-low = λ g. end-at-low (m .currentend) f v g (λ g. startOf (current (m .log) g)) (s .reach .current-low)
+            (raised-low (within t (current (m .log) f)) t e e (omega arith));
+        token-low = s .reach .token-low;
+      }
+
+      new : Sim (withRow w f row) (withEnds m (currentRead m f t) (m .tokenend))
+      new =
+          sim-set w m s f (currentRead m f t) (m .tokenend) row h
+          (rw (end-at-same (m .currentend) f v)) (λ g q. end-at-other (m .currentend) f v g q) (λ g q. refl) reach
+
+      go : (z : Option Placed) → Agrees (answerWalk w f row (walked z)) (foundAnswer z, withEnds m (currentRead m f t) (m .tokenend))
       go none = record { answer = refl; after = new }
       go (some x) = record { answer = refl; after = new }
 
@@ -81,13 +88,16 @@ module _ (w : World) (m : Ledger) (s : Sim w m) where
       v : ℕ
       v = max (m .tokenend f) t
 
+      reach : Reach (m .log) (m .currentend) (tokenRead m f t)
+      reach = record {
+        current-low = s .reach .current-low;
+        token-low = λ g. end-at-low (m .tokenend) f v g (λ g. startOf (token (m .log) g)) (s .reach .token-low) (omega arith);
+      }
+
       new : Sim (withRow w f (readToken t (ledgerRow m f))) (withEnds m (m .currentend) (tokenRead m f t))
       new =
-          sim-set w m s f (m .currentend) (tokenRead m f t) _ h (rw (end-at-same (m .tokenend) f v)) (λ g e. refl) (λ g e. end-at-other (m .tokenend) f v g e)
-          (record {
-            current-low = s .reach .current-low;
-            token-low = λ g. end-at-low (m .tokenend) f v g (λ g. startOf (token (m .log) g)) (s .reach .token-low) (omega arith);
-          })
+          sim-set w m s f (m .currentend) (tokenRead m f t) (readToken t (ledgerRow m f)) h
+          (rw (end-at-same (m .tokenend) f v)) (λ g e. refl) (λ g e. end-at-other (m .tokenend) f v g e) reach
 
       go : (z : Option Placed) → token (m .log) f ≡ z → Lies (m .log) f z
           → Agrees (onToken w f t a (ledgerRow m f) (imageOf (entryAt w (placeOf z)))) (ledgerRead m f t a z)
