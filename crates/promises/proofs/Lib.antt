@@ -16,6 +16,7 @@ pub mod Cuts
 pub mod PageRuns
 pub mod Lasting
 pub mod Stable
+pub mod Floored
 pub mod Shown
 pub mod Visible
 pub mod Extends
