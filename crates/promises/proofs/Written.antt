@@ -1,4 +1,4 @@
--- The page that an answered call wrote: its kind and fields are those of the call, and it is the only one added to the log.
+-- The page that an answered call wrote: of the kind of the call, with all that the call gave; it is the only one added to the log.
 use mathlib.Core.Path.{_≡_, refl}
 use mathlib.Core.List.{List, _∷_}
 use mathlib.Core.Option.{Option, some, none}
