@@ -142,13 +142,13 @@ module _ (κ : ℕ → Row → Row) where
           let z : (i ≡ n → ⊥) = eqb-false i n q in
           getD-set-other (eachTo n rs) n i (κ (suc n) (getD rs n cold)) cold z ∙ y (omega arith)
 
-  row-each : (f : ℕ) (rs : List Row) (i : ℕ) → i < length rs → getD (eachRow κ f rs) i cold ≡ κ (suc (f + i)) (getD rs i cold)
+  pub row-each : (f : ℕ) (rs : List Row) (i : ℕ) → i < length rs → getD (eachRow κ f rs) i cold ≡ κ (suc (f + i)) (getD rs i cold)
   unfolding eachRow
   row-each f [] i h = absurd (omega arith)
   row-each f (r ∷ rs) zero h = let z : f + 0 ≡ f = omega arith in rw z
   row-each f (r ∷ rs) (suc i) h = let z : f + suc i ≡ suc f + i = omega arith in rw z (row-each (suc f) rs i (omega arith))
 
-  row-each-long : (f : ℕ) (rs : List Row) → length (eachRow κ f rs) ≡ length rs
+  pub row-each-long : (f : ℕ) (rs : List Row) → length (eachRow κ f rs) ≡ length rs
   unfolding eachRow
   row-each-long f [] = refl
   row-each-long f (r ∷ rs) = ap suc (row-each-long (suc f) rs)

@@ -1,25 +1,23 @@
 -- What a call leaves that is cut after some bytes of the page that it appends: the log, with that page, a torn one or none.
 use mathlib.Core.Path.{_≡_, refl, ap, sym, _∙_}
 use mathlib.Core.List.{List, _∷_}
-use mathlib.Core.Bool.{Bool, true, false, cond, _&&_}
-use mathlib.Core.Option.{Option, some, none}
-use Prim.Native.Nat.{ℕ, suc, _+_, _<_}
+use mathlib.Core.Bool.{Bool, true, false, cond}
+use Prim.Native.Nat.{ℕ, suc, _<_}
 use native.Mathlib.Omega.{arith}
-use lib.ListN.{length, getD}
+use lib.ListN.{length}
 use lib.Seq.{getD-set-same}
-use lib.Dec.{eqb, leb, ltb}
+use lib.Dec.{eqb, ltb}
 use borrow.Author.Tests.{eqb-true, eqb-false, eq-eqb, ne-eqb}
-use Rattle.encoding.proofs.Logic.{by-test}
-use Rattle.page.specs.Layout.{pageSize, valueSize}
+use Rattle.page.specs.Layout.{pageSize}
 use Rattle.recovery.specs.Places.{nth, put}
-use Rattle.recovery.specs.Log.{Entry, blank, torn, Placed, fateOf}
-use Rattle.recovery.specs.Lawful.{token}
-use Rattle.recovery.specs.World.{World, entryAt, down, isFile}
+use Rattle.recovery.specs.Log.{Entry, blank, torn}
+use Rattle.recovery.specs.World.{World, entryAt, down}
 use Rattle.recovery.proofs.Places.{nth-put-same, nth-put-other, length-put}
-use Rattle.calls.specs.Calls.{Call, begin, write, read, test, decide, rebuild, isDecided, call}
+use Rattle.calls.specs.Calls.{Call, begin, write, read, test, decide, rebuild, call}
 use Rattle.promises.proofs.Logs.{entryIn, entry-top, Fits}
 use Rattle.promises.proofs.Fates.{entry-down, down-put}
-use Rattle.promises.proofs.Ledger.{Ledger, LedgerResult, ledgerGrown, withEnds, ledgerUndecided, ledgerRoom, ledgerKnows, ledgerForUndecided, ledgerWrite, ledgerRead, ledgerCall}
+use Rattle.promises.proofs.Ledger.{Ledger, LedgerResult, withEnds, ledgerGrown, ledgerCall}
+use Rattle.promises.proofs.LedgerCalls.{begins, writes, reads, tests, decides, rebuilds}
 use Rattle.promises.proofs.Sim.{Sim}
 use Rattle.promises.proofs.SimCalls.{sim-call}
 use Rattle.promises.proofs.Openings.{Holds, sim-holds}
@@ -62,26 +60,13 @@ module _ (m : Ledger) where
   adds : (g : Entry) (ce te : ℕ → ℕ) → Moves m (ledgerGrown m g ce te .1)
   adds g ce te = record { steps = add g; pages = refl; files = refl; floor = refl }
 
-  move-undecided : (a : ℕ) (r : LedgerResult) → Next r → Next (ledgerForUndecided m a r)
-  move-undecided a r h = by-test Next (ledgerKnows m a) (λ e. by-test Next (isDecided (fateOf (m .log) a)) (λ e. same) (λ e. h)) (λ e. same)
-
-  move-write : (f t a : ℕ) (n : List ℕ) (z : Option Placed) → Next (ledgerWrite m f t a n z)
-  move-write f t a n none = by-test Next (ltb (m .currentend f) t && ltb (m .floor) t) (λ e. by-test Next (ledgerRoom m (ledgerUndecided m + 1)) (λ e. adds _ _ _) (λ e. same)) (λ e. same)
-  move-write f t a n (some x) = same
-
-  move-read : (f t a : ℕ) (z : Option Placed) → Next (ledgerRead m f t a z)
-  move-read f t a none = still _ _
-  move-read f t a (some x) = by-test Next (leb (x .image .start) t) (λ e. by-test Next (eqb (x .image .action) a) (λ e. still _ _) (λ e. same)) (λ e. still _ _)
-
   pub moves : (k : Call) → Next (ledgerCall m k)
-  moves begin = by-test Next (ledgerRoom m (ledgerUndecided m + 2)) (λ e. adds _ _ _) (λ e. same)
-  moves (write f t a n) = by-test Next (isFile (m .files) f)
-      (λ e. by-test Next (leb (length n) valueSize) (λ e. move-undecided a _ (move-write f t a n (token (m .log) f))) (λ e. same)) (λ e. same)
-  moves (read f t a) = by-test Next (isFile (m .files) f)
-      (λ e. by-test Next (eqb a 0) (λ e. move-read f t a (token (m .log) f)) (λ e. move-undecided a _ (move-read f t a (token (m .log) f)))) (λ e. same)
-  moves (test a) = by-test Next (ledgerKnows m a) (λ e. same) (λ e. same)
-  moves (decide a c) = move-undecided a _ (by-test Next (ledgerRoom m 1) (λ e. adds _ _ _) (λ e. same))
-  moves (rebuild f) = by-test Next (isFile (m .files) f) (λ e. same) (λ e. same)
+  moves begin = begins Next m (λ n p. same) (adds _ _ _)
+  moves (write f s a v) = writes Next m (λ n p. same) f s a v (λ j k. adds _ _ _)
+  moves (read f t a) = reads Next m (λ n p. same) f t a (still _ _) (λ x e j k. still _ _)
+  moves (test a) = tests Next m (λ n p. same) a same
+  moves (decide a c) = decides Next m (λ n p. same) a c (adds _ _ _)
+  moves (rebuild f) = rebuilds Next m (λ n p. same) f same
 
 -- a page stored whole, in part or not at all
 pub holds-put : (s : List Entry) (n : ℕ) (l : List Entry) (g : Entry) → Holds s n l → Fits g l → length l < n
@@ -119,7 +104,9 @@ holds-partial s n l g b h f k = go (eqb b 0) (ltb b pageSize)
 
 pub cut-holds : (w : World) (m : Ledger) (k : Call) (b : ℕ) → Sim w m → Holds (cutSheet w k b) (m .pages) (cutLog (m .log) (ledgerCall m k .1 .log) b)
 unfolding cutSheet cutLog
-cut-holds w m k b s = go (moves m k .steps) (call w k .1 .end) (call w k .1 .sheet) (rw (moves m k .pages) at (sim-holds (call w k .1) (ledgerCall m k .1) r)) (r .ends)
+cut-holds w m k b s =
+    let h = rw (moves m k .pages) at (sim-holds (call w k .1) (ledgerCall m k .1) r) in
+    go (moves m k .steps) (call w k .1 .end) (call w k .1 .sheet) h (r .ends)
   where
     r : Sim (call w k .1) (ledgerCall m k .1)
     r = sim-call w m s k .after
@@ -129,6 +116,7 @@ cut-holds w m k b s = go (moves m k .steps) (call w k .1 .end) (call w k .1 .she
         (cond (eqb (length l′) (length (m .log))) (m .log) (partialLog b (entryIn l′ (suc (length (m .log)))) (m .log)))
     go stay e u h q = rw (s .ends, q, eq-eqb (length (m .log)) (length (m .log)) refl) (sim-holds w m s)
     go (add g) e u h q =
-        let z : getD u (length (m .log)) blank ≡ g = sym (entry-down u (suc (length (m .log))) (suc (length (m .log))) (omega arith)) ∙ ap (λ l. entryIn l (suc (length (m .log)))) (h .log) ∙ entry-top g (m .log) in
-        rw (s .ends, q, ne-eqb (suc (length (m .log))) (length (m .log)) (λ e. omega arith), z, eq-eqb (suc (length (m .log))) (suc (length (m .log))) refl)
+        let p : ℕ = suc (length (m .log)) in
+        let z : nth blank u p ≡ g = sym (entry-down u p p (omega arith)) ∙ ap (λ l. entryIn l p) (h .log) ∙ entry-top g (m .log) in
+        rw (s .ends, q, ne-eqb p (length (m .log)) (λ e. omega arith), z, eq-eqb p p refl)
         (holds-partial (w .sheet) (m .pages) (m .log) g b (sim-holds w m s) (h .lawful .0) (h .room))

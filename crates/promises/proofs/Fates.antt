@@ -52,17 +52,21 @@ undecided-put xs (suc a) v h k = undecided-set xs a v k
 -- the fates and their count after an opening and after an outcome
 pub opening-fates : (n : ℕ) (l : List Entry) → put (fatesOf n l) (suc (length l)) 1 ≡ fatesOf n (opening ∷ l)
 unfolding fateOf
-opening-fates n l = put-tabulate (λ p. fateNumber (fateOf l p)) (λ p. fateNumber (fateOf (opening ∷ l) p)) n (suc (length l)) 1 (omega arith)
+opening-fates n l =
+    put-tabulate (λ p. fateNumber (fateOf l p)) (λ p. fateNumber (fateOf (opening ∷ l) p)) n (suc (length l)) 1 (omega arith)
     (rw (eq-eqb (suc (length l)) (suc (length l)) refl)) (λ b u v q. rw (ne-eqb b (suc (length l)) q))
 
 pub outcome-fates : (n : ℕ) (l : List Entry) (a : ℕ) (c : Bool) → 1 ≤ a → put (fatesOf n l) a (fateNumber (verdict c)) ≡ fatesOf n (outcome a c ∷ l)
 unfolding fateOf
-outcome-fates n l a c h = put-tabulate (λ p. fateNumber (fateOf l p)) (λ p. fateNumber (fateOf (outcome a c ∷ l) p)) n a (fateNumber (verdict c)) h (rw (eq-eqb a a refl)) (λ b u v q. rw (ne-eqb b a q))
+outcome-fates n l a c h =
+    put-tabulate (λ p. fateNumber (fateOf l p)) (λ p. fateNumber (fateOf (outcome a c ∷ l) p)) n a (fateNumber (verdict c)) h
+    (rw (eq-eqb a a refl)) (λ b u v q. rw (ne-eqb b a q))
 
 pub opening-undecided : (n : ℕ) (l : List Entry) → Lawful l → length l < n → undecidedOf (fatesOf n (opening ∷ l)) ≡ suc (undecidedOf (fatesOf n l))
 opening-undecided n l w h =
-    let u : nth 0 (fatesOf n l) (suc (length l)) ≡ 0 = nth-tabulate (λ p. fateNumber (fateOf l p)) n (suc (length l)) 0 (omega arith) h ∙ ap fateNumber (fate-above l (suc (length l)) w (omega arith)) in
-    let c = undecided-put (fatesOf n l) (suc (length l)) 1 (omega arith) (rw length-tabulate h) in
+    let p : ℕ = suc (length l) in
+    let u : nth 0 (fatesOf n l) p ≡ 0 = nth-tabulate (λ a. fateNumber (fateOf l a)) n p 0 (omega arith) h ∙ ap fateNumber (fate-above l p w (omega arith)) in
+    let c = undecided-put (fatesOf n l) p 1 (omega arith) (rw length-tabulate h) in
     omega (arith, rw (u, opening-fates n l) at c)
 
 pub outcome-undecided : (n : ℕ) (l : List Entry) (a : ℕ) (c : Bool) → Lawful l → length l ≤ n → fateOf l a ≡ undecided
@@ -98,7 +102,9 @@ pub entry-down : (s : List Entry) (e p : ℕ) → p ≤ e → entryIn (down s e)
 unfolding down
 entry-down s zero zero h = refl
 entry-down s zero (suc p) h = absurd (omega arith)
-entry-down s (suc e) p h = rw (length-down s e) (cond≡ (eqb p (suc e)) (λ q. rw (eqb-true p (suc e) q)) (λ q. entry-down s e p (omega (arith, eqb-false p (suc e) q))))
+entry-down s (suc e) p h =
+    rw (length-down s e)
+    (cond≡ (eqb p (suc e)) (λ q. rw (eqb-true p (suc e) q)) (λ q. entry-down s e p (omega (arith, eqb-false p (suc e) q))))
 
 pub down-put : (s : List Entry) (e p : ℕ) (g : Entry) → e < p → down (put s p g) e ≡ down s e
 unfolding down

@@ -13,6 +13,7 @@ use Rattle.recovery.specs.declared.Answer.the-variants.{Stored}
 use Rattle.calls.specs.Calls.{Call, call}
 use Rattle.promises.proofs.Logs.{entryIn, entry-top}
 use Rattle.promises.proofs.Ledger.{Ledger, ledgerCall}
+use Rattle.promises.proofs.LedgerCalls.{writes}
 use Rattle.promises.proofs.SimCalls.{sim-call}
 use Rattle.promises.proofs.Cuts.{partialLog, cutLog}
 use Rattle.promises.proofs.PageRuns.{Event, calls, cuts, after, runs, Proper, ledgerAfter, At, event}

@@ -1,23 +1,23 @@
 -- What a log shows of a file at a time stays, through any run in which no write can start by then.
 use mathlib.Core.Path.{_≡_, refl, _∙_}
 use mathlib.Core.List.{List, [], _∷_}
-use mathlib.Core.Bool.{Bool, true, false, cond, _&&_, false≢true}
+use mathlib.Core.Bool.{Bool, true, false, cond, false≢true}
 use mathlib.Core.Option.{Option, some, none}
-use Prim.Native.Nat.{ℕ, suc, max, _+_, _≤_, _<_}
+use Prim.Native.Nat.{ℕ, suc, max, _≤_, _<_}
 use native.Mathlib.Omega.{arith}
 use lib.ListN.{length}
-use lib.Dec.{eqb, leb, ltb}
-use borrow.Author.Tests.{eqb-true, ltb-true, eq-eqb, ne-eqb}
-use Rattle.encoding.proofs.Logic.{by-test, and-true}
-use Rattle.page.specs.Layout.{pageSize, valueSize}
-use Rattle.recovery.specs.Log.{Image, Entry, blank, torn, image, Placed, fateOf, placeOf, startOf}
+use lib.Dec.{eqb, ltb}
+use borrow.Author.Tests.{eqb-true, eq-eqb, ne-eqb}
+use Rattle.page.specs.Layout.{pageSize}
+use Rattle.recovery.specs.Log.{Entry, blank, torn, image, outcome, Placed, startOf}
 use Rattle.recovery.specs.Lawful.{current, token}
-use Rattle.recovery.specs.World.{World, isFile}
-use Rattle.calls.specs.Calls.{Call, begin, write, read, test, decide, rebuild, isDecided}
+use Rattle.recovery.specs.World.{World}
+use Rattle.calls.specs.Calls.{Call, begin, write, read, test, decide, rebuild}
 use Rattle.promises.proofs.Logs.{entry-top, Lawful}
 use Rattle.promises.proofs.Appends.{opening-token, torn-token, image-token, owns, outcome-token}
 use Rattle.promises.proofs.Versions.{version, shows, Clear, version-keeps}
-use Rattle.promises.proofs.Ledger.{Ledger, LedgerResult, ledgerUndecided, ledgerRoom, ledgerKnows, ledgerForUndecided, ledgerWrite, within, raised, ledgerVersions, ledgerRead, ledgerDecide, ledgerCall}
+use Rattle.promises.proofs.Ledger.{Ledger, LedgerResult, endAt, ledgerGrown, ledgerRefuse, ledgerImage, within, raised, ledgerVersions, currentDecided, tokenDecided, ledgerCall}
+use Rattle.promises.proofs.LedgerCalls.{begins, writes, reads, tests, decides, rebuilds}
 use Rattle.promises.proofs.Sim.{Reach}
 use Rattle.promises.proofs.SimReads.{raised-low, end-at-low}
 use Rattle.promises.proofs.SimCalls.{sim-call}
@@ -46,50 +46,31 @@ module _ (m : Ledger) (f t : ℕ) (r : Reach (m .log) (m .currentend) (m .tokene
   abbrev Goes : LedgerResult → Type 0
   Goes x = Lawful (x .1 .log) → Near (x .1) f t
 
-  hold : Lawful (m .log) → Near m f t
-  hold w = h
+  hold : (n p : ℕ) → Goes (ledgerRefuse n p m)
+  hold n p w = h
 
-  near-undecided : (a : ℕ) (x : LedgerResult) → Goes x → Goes (ledgerForUndecided m a x)
-  near-undecided a x k = by-test Goes (ledgerKnows m a) (λ e. by-test Goes (isDecided (fateOf (m .log) a)) (λ e. hold) (λ e. k)) (λ e. hold)
-
-  near-write : (g s a : ℕ) (n : List ℕ) (z : Option Placed) → Goes (ledgerWrite m g s a n z)
-  near-write g s a n none = by-test Goes (ltb (m .currentend g) s && ltb (m .floor) s)
-      (λ e. by-test Goes (ledgerRoom m (ledgerUndecided m + 1)) (λ q w. record { clear = go e w (eqb g f) refl; high = h .high }) (λ q. hold)) (λ e. hold)
+  near-write : (g s a : ℕ) (v : List ℕ) → m .currentend g < s → m .floor < s
+      → Goes (ledgerGrown m (image (ledgerImage m g s a v)) (m .currentend) (endAt (m .tokenend) g s))
+  near-write g s a v j k w = record { clear = rw (image-token (ledgerImage m g s a v) (m .log) f (w .0)) (go (eqb g f) refl); high = h .high }
     where
-      written : Image
-      written = record { file = g; action = a; link = placeOf (current (m .log) g); start = s; value = n }
-
-      go : (ltb (m .currentend g) s && ltb (m .floor) s) ≡ true → Lawful (image written ∷ m .log) → (b : Bool) → eqb g f ≡ b
-          → Clear t (token (image written ∷ m .log) f)
-      go e w true q =
-          let b = and-true (ltb (m .currentend g) s) (ltb (m .floor) s) e in
-          let z : g ≡ f = eqb-true g f q in
-          let y : m .currentend f < s = rw z at (ltb-true (m .currentend g) s (b .0)) in
-          rw (image-token written (m .log) f (w .0), q) (omega (arith, h .high, y, ltb-true (m .floor) s (b .1)))
-      go e w false q = rw (image-token written (m .log) f (w .0), q) (h .clear)
-  near-write g s a n (some x) = hold
+      go : (b : Bool) → eqb g f ≡ b → Clear t (cond b (some (record { place = suc (length (m .log)); image = ledgerImage m g s a v })) (token (m .log) f))
+      go true q =
+          let y : m .currentend f < s = rw (eqb-true g f q) at j in
+          omega (arith, h .high)
+      go false q = h .clear
 
   near-versions : (g s : ℕ) → Goes (ledgerVersions m g s)
-  near-versions g s w = record {
-    clear = h .clear;
-    high = omega (
-      arith,
-      h .high,
-      end-at-low (m .currentend) g (raised (within s (current (m .log) g)) s (m .currentend g)) f (m .currentend) (λ j. omega arith)
-          (raised-low (within s (current (m .log) g)) s (m .currentend g) (m .currentend g) (omega arith)),
-    );
-  }
+  near-versions g s w =
+      let b = within s (current (m .log) g) in
+      let e = m .currentend g in
+      let low = end-at-low (m .currentend) g (raised b s e) f (m .currentend) (λ j. omega arith) (raised-low b s e e (omega arith)) in
+      record { clear = h .clear; high = omega (arith, h .high, low) }
 
-  near-read : (g s a : ℕ) (z : Option Placed) → Goes (ledgerRead m g s a z)
-  near-read g s a none = near-versions g s
-  near-read g s a (some x) = by-test Goes (leb (x .image .start) s)
-      (λ e. by-test Goes (eqb (x .image .action) a) (λ q w. record { clear = h .clear; high = h .high }) (λ q. hold)) (λ e. near-versions g s)
-
-  near-decide : (a : ℕ) (c : Bool) → Goes (ledgerDecide m a c)
-  near-decide a c = by-test Goes (ledgerRoom m 1) (λ q w. record {
+  near-decide : (a : ℕ) (c : Bool) → Goes (ledgerGrown m (outcome a c) (currentDecided m a c) (tokenDecided m a))
+  near-decide a c w = record {
     clear = rw (outcome-token a c (m .log) f (w .0) (w .1)) (go (owns a (token (m .log) f)));
     high = up (owns a (token (m .log) f)) refl c;
-  }) (λ q. hold)
+  }
     where
       go : (b : Bool) → Clear t (cond b none (token (m .log) f))
       go true = tt
@@ -102,14 +83,12 @@ module _ (m : Ledger) (f t : ℕ) (r : Reach (m .log) (m .currentend) (m .tokene
       up false e c = h .high
 
   near : (k : Call) → Goes (ledgerCall m k)
-  near begin = by-test Goes (ledgerRoom m (ledgerUndecided m + 2)) (λ e w. record { clear = rw (opening-token (m .log) f (w .1)) (h .clear); high = h .high }) (λ e. hold)
-  near (write g s a n) = by-test Goes (isFile (m .files) g)
-      (λ e. by-test Goes (leb (length n) valueSize) (λ e. near-undecided a _ (near-write g s a n (token (m .log) g))) (λ e. hold)) (λ e. hold)
-  near (read g s a) = by-test Goes (isFile (m .files) g)
-      (λ e. by-test Goes (eqb a 0) (λ e. near-read g s a (token (m .log) g)) (λ e. near-undecided a _ (near-read g s a (token (m .log) g)))) (λ e. hold)
-  near (test a) = by-test Goes (ledgerKnows m a) (λ e. hold) (λ e. hold)
-  near (decide a c) = near-undecided a _ (near-decide a c)
-  near (rebuild g) = by-test Goes (isFile (m .files) g) (λ e. hold) (λ e. hold)
+  near begin = begins Goes m hold (λ w. record { clear = rw (opening-token (m .log) f (w .1)) (h .clear); high = h .high })
+  near (write g s a v) = writes Goes m hold g s a v (near-write g s a v)
+  near (read g s a) = reads Goes m hold g s a (near-versions g s) (λ x e j k w. record { clear = h .clear; high = h .high })
+  near (test a) = tests Goes m hold a (λ w. h)
+  near (decide a c) = decides Goes m hold a c (near-decide a c)
+  near (rebuild g) = rebuilds Goes m hold g (λ w. h)
 
 cut-kept : (l l′ : List Entry) (f t : ℕ) (v : Option Placed) (n : ℕ) → Step l l′ → Lawful l′ → Kept l f t v → Clear t (token l′ f)
     → Kept (cutLog l l′ n) f t v

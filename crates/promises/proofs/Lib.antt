@@ -5,6 +5,7 @@ pub mod Versions
 pub mod Links
 pub mod Fates
 pub mod Ledger
+pub mod LedgerCalls
 pub mod Sim
 pub mod SimWrites
 pub mod SimReads

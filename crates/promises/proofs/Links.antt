@@ -8,7 +8,7 @@ use native.Mathlib.Omega.{arith}
 use lib.Dec.{eqb, leb}
 use borrow.Author.Tests.{eq-eqb, ne-eqb}
 use Rattle.recovery.specs.Log.{Entry, image, Fate, unknown, undecided, committed, aborted, Placed, currentStep, currentOf, placeOf}
-use Rattle.calls.specs.Walk.{Walk, met, nothing, endless, via, follow}
+use Rattle.calls.specs.Walk.{Walk, met, nothing, endless, via, hop, follow}
 use Rattle.promises.proofs.Chains.{Chain}
 use Rattle.promises.proofs.Versions.{versionStep, versionOf, version-none}
 
@@ -42,41 +42,38 @@ module _ (entry : ℕ → Entry) (f t : ℕ) (φ : ℕ → Fate) where
   abbrev Walks : List Placed → Type 0
   Walks xs = (x : Placed) (n : ℕ) → currentOf φ xs ≡ some x → x .place ≤ suc n → follow entry f t n x ≡ walked (versionOf φ t xs)
 
+  -- one version, and what its link leads to
+  abbrev below : Placed → (Placed → Walk) → Walk
+  below y κ = cond (eqb (y .image .link) 0) nothing (via (entry (y .image .link)) f (y .place) (λ j. κ (record { place = y .image .link; image = j })))
+
+  hop-by : (y : Placed) (κ : Placed → Walk) (v : Option Placed) → below y κ ≡ walked v → hop entry f t y κ ≡ walked (cond (leb (y .image .start) t) (some y) v)
+  hop-by y κ v e = go (leb (y .image .start) t)
+    where
+      go : (q : Bool) → cond q (met y) (below y κ) ≡ walked (cond q (some y) v)
+      go true = refl
+      go false = e
+
+  links-none : (y : Placed) (κ : Placed → Walk) (v : Option Placed) → y .image .link ≡ 0 → v ≡ none → below y κ ≡ walked v
+  links-none y κ v h e = rw (h, e)
+
+  links-some : (x y : Placed) (κ : Placed → Walk) (v : Option Placed) → y .image .link ≡ x .place → Seen entry f x → κ x ≡ walked v → below y κ ≡ walked v
+  links-some x y κ v h c e = rw (h, ne-eqb (x .place) 0 (λ q. omega (arith, c .low)), c .here, eq-eqb (x .image .file) f (c .mine)) e
+
   -- from a version, given what lies below it
   walk-down : (y : Placed) (ys : List Placed) (n : ℕ) (z : Option Placed) → currentOf φ ys ≡ z → AllSeen entry f ys
       → y .image .link ≡ placeOf z → placeOf z < y .place → Walks ys → y .place ≤ suc n
       → follow entry f t n y ≡ walked (cond (leb (y .image .start) t) (some y) (versionOf φ t ys))
   unfolding follow
-  walk-down y ys zero none e s h k r b = go (leb (y .image .start) t)
-    where
-      go : (q : Bool) → cond q (met y) (cond (eqb (y .image .link) 0) nothing (via (entry (y .image .link)) f (y .place) (λ j. endless)))
-          ≡ walked (cond q (some y) (versionOf φ t ys))
-      go true = refl
-      go false = rw (h, version-none φ t ys e)
-  walk-down y ys (suc n) none e s h k r b = go (leb (y .image .start) t)
-    where
-      go : (q : Bool)
-          → cond q (met y) (cond (eqb (y .image .link) 0) nothing (via (entry (y .image .link)) f (y .place) (λ j. follow entry f t n (record { place = y .image .link; image = j }))))
-          ≡ walked (cond q (some y) (versionOf φ t ys))
-      go true = refl
-      go false = rw (h, version-none φ t ys e)
+  walk-down y ys zero none e s h k r b =
+      let v = versionOf φ t ys in
+      hop-by y (λ x. endless) v (links-none y (λ x. endless) v h (version-none φ t ys e))
+  walk-down y ys (suc n) none e s h k r b =
+      let v = versionOf φ t ys in
+      hop-by y (follow entry f t n) v (links-none y (follow entry f t n) v h (version-none φ t ys e))
   walk-down y ys zero (some x) e s h k r b = let c : Seen entry f x = current-seen entry f φ ys x s e in absurd (omega arith)
-  walk-down y ys (suc n) (some x) e s h k r b = go (leb (y .image .start) t)
-    where
-      c : Seen entry f x
-      c = current-seen entry f φ ys x s e
-
-      off : eqb (x .place) 0 ≡ false
-      off = ne-eqb (x .place) 0 (λ q. omega (arith, c .low))
-
-      own : eqb (x .image .file) f ≡ true
-      own = eq-eqb (x .image .file) f (c .mine)
-
-      go : (q : Bool)
-          → cond q (met y) (cond (eqb (y .image .link) 0) nothing (via (entry (y .image .link)) f (y .place) (λ j. follow entry f t n (record { place = y .image .link; image = j }))))
-          ≡ walked (cond q (some y) (versionOf φ t ys))
-      go true = refl
-      go false = rw (h, off, c .here, own) (r x n e (omega arith))
+  walk-down y ys (suc n) (some x) e s h k r b =
+      let v = versionOf φ t ys in
+      hop-by y (follow entry f t n) v (links-some x y (follow entry f t n) v h (current-seen entry f φ ys x s e) (r x n e (omega arith)))
 
   pub walk-finds : (xs : List Placed) → Chain φ xs → AllSeen entry f xs → Walks xs
   unfolding currentOf versionOf

@@ -131,7 +131,11 @@ event n k b w m (fails t fs rs) s a =
     let o = stands-off b w m (s .stands) in
     let z : length (w .sheet) ≡ n = o .holds .long ∙ s .pages in
     let r = failed (w .sheet) fs rs t (rw z a) in
-    record { answer = ap (λ x. some (x .0)) r; next = record { pages = s .pages; files = s .files; stands = record { holds = subst (λ (x : Result). Holds (x .1 .sheet) (m .pages) (m .log)) (sym r) (o .holds); fits = o .fits } } }
+    let h = subst (λ (x : Result). Holds (x .1 .sheet) (m .pages) (m .log)) (sym r) (o .holds) in
+    record {
+      answer = ap (λ x. some (x .0)) r;
+      next = record { pages = s .pages; files = s .files; stands = record { holds = h; fits = o .fits } };
+    }
 event n k true w m (cuts c i) s a = record {
   answer = refl;
   next = record {

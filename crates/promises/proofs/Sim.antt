@@ -20,7 +20,7 @@ use Rattle.calls.specs.Calls.{hasAction, hasRoom, append}
 use Rattle.promises.proofs.Logs.{entryIn, Fits, Lawful}
 use Rattle.promises.proofs.Chains.{Spot, Spots, spots}
 use Rattle.promises.proofs.Fates.{fates-are, undecided-low, entry-down, down-put}
-use Rattle.promises.proofs.Ledger.{Ledger, LedgerResult, ledgerGrown, withEnds, ledgerRoom, ledgerKnows, ledgerRow}
+use Rattle.promises.proofs.Ledger.{Ledger, LedgerResult, withEnds, ledgerGrown, ledgerRoom, ledgerKnows, ledgerRow}
 
 -- a row as it counts: rebuilt where it is cold
 abbrev pub warmOf : Row → List Entry → ℕ → Row

@@ -35,19 +35,25 @@ module _ (w : World) (m : Ledger) (s : Sim w m) where
   agrees-undecided a x y k = agrees-action a _ _ (λ e. agrees-cond (isDecided (fateAt w a)) (isDecided (fateOf (m .log) a)) (ap isDecided (fate-eq w m s a))
       (λ q. record { answer = refl; after = s }) (λ q. k (undecided-fate (fateOf (m .log) a) e q)))
 
+  warmed : (f : ℕ) → isFile (m .files) f ≡ true → Sim (withRow w f (ledgerRow m f)) m
+  warmed = sim-warm w m s
+
   sim-on : (k : Call) → Agrees (on w k) (ledgerCall m k)
   unfolding rebuilt
   sim-on begin = sim-begin w m s
-  sim-on (write f t a n) = agrees-file f _ _ (λ h. agrees-cond (leb (length n) valueSize) (leb (length n) valueSize) refl
-      (λ e. agrees-undecided a _ _ (λ o. rw (warm-eq w m s f h) (sim-write (withRow w f (ledgerRow m f)) m (sim-warm w m s f h) f t a n h o)))
+  sim-on (write f t a n) =
+      agrees-file f _ _ (λ h. agrees-cond (leb (length n) valueSize) (leb (length n) valueSize) refl
+      (λ e. agrees-undecided a _ _ (λ o. rw (warm-eq w m s f h) (sim-write (withRow w f (ledgerRow m f)) m (warmed f h) f t a n h o)))
       (λ e. record { answer = refl; after = s }))
-  sim-on (read f t a) = agrees-file f _ _ (λ h. agrees-cond (eqb a 0) (eqb a 0) refl
-      (λ e. rw (warm-eq w m s f h) (sim-read (withRow w f (ledgerRow m f)) m (sim-warm w m s f h) f t a h))
-      (λ e. agrees-undecided a _ _ (λ o. rw (warm-eq w m s f h) (sim-read (withRow w f (ledgerRow m f)) m (sim-warm w m s f h) f t a h))))
+  sim-on (read f t a) =
+      agrees-file f _ _ (λ h. agrees-cond (eqb a 0) (eqb a 0) refl
+      (λ e. rw (warm-eq w m s f h) (sim-read (withRow w f (ledgerRow m f)) m (warmed f h) f t a h))
+      (λ e. agrees-undecided a _ _ (λ o. rw (warm-eq w m s f h) (sim-read (withRow w f (ledgerRow m f)) m (warmed f h) f t a h))))
   sim-on (test a) = agrees-action a _ _ (λ e. record { answer = ap toldFate (fate-eq w m s a); after = s })
   sim-on (decide a c) = agrees-undecided a _ _ (λ o. sim-decide w m s a c o)
-  sim-on (rebuild f) = rw (lent-right w m s) (agrees-file f _ _ (λ h. rw (warm-eq w m s f h, row-holds (withRow w f (ledgerRow m f)) m (sim-warm w m s f h) f)
-      (record { answer = refl; after = sim-warm w m s f h })))
+  sim-on (rebuild f) =
+      rw (lent-right w m s) (agrees-file f _ _ (λ h.
+      rw (warm-eq w m s f h, row-holds (withRow w f (ledgerRow m f)) m (warmed f h) f) (record { answer = refl; after = warmed f h })))
 
   -- a world that stands for a ledger answers as the ledger does, and goes on standing for it
   pub sim-call : (k : Call) → Agrees (call w k) (ledgerCall m k)

@@ -1,42 +1,32 @@
 -- Commit and abort do what the ledger does, on rebuilt rows and on cold ones.
 use mathlib.Core.Path.{_≡_, refl, ap, _∙_}
-use mathlib.Core.List.{List, [], _∷_}
+use mathlib.Core.List.{List, _∷_}
 use mathlib.Core.Bool.{Bool, true, false, cond, _&&_}
 use mathlib.Core.Option.{Option, some, none}
-use Prim.Native.Nat.{ℕ, zero, suc, pred, _+_, _-_, _≤_, _<_}
+use Prim.Native.Nat.{ℕ, zero, suc, pred, _+_, _-_, _≤_}
 use native.Mathlib.Omega.{arith}
-use lib.ListN.{length, getD}
+use lib.ListN.{length}
 use lib.Dec.{eqb, leb}
 use borrow.Author.Tests.{eqb-true, leb-true, eq-eqb, le-leb}
 use Rattle.recovery.specs.Places.{nth, put}
 use Rattle.recovery.specs.Log.{outcome, undecided, Placed, verdict, fateOf, placeOf, startOf}
 use Rattle.recovery.specs.Lawful.{current, token}
-use Rattle.recovery.specs.World.{World, entryAt, fateNumber, cold, rebuiltRow, rowAt}
+use Rattle.recovery.specs.World.{World, entryAt, fateNumber, cold, rebuiltRow, rowAt, isFile}
 use Rattle.recovery.specs.declared.Row.{Row}
 use Rattle.recovery.specs.declared.Answer.the-variants.{Stored}
 use Rattle.recovery.proofs.Lookups.{is-file}
 use Rattle.recovery.proofs.InspectFates.{undecided-known}
 use Rattle.calls.specs.Calls.{hasRoom, append, imageOf, decided, isTokenOf, settled, eachRow, onDecide}
+use Rattle.calls.proofs.DecideRows.{row-each, row-each-long}
 use Rattle.promises.proofs.Logs.{known-place}
 use Rattle.promises.proofs.Appends.{owns, outcome-current, outcome-token}
 use Rattle.promises.proofs.Fates.{outcome-fates, outcome-undecided}
 use Rattle.promises.proofs.Ledger.{Ledger, ledgerGrown, ledgerRoom, currentDecided, tokenDecided, ledgerDecide, ledgerRow}
-use Rattle.promises.proofs.Sim.{warmOf, Sim, Agrees, agrees-cond, Lies, token-lies, room-eq, blank-ok, lies-at, sim-append}
-
-length-each : (k : ℕ → Row → Row) (i : ℕ) (rs : List Row) → length (eachRow k i rs) ≡ length rs
-unfolding eachRow
-length-each k i [] = refl
-length-each k i (r ∷ rs) = ap suc (length-each k (suc i) rs)
-
-getD-each : (k : ℕ → Row → Row) (i : ℕ) (rs : List Row) (j : ℕ) → j < length rs → getD (eachRow k i rs) j cold ≡ k (suc (i + j)) (getD rs j cold)
-unfolding eachRow
-getD-each k i [] j h = absurd (omega arith)
-getD-each k i (r ∷ rs) zero h = let z : i + 0 ≡ i = omega arith in rw z
-getD-each k i (r ∷ rs) (suc j) h = let z : i + suc j ≡ suc i + j = omega arith in rw z (getD-each k (suc i) rs j (omega arith))
+use Rattle.promises.proofs.Sim.{warmOf, Reach, Sim, Agrees, agrees-cond, Lies, token-lies, room-eq, blank-ok, lies-at, sim-append}
 
 nth-each : (k : ℕ → Row → Row) (rs : List Row) (f : ℕ) → 1 ≤ f → f ≤ length rs → nth cold (eachRow k 0 rs) f ≡ k f (nth cold rs f)
 nth-each k rs zero h l = absurd (omega arith)
-nth-each k rs (suc j) h l = let z : 0 + j ≡ j = omega arith in rw z at (getD-each k 0 rs j l)
+nth-each k rs (suc j) h l = let z : 0 + j ≡ j = omega arith in rw z at (row-each k 0 rs j l)
 
 module _ (w : World) (m : Ledger) (s : Sim w m) where
   own-eq : (f a : ℕ) (z : Option Placed) → Lies (m .log) f z
@@ -44,29 +34,45 @@ module _ (w : World) (m : Ledger) (s : Sim w m) where
   own-eq f a none l = rw (le-leb 0 (w .end) (omega arith))
   own-eq f a (some x) l = rw (s .ends, le-leb (x .place) (length (m .log)) (l .high), lies-at w m s f x l, eq-eqb (x .image .file) f (l .mine))
 
+  -- the ledger with the outcome
+  abbrev decided-ledger : ℕ → Bool → Ledger
+  decided-ledger a c = ledgerGrown m (outcome a c) (currentDecided m a c) (tokenDecided m a) .1
+
   -- a cold row is rebuilt later to what a rebuilt one becomes now
   settled-eq : (a : ℕ) (c : Bool) (f : ℕ) (r : Row) → fateOf (m .log) a ≡ undecided → warmOf r (m .log) f ≡ ledgerRow m f
-      → warmOf (settled w a c f r) (outcome a c ∷ m .log) f ≡ ledgerRow (ledgerGrown m (outcome a c)
-      (currentDecided m a c) (tokenDecided m a) .1) f
+      → warmOf (settled w a c f r) (outcome a c ∷ m .log) f ≡ ledgerRow (decided-ledger a c) f
   settled-eq a c f r o h = go (eqb (r .mark) 0) refl
     where
-      cold-case : (b c : Bool) (t k : Option Placed) → _≡_ {A = Row}
-          (record { mark = 1; current = placeOf (cond b (cond c t k) k); currentend = startOf (cond b (cond c t k) k); token = placeOf (cond b none t); tokenend = startOf (cond b none t) })
-          (record { mark = 1; current = placeOf (cond b (cond c t k) k); currentend = cond b (cond c (startOf t) (startOf k)) (startOf k); token = placeOf (cond b none t); tokenend = cond b 0 (startOf t) })
+      -- where the action owns the token or does not, and commits or aborts
+      left : (b c : Bool) (t k : Option Placed) (x y : ℕ) → Row
+      left b c t k x y = record {
+        mark = 1;
+        current = placeOf (cond b (cond c t k) k);
+        currentend = cond b (cond c x y) y;
+        token = placeOf (cond b none t);
+        tokenend = cond b 0 x;
+      }
+
+      cold-case : (b c : Bool) (t k : Option Placed)
+          → record {
+            mark = 1;
+            current = placeOf (cond b (cond c t k) k);
+            currentend = startOf (cond b (cond c t k) k);
+            token = placeOf (cond b none t);
+            tokenend = startOf (cond b none t);
+          } ≡ left b c t k (startOf t) (startOf k)
       cold-case true true t k = refl
       cold-case true false t k = refl
       cold-case false c t k = refl
 
       warm-case : (b c : Bool) (t k : Option Placed) (x y : ℕ) (z : Row) →
           let r : Row = record { mark = 1; current = placeOf k; currentend = y; token = placeOf t; tokenend = x } in
-          cond (eqb ((cond b (decided c r) r) .mark) 0) z (cond b (decided c r) r) ≡
-          record { mark = 1; current = placeOf (cond b (cond c t k) k); currentend = cond b (cond c x y) y; token = placeOf (cond b none t); tokenend = cond b 0 x }
+          cond (eqb ((cond b (decided c r) r) .mark) 0) z (cond b (decided c r) r) ≡ left b c t k x y
       warm-case true true t k x y z = refl
       warm-case true false t k x y z = refl
       warm-case false c t k x y z = refl
 
-      go : (b : Bool) → eqb (r .mark) 0 ≡ b → warmOf (settled w a c f r) (outcome a c ∷ m .log) f ≡ ledgerRow (ledgerGrown m (outcome a c)
-          (currentDecided m a c) (tokenDecided m a) .1) f
+      go : (b : Bool) → eqb (r .mark) 0 ≡ b → warmOf (settled w a c f r) (outcome a c ∷ m .log) f ≡ ledgerRow (decided-ledger a c) f
       go true e =
           let q : rebuiltRow (m .log) (fateOf (m .log)) f ≡ ledgerRow m f = rw e at h in
           let x : startOf (current (m .log) f) ≡ m .currentend f = ap (λ r. r .currentend) q in
@@ -83,10 +89,12 @@ module _ (w : World) (m : Ledger) (s : Sim w m) where
           )
           (warm-case (owns a (token (m .log) f)) c (token (m .log) f) (current (m .log) f) (m .tokenend f) (m .currentend f) _)
 
-  pub sim-decide : (a : ℕ) (c : Bool) → fateOf (m .log) a ≡ undecided → Agrees (onDecide w a c) (ledgerDecide m a c)
-  sim-decide a c o = agrees-cond (hasRoom w 1) (ledgerRoom m 1) (room-eq w m s 1)
-      (λ e. rw (blank-ok w m s) (record { answer = ap Stored (ap suc (s .ends)); after = go e }))
-      (λ e. record { answer = refl; after = s })
+  -- its ends reach where the new versions and tokens start
+  decided-reach : (a : ℕ) (c : Bool) → fateOf (m .log) a ≡ undecided → Reach (outcome a c ∷ m .log) (currentDecided m a c) (tokenDecided m a)
+  decided-reach a c o = record {
+    current-low = λ f. rw (outcome-current a c (m .log) f o (s .lawful)) (low (owns a (token (m .log) f)) c _ _ _ _ (s .reach .token-low f) (s .reach .current-low f));
+    token-low = λ f. rw (outcome-token a c (m .log) f o (s .lawful)) (held (owns a (token (m .log) f)) _ _ (s .reach .token-low f));
+  }
     where
       low : (b c : Bool) (t k : Option Placed) (x y : ℕ) → startOf t ≤ x → startOf k ≤ y → startOf (cond b (cond c t k) k) ≤ cond b (cond c x y) y
       low true true t k x y h l = h
@@ -97,18 +105,27 @@ module _ (w : World) (m : Ledger) (s : Sim w m) where
       held true t x h = omega arith
       held false t x h = h
 
-      go : ledgerRoom m 1 ≡ true
-          → Sim (append w (outcome a c) (put (w .fates) a (fateNumber (verdict c))) (eachRow (settled w a c) 0 (w .rows)) (pred (w .undecided))) (ledgerGrown m (outcome a c) (currentDecided m a c) (tokenDecided m a) .1)
+  pub sim-decide : (a : ℕ) (c : Bool) → fateOf (m .log) a ≡ undecided → Agrees (onDecide w a c) (ledgerDecide m a c)
+  sim-decide a c o =
+      agrees-cond (hasRoom w 1) (ledgerRoom m 1) (room-eq w m s 1)
+      (λ e. rw (blank-ok w m s) (record { answer = ap Stored (ap suc (s .ends)); after = go e }))
+      (λ e. record { answer = refl; after = s })
+    where
+      fs : List ℕ
+      fs = put (w .fates) a (fateNumber (verdict c))
+
+      rs : List Row
+      rs = eachRow (settled w a c) 0 (w .rows)
+
+      rows-in : (f : ℕ) → isFile (m .files) f ≡ true → warmOf (nth cold rs f) (outcome a c ∷ m .log) f ≡ ledgerRow (decided-ledger a c) f
+      rows-in f h =
+          let b = is-file (m .files) f h in
+          rw (nth-each (settled w a c) (w .rows) f (b .0) (rw (s .files) (b .1))) (settled-eq a c f (rowAt w f) o (s .rows f h))
+
+      go : ledgerRoom m 1 ≡ true → Sim (append w (outcome a c) fs rs (pred (w .undecided))) (decided-ledger a c)
       go e =
-          let k : length (m .log) < m .pages = omega (arith, leb-true 1 (m .pages - length (m .log)) e) in
-          let p = known-place (m .log) a (s .lawful) (undecided-known o) in
-          sim-append w m s (outcome a c) (put (w .fates) a (fateNumber (verdict c))) (eachRow (settled w a c) 0 (w .rows)) (pred (w .undecided)) (currentDecided m a c) (tokenDecided m a) o k
-          (rw (s .fates) (outcome-fates (m .pages) (m .log) a c (p .0)))
+          sim-append w m s (outcome a c) fs rs (pred (w .undecided)) (currentDecided m a c) (tokenDecided m a) o
+          (omega (arith, leb-true 1 (m .pages - length (m .log)) e))
+          (rw (s .fates) (outcome-fates (m .pages) (m .log) a c (known-place (m .log) a (s .lawful) (undecided-known o) .0)))
           (omega (arith, s .undecided, outcome-undecided (m .pages) (m .log) a c (s .lawful) (s .room) o))
-          (length-each (settled w a c) 0 (w .rows) ∙ s .files)
-          (λ f h. rw (nth-each (settled w a c) (w .rows) f (is-file (m .files) f h .0) (rw (s .files) (is-file (m .files) f h .1)))
-          (settled-eq a c f (rowAt w f) o (s .rows f h)))
-          (record {
-            current-low = λ f. rw (outcome-current a c (m .log) f o (s .lawful)) (low (owns a (token (m .log) f)) c (token (m .log) f) (current (m .log) f) (m .tokenend f) (m .currentend f) (s .reach .token-low f) (s .reach .current-low f));
-            token-low = λ f. rw (outcome-token a c (m .log) f o (s .lawful)) (held (owns a (token (m .log) f)) (token (m .log) f) (m .tokenend f) (s .reach .token-low f));
-          })
+          (row-each-long (settled w a c) 0 (w .rows) ∙ s .files) rows-in (decided-reach a c o)

@@ -13,12 +13,12 @@ use Rattle.recovery.specs.Log.{Placed, fateOf, imagesOf, placeOf, startOf}
 use Rattle.recovery.specs.Lawful.{current, token}
 use Rattle.recovery.specs.World.{World, entryAt, withRow, isFile}
 use Rattle.recovery.specs.declared.Row.{Row}
-use Rattle.calls.specs.Calls.{imageOf, walkFrom, answerWalk, reaches, onVersions, onToken, onRead}
+use Rattle.calls.specs.Calls.{imageOf, walkFrom, answerWalk, reaches, readCurrent, readToken, onVersions, onToken, onRead}
 use Rattle.promises.proofs.Chains.{Spots, spots, chain}
 use Rattle.promises.proofs.Versions.{version, version-none}
 use Rattle.promises.proofs.Links.{walked, AllSeen, walk-finds}
-use Rattle.promises.proofs.Ledger.{Ledger, endAt, withEnds, foundAnswer, within, raised, ledgerVersions, ledgerRead, ledgerRow}
-use Rattle.promises.proofs.Sim.{Sim, Agrees, agrees-cond, Lies, current-lies, token-lies, lies-at, row-holds, sim-set}
+use Rattle.promises.proofs.Ledger.{Ledger, endAt, withEnds, foundAnswer, within, raised, currentRead, tokenRead, ledgerVersions, ledgerRead, ledgerRow}
+use Rattle.promises.proofs.Sim.{Reach, Sim, Agrees, agrees-cond, Lies, current-lies, token-lies, lies-at, row-holds, sim-set}
 
 pub raised-low : (b : Bool) (t e k : ℕ) → k ≤ e → k ≤ raised b t e
 raised-low true t e k h = omega arith
@@ -57,41 +57,47 @@ module _ (w : World) (m : Ledger) (s : Sim w m) where
       let l = current-lies (m .log) f in
       rw (walk-eq f t (current (m .log) f) refl l, reach-eq f t (current (m .log) f) l) (go (version (m .log) f t))
     where
-      v : ℕ
-      v = raised (within t (current (m .log) f)) t (m .currentend f)
+      e : ℕ
+      e = m .currentend f
 
-      ce : ℕ → ℕ
-      ce = endAt (m .currentend) f v
+      v : ℕ
+      v = raised (within t (current (m .log) f)) t e
 
       row : Row
-      row = record { mark = 1; current = placeOf (current (m .log) f); currentend = v; token = placeOf (token (m .log) f); tokenend = m .tokenend f }
+      row = readCurrent t (within t (current (m .log) f)) (ledgerRow m f)
 
-      new : Sim (withRow w f row) (withEnds m ce (m .tokenend))
-      new = sim-set w m s f ce (m .tokenend) row h (rw (end-at-same (m .currentend) f v)) (λ g e. end-at-other (m .currentend) f v g e) (λ g e. refl)
-          (record {
-            current-low = λ g. end-at-low (m .currentend) f v g (λ g. startOf (current (m .log) g)) (s .reach .current-low) (raised-low (within t (current (m .log) f)) t (m .currentend f) (m .currentend f) (omega arith));
-            token-low = s .reach .token-low;
-          })
+      reach : Reach (m .log) (currentRead m f t) (m .tokenend)
+      reach = record {
+        current-low = λ g. end-at-low (m .currentend) f v g (λ g. startOf (current (m .log) g)) (s .reach .current-low)
+            (raised-low (within t (current (m .log) f)) t e e (omega arith));
+        token-low = s .reach .token-low;
+      }
 
-      go : (z : Option Placed) → Agrees (answerWalk w f row (walked z)) (foundAnswer z, withEnds m ce (m .tokenend))
+      new : Sim (withRow w f row) (withEnds m (currentRead m f t) (m .tokenend))
+      new =
+          sim-set w m s f (currentRead m f t) (m .tokenend) row h
+          (rw (end-at-same (m .currentend) f v)) (λ g q. end-at-other (m .currentend) f v g q) (λ g q. refl) reach
+
+      go : (z : Option Placed) → Agrees (answerWalk w f row (walked z)) (foundAnswer z, withEnds m (currentRead m f t) (m .tokenend))
       go none = record { answer = refl; after = new }
       go (some x) = record { answer = refl; after = new }
 
   pub sim-read : (f t a : ℕ) → isFile (m .files) f ≡ true → Agrees (onRead w f t a (ledgerRow m f)) (ledgerRead m f t a (token (m .log) f))
   sim-read f t a h = rw (row-holds w m s f) (go (token (m .log) f) refl (token-lies (m .log) f))
     where
-      te : ℕ → ℕ
-      te = endAt (m .tokenend) f (max (m .tokenend f) t)
+      v : ℕ
+      v = max (m .tokenend f) t
 
-      row : Row
-      row = record { mark = 1; current = placeOf (current (m .log) f); currentend = m .currentend f; token = placeOf (token (m .log) f); tokenend = max (m .tokenend f) t }
+      reach : Reach (m .log) (m .currentend) (tokenRead m f t)
+      reach = record {
+        current-low = s .reach .current-low;
+        token-low = λ g. end-at-low (m .tokenend) f v g (λ g. startOf (token (m .log) g)) (s .reach .token-low) (omega arith);
+      }
 
-      new : Sim (withRow w f row) (withEnds m (m .currentend) te)
-      new = sim-set w m s f (m .currentend) te row h (rw (end-at-same (m .tokenend) f (max (m .tokenend f) t))) (λ g e. refl) (λ g e. end-at-other (m .tokenend) f (max (m .tokenend f) t) g e)
-          (record {
-            current-low = s .reach .current-low;
-            token-low = λ g. end-at-low (m .tokenend) f (max (m .tokenend f) t) g (λ g. startOf (token (m .log) g)) (s .reach .token-low) (omega arith);
-          })
+      new : Sim (withRow w f (readToken t (ledgerRow m f))) (withEnds m (m .currentend) (tokenRead m f t))
+      new =
+          sim-set w m s f (m .currentend) (tokenRead m f t) (readToken t (ledgerRow m f)) h
+          (rw (end-at-same (m .tokenend) f v)) (λ g e. refl) (λ g e. end-at-other (m .tokenend) f v g e) reach
 
       go : (z : Option Placed) → token (m .log) f ≡ z → Lies (m .log) f z
           → Agrees (onToken w f t a (ledgerRow m f) (imageOf (entryAt w (placeOf z)))) (ledgerRead m f t a z)

@@ -12,7 +12,7 @@ use Rattle.encoding.proofs.Logic.{and-true}
 use Rattle.recovery.specs.Places.{nth, put}
 use Rattle.recovery.specs.Log.{Image, opening, image, undecided, Placed, fateOf, placeOf, startOf}
 use Rattle.recovery.specs.Lawful.{current, token}
-use Rattle.recovery.specs.World.{World, refuse, entryAt, cold, isFile}
+use Rattle.recovery.specs.World.{World, Result, refuse, entryAt, cold, isFile}
 use Rattle.recovery.specs.declared.Row.{Row}
 use Rattle.recovery.specs.declared.Answer.the-variants.{Stored}
 use Rattle.recovery.proofs.Places.{nth-put-same, nth-put-other, length-put}
@@ -21,13 +21,14 @@ use Rattle.calls.specs.Calls.{begin, hasRoom, append, store, onBegin, imageOf, 
 use Rattle.promises.proofs.Logs.{ImageFits}
 use Rattle.promises.proofs.Appends.{opening-current, opening-token, image-current, image-token}
 use Rattle.promises.proofs.Fates.{opening-fates, opening-undecided}
-use Rattle.promises.proofs.Ledger.{Ledger, endAt, ledgerGrown, ledgerUndecided, ledgerRoom, ledgerWrite, ledgerRow, ledgerCall}
+use Rattle.promises.proofs.Ledger.{Ledger, endAt, ledgerGrown, ledgerUndecided, ledgerRoom, ledgerImage, ledgerWrite, ledgerRow, ledgerCall}
 use Rattle.promises.proofs.Sim.{warmOf, Sim, Agrees, agrees-cond, Lies, token-lies, room-eq, blank-ok, lies-at, row-holds, sim-append}
 
 -- begin
 module _ (w : World) (m : Ledger) (s : Sim w m) where
   pub sim-begin : Agrees (onBegin w) (ledgerCall m begin)
-  sim-begin = agrees-cond (hasRoom w (w .undecided + 2)) (ledgerRoom m (ledgerUndecided m + 2)) (rw (s .undecided) (room-eq w m s (ledgerUndecided m + 2)))
+  sim-begin =
+      agrees-cond (hasRoom w (w .undecided + 2)) (ledgerRoom m (ledgerUndecided m + 2)) (rw (s .undecided) (room-eq w m s (ledgerUndecided m + 2)))
       (λ e. rw (blank-ok w m s) (record { answer = ap Stored (ap suc (s .ends)); after = go e }))
       (λ e. record { answer = refl; after = s })
     where
@@ -52,7 +53,10 @@ module _ (w : World) (m : Ledger) (s : Sim w m) where
   sim-write f t a n h o = rw (row-holds w m s f) (go (token (m .log) f) refl (token-lies (m .log) f))
     where
       written : Image
-      written = record { file = f; action = a; link = placeOf (current (m .log) f); start = t; value = n }
+      written = ledgerImage m f t a n
+
+      after-write : Ledger
+      after-write = ledgerGrown m (image written) (m .currentend) (endAt (m .tokenend) f t) .1
 
       row : Row
       row = record { mark = 1; current = placeOf (current (m .log) f); currentend = m .currentend f; token = suc (w .end); tokenend = t }
@@ -61,7 +65,7 @@ module _ (w : World) (m : Ledger) (s : Sim w m) where
       fits-in e k = record { live = o; free = e; links = refl; later = omega (arith, s .reach .current-low f) }
 
       rows-in : ImageFits written (m .log) → (g : ℕ) → isFile (m .files) g ≡ true → (b : Bool) → eqb f g ≡ b
-          → warmOf (nth cold (put (w .rows) f row) g) (image written ∷ m .log) g ≡ ledgerRow (ledgerGrown m (image written) (m .currentend) (endAt (m .tokenend) f t) .1) g
+          → warmOf (nth cold (put (w .rows) f row) g) (image written ∷ m .log) g ≡ ledgerRow after-write g
       rows-in i g q true e = rw (
         ← eqb-true f g e,
         nth-put-same cold (w .rows) f row (is-file (m .files) f h .0) (rw (s .files) (is-file (m .files) f h .1)),
@@ -83,7 +87,7 @@ module _ (w : World) (m : Ledger) (s : Sim w m) where
       held-in i g false e = rw (image-token written (m .log) g i, e) (s .reach .token-low g)
 
       new : token (m .log) f ≡ none → m .currentend f < t → ledgerRoom m (ledgerUndecided m + 1) ≡ true
-          → Sim (append w (image written) (w .fates) (put (w .rows) f row) (w .undecided)) (ledgerGrown m (image written) (m .currentend) (endAt (m .tokenend) f t) .1)
+          → Sim (append w (image written) (w .fates) (put (w .rows) f row) (w .undecided)) after-write
       new e k r =
           let i = fits-in e k in
           sim-append w m s (image written) (w .fates) (put (w .rows) f row) (w .undecided) (m .currentend) (endAt (m .tokenend) f t) i
@@ -91,13 +95,20 @@ module _ (w : World) (m : Ledger) (s : Sim w m) where
           (s .fates) (s .undecided) (length-put (w .rows) f row ∙ s .files) (λ g q. rows-in i g q (eqb f g) refl)
           (record { current-low = λ g. rw (image-current written (m .log) g i) (s .reach .current-low g); token-low = λ g. held-in i g (eqb f g) refl })
 
-      go : (z : Option Placed) → token (m .log) f ≡ z → Lies (m .log) f z → Agrees
-          (cond (eqb (placeOf z) 0) (cond (ltb (m .currentend f) t && ltb (w .floor) t) (cond (hasRoom w (w .undecided + 1))
-          (store w (image written) (w .fates) (put (w .rows) f row) (w .undecided)) (refuse 11 0 w)) (refuse 10 0 w)) (refuse 8 (actionOf (imageOf (entryAt w (placeOf z)))) w))
-          (ledgerWrite m f t a n z)
-      go none e l = agrees-cond (ltb (m .currentend f) t && ltb (w .floor) t) (ltb (m .currentend f) t && ltb (m .floor) t) (rw (s .floor))
-          (λ q. agrees-cond (hasRoom w (w .undecided + 1)) (ledgerRoom m (ledgerUndecided m + 1)) (rw (s .undecided) (room-eq w m s (ledgerUndecided m + 1)))
-          (λ r. rw (blank-ok w m s) (record { answer = ap Stored (ap suc (s .ends)); after = new e (ltb-true (m .currentend f) t (and-true (ltb (m .currentend f) t) (ltb (m .floor) t) q .0)) r }))
+      late : Bool
+      late = ltb (m .currentend f) t && ltb (w .floor) t
+
+      room : Result
+      room = cond (hasRoom w (w .undecided + 1)) (store w (image written) (w .fates) (put (w .rows) f row) (w .undecided)) (refuse 11 0 w)
+
+      go : (z : Option Placed) → token (m .log) f ≡ z → Lies (m .log) f z
+          → Agrees (cond (eqb (placeOf z) 0) (cond late room (refuse 10 0 w)) (refuse 8 (actionOf (imageOf (entryAt w (placeOf z)))) w)) (ledgerWrite m f t a n z)
+      go none e l =
+          agrees-cond late (ltb (m .currentend f) t && ltb (m .floor) t) (rw (s .floor))
+          (λ q.
+          let k = ltb-true (m .currentend f) t (and-true (ltb (m .currentend f) t) (ltb (m .floor) t) q .0) in
+          agrees-cond (hasRoom w (w .undecided + 1)) (ledgerRoom m (ledgerUndecided m + 1)) (rw (s .undecided) (room-eq w m s (ledgerUndecided m + 1)))
+          (λ r. rw (blank-ok w m s) (record { answer = ap Stored (ap suc (s .ends)); after = new e k r }))
           (λ r. record { answer = refl; after = s }))
           (λ q. record { answer = refl; after = s })
       go (some x) e l = rw (ne-eqb (x .place) 0 (λ e. omega (arith, l .low)), lies-at w m s f x l) (record { answer = refl; after = s })

@@ -1,26 +1,24 @@
 -- A read outside any action, once answered without a refusal, is answered alike again; and nothing is written that starts by its time.
 use mathlib.Core.Path.{_≡_, refl, ap, sym, _∙_}
 use mathlib.Core.List.{List}
-use mathlib.Core.Bool.{Bool, true, false, _&&_, true≢false}
+use mathlib.Core.Bool.{Bool, true, false, true≢false}
 use mathlib.Core.Option.{Option, some, none}
 use Prim.Native.Nat.{ℕ, max, _≤_, _<_}
 use native.Mathlib.Omega.{arith}
-use lib.ListN.{length}
-use lib.Dec.{eqb, leb, ltb}
-use borrow.Author.Tests.{eqb-true, ltb-true, leb-false, lt-leb}
-use Rattle.encoding.proofs.Logic.{by-test, and-true}
-use Rattle.page.specs.Layout.{valueSize}
+use lib.Dec.{eqb, leb}
+use borrow.Author.Tests.{eqb-true, leb-false, lt-leb}
 use Rattle.recovery.specs.Log.{undecided, Placed, fateOf, imagesOf, startOf}
 use Rattle.recovery.specs.Lawful.{current, token}
 use Rattle.recovery.specs.World.{World, sizes, isFile}
-use Rattle.recovery.specs.declared.Answer.the-variants.{Refused, Stored}
+use Rattle.recovery.specs.declared.Answer.the-variants.{Stored}
 use Rattle.recovery.proofs.InspectFates.{undecided-known}
-use Rattle.calls.specs.Calls.{write, read, isDecided, call}
+use Rattle.calls.specs.Calls.{write, read, call}
 use Rattle.recovery.specs.Numbers.{isRefused}
 use Rattle.promises.proofs.Logs.{Lawful, not-unknown, fate-zero}
 use Rattle.promises.proofs.Chains.{token-live}
 use Rattle.promises.proofs.Versions.{version, Clear}
-use Rattle.promises.proofs.Ledger.{Ledger, LedgerResult, endAt, ledgerKnows, ledgerWrite, foundAnswer, within, raised, ledgerVersions, ledgerRead, ledgerCall}
+use Rattle.promises.proofs.Ledger.{Ledger, LedgerResult, endAt, foundAnswer, within, raised, ledgerVersions, ledgerRead, ledgerCall}
+use Rattle.promises.proofs.LedgerCalls.{writes}
 use Rattle.promises.proofs.Sim.{Reach}
 use Rattle.promises.proofs.SimReads.{end-at-same}
 use Rattle.promises.proofs.SimCalls.{sim-call}
@@ -83,30 +81,10 @@ again m f t v e h = rw e (go (token (m .log) f) (h .clear))
     go (some x) c = rw (lt-leb (x .image .start) t c) (ap foundAnswer (h .shows))
 
 -- where no write can start by a time, what is written starts later
-module _ (m : Ledger) (f t s a p : ℕ) (v : List ℕ) (h : Near m f t) where
-  abbrev Late : LedgerResult → Type 0
-  Late r = r .0 ≡ Stored p → t < s
-
-  refuses : (x y : ℕ) → Late (Refused x y, m)
-  refuses x y e = let z : _≡_ {A = ℕ} 0 1 = cc in absurd (omega arith)
-
-  late-write : (z : Option Placed) → Late (ledgerWrite m f s a v z)
-  late-write none =
-      by-test Late (ltb (m .currentend f) s && ltb (m .floor) s)
-      (λ e q.
-      let b = and-true (ltb (m .currentend f) s) (ltb (m .floor) s) e in
-      omega (arith, h .high, ltb-true (m .currentend f) s (b .0), ltb-true (m .floor) s (b .1)))
-      (λ e. refuses 10 0)
-  late-write (some x) = refuses 8 (x .image .action)
-
-  written-later : Late (ledgerCall m (write f s a v))
-  written-later =
-      by-test Late (isFile (m .files) f)
-      (λ e. by-test Late (leb (length v) valueSize)
-      (λ e. by-test Late (ledgerKnows m a)
-      (λ e. by-test Late (isDecided (fateOf (m .log) a)) (λ e. refuses 6 0) (λ e. late-write (token (m .log) f))) (λ e. refuses 5 0))
-      (λ e. refuses 4 0))
-      (λ e. refuses 3 0)
+written-later : (m : Ledger) (f t s a p : ℕ) (v : List ℕ) → Near m f t → ledgerCall m (write f s a v) .0 ≡ Stored p → t < s
+written-later m f t s a p v h =
+    writes (λ (r : LedgerResult). r .0 ≡ Stored p → t < s) m (λ x y e. let z : _≡_ {A = ℕ} 0 1 = cc in absurd (omega arith)) f s a v
+    (λ j k e. omega (arith, h .high))
 
 -- after a read outside any action that was answered, and any further events, calls cut at any byte among them, if each later
 -- opening's floor is at least the time that was read

@@ -2,26 +2,23 @@
 -- none starts after it. Where it answers none, every version starts later.
 use mathlib.Core.Path.{_≡_, refl, sym, _∙_, subst}
 use mathlib.Core.List.{List}
-use mathlib.Core.Bool.{true}
 use mathlib.Core.Option.{Option, some, none}
 use Prim.Native.Nat.{ℕ, _≤_, _<_}
 use native.Mathlib.Omega.{arith}
 use lib.ListN.{length}
-use lib.Dec.{eqb, leb}
-use borrow.Author.Tests.{eqb-true, leb-true}
-use Rattle.encoding.proofs.Logic.{by-test}
 use Rattle.recovery.specs.Log.{Image, Entry, image, undecided, committed, Placed, fateOf, imagesOf}
 use Rattle.recovery.specs.Lawful.{token}
-use Rattle.recovery.specs.World.{World, entryAt, fateAt, isFile}
-use Rattle.recovery.specs.declared.Answer.the-variants.{Refused, Value, Nothing}
+use Rattle.recovery.specs.World.{World, entryAt, fateAt}
+use Rattle.recovery.specs.declared.Answer.the-variants.{Value, Nothing}
 use Rattle.recovery.proofs.InspectFates.{undecided-known}
 use Rattle.calls.specs.Walk.{nothing}
-use Rattle.calls.specs.Calls.{read, isDecided, valueOf, call}
+use Rattle.calls.specs.Calls.{read, valueOf, call}
 use Rattle.promises.proofs.Logs.{known-place}
 use Rattle.promises.proofs.Chains.{Spot, Spots, spots, chain, token-live}
 use Rattle.promises.proofs.Versions.{version, Among, first, next, newest, Shows, shows, highest, all-later}
-use Rattle.promises.proofs.Ledger.{Ledger, LedgerResult, ledgerKnows, foundAnswer, ledgerRead, ledgerCall}
-use Rattle.promises.proofs.Sim.{Sim, Lies, token-lies, fate-eq, lies-at}
+use Rattle.promises.proofs.Ledger.{Ledger, LedgerResult, ledgerRefuse, foundAnswer, ledgerCall}
+use Rattle.promises.proofs.LedgerCalls.{reads}
+use Rattle.promises.proofs.Sim.{Sim, token-lies, fate-eq, lies-at}
 use Rattle.promises.proofs.SimCalls.{sim-call}
 use Rattle.promises.proofs.Shown.{token-later, among-at}
 
@@ -56,7 +53,7 @@ module _ (w : World) (m : Ledger) (s : Sim w m) (f t a : ℕ) where
     pub value : (p st n : ℕ) → r .0 ≡ Value p st n → Visible w f t a p st n
     pub nothing : r .0 ≡ Nothing → AllLater w f t
 
-  refuses : (x y : ℕ) → Sees (Refused x y, m)
+  refuses : (x y : ℕ) → Sees (ledgerRefuse x y m)
   refuses x y = record {
     value = λ p st n e. let z : _≡_ {A = ℕ} 0 1 = cc in absurd (omega arith);
     nothing = λ e. let z : _≡_ {A = ℕ} 0 1 = cc in absurd (omega arith);
@@ -106,19 +103,15 @@ module _ (w : World) (m : Ledger) (s : Sim w m) (f t a : ℕ) where
       go : Sees (valueOf x, r)
       go = make x (spot-among (m .log) f x (imagesOf (m .log) f) (spots (m .log) f) (k .among)) (k .inTime) (kept (fate-eq w m s (x .image .action) ∙ k .kept)) newest-in r
 
-  -- and within it
-  sees-token : (z : Option Placed) → token (m .log) f ≡ z → Lies (m .log) f z → Sees (ledgerRead m f t a z)
-  sees-token none i l = sees-versions (version (m .log) f t) refl _
-  sees-token (some x) i l =
-      by-test Sees (leb (x .image .start) t)
-      (λ q. by-test Sees (eqb (x .image .action) a) (λ r. make x l (leb-true (x .image .start) t q) (mine r) newest-in _) (λ r. refuses 9 (x .image .action)))
-      (λ q. sees-versions (version (m .log) f t) refl _)
+  -- and its own
+  sees-own : (x : Placed) → token (m .log) f ≡ some x → x .image .start ≤ t → x .image .action ≡ a → (r : Ledger) → Sees (valueOf x, r)
+  sees-own x i q j r = make x (rw i at (token-lies (m .log) f)) q mine newest-in r
     where
-      mine : eqb (x .image .action) a ≡ true → Whose w a (x .image)
-      mine r =
-          let j : x .image .action ≡ a = eqb-true (x .image .action) a r in
-          let u : fateOf (m .log) (x .image .action) ≡ undecided = token-live (fateOf (m .log)) (imagesOf (m .log) f) x i in
-          own (rw j at (known-place (m .log) (x .image .action) (s .lawful) (undecided-known u) .0)) j
+      live : fateOf (m .log) (x .image .action) ≡ undecided
+      live = token-live (fateOf (m .log)) (imagesOf (m .log) f) x i
+
+      mine : Whose w a (x .image)
+      mine = own (rw j at (known-place (m .log) (x .image .action) (s .lawful) (undecided-known live) .0)) j
 
       newest-in : Newest (x .image .start)
       newest-in y n c u =
@@ -126,12 +119,7 @@ module _ (w : World) (m : Ledger) (s : Sim w m) (f t a : ℕ) where
           omega (arith, newest (fateOf (m .log)) y (imagesOf (m .log) f) k n c, token-later (fateOf (m .log)) (imagesOf (m .log) f) x k i)
 
   sees-read : Sees (ledgerCall m (read f t a))
-  sees-read =
-      let k = sees-token (token (m .log) f) refl (token-lies (m .log) f) in
-      by-test Sees (isFile (m .files) f)
-      (λ e. by-test Sees (eqb a 0) (λ e. k)
-      (λ e. by-test Sees (ledgerKnows m a) (λ e. by-test Sees (isDecided (fateOf (m .log) a)) (λ e. refuses 6 0) (λ e. k)) (λ e. refuses 5 0)))
-      (λ e. refuses 3 0)
+  sees-read = reads Sees m refuses f t a (sees-versions (version (m .log) f t) refl _) (λ x e j k. sees-own x e j k _)
 
   pub read-shows : (p st n : ℕ) → call w (read f t a) .0 ≡ Value p st n → Visible w f t a p st n
   read-shows p st n e = sees-read .value p st n (sym (sim-call w m s (read f t a) .answer) ∙ e)
