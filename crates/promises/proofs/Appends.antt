@@ -85,7 +85,7 @@ pub turn-keeps : (a : ℕ) (c : Bool) (φ : ℕ → Fate) → φ a ≡ undecided
 turn-keeps a c φ h b d = cond≡ (eqb b a) (λ e. not-undecided (φ b) d (rw (eqb-true b a e) h)) (λ e. refl)
 
 -- only a file's newest image can be its token
-token-other : (φ : ℕ → Fate) (a : ℕ) (x : Placed) (xs : List Placed) → Chain φ (x ∷ xs) → eqb (x .image .action) a ≡ false
+pub token-other : (φ : ℕ → Fate) (a : ℕ) (x : Placed) (xs : List Placed) → Chain φ (x ∷ xs) → eqb (x .image .action) a ≡ false
     → owns a (tokenOf φ (x ∷ xs)) ≡ false
 unfolding tokenOf
 token-other φ a x xs h e = go (φ (x .image .action))

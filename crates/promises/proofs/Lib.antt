@@ -32,3 +32,4 @@ pub mod BoxFound
 pub mod BoxKept
 pub mod BoxShown
 pub mod BoxAlike
+pub mod Histories

@@ -82,7 +82,7 @@ abbrev pub refuses : ℕ → ℕ → Model → Reply
 refuses number place m = (Refused number place, m)
 
 abbrev pub changed : {A : Type 0} → (ℕ → A) → ℕ → A → ℕ → A
-changed h n x i = cond (eqb n i) x (h i)
+changed h n x i = cond (eqb i n) x (h i)
 
 abbrev pub withObject : Model → ℕ → Object → Model
 withObject m f x = record { pages = m .pages; files = m .files; used = m .used; floor = m .floor; undecided = m .undecided; fate = m .fate; object = changed (m .object) f x }
