@@ -33,3 +33,4 @@ pub mod BoxKept
 pub mod BoxShown
 pub mod BoxAlike
 pub mod Histories
+pub mod Objects

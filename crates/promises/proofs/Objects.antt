@@ -1,0 +1,332 @@
+-- The ledger does what the object model does: every call is answered alike, and leaves the same histories, tokens and ends.
+use Prim.Native.Nat.{ℕ, zero, suc, pred, max, _+_, _-_, _≤_, _<_}
+use mathlib.Core.Path.{_≡_, refl, sym, ap, _∙_, subst}
+use mathlib.Core.List.{List, [], _∷_}
+use mathlib.Core.Bool.{Bool, true, false, cond, _&&_, false≢true, true≢false}
+use mathlib.Core.Option.{Option, some, none}
+use native.Mathlib.Omega.{arith}
+use lib.ListN.{length}
+use lib.Dec.{eqb, leb, ltb}
+use borrow.Author.Tests.{eqb-true, eqb-false, eq-eqb, ne-eqb, leb-true, le-leb}
+use Rattle.encoding.proofs.Logic.{by-test, bool-ext, and-true}
+use Rattle.page.specs.Layout.{valueSize}
+use Rattle.recovery.specs.Log.{Image, Entry, torn, opening, image, outcome, Fate, unknown, undecided, committed, aborted, Placed, fateOf, imagesOf, verdict}
+use Rattle.recovery.specs.Log as log
+use Rattle.recovery.specs.Lawful.{current, token}
+use Rattle.recovery.specs.World.{isFile, fateNumber, fatesOf, undecidedOf}
+use Rattle.recovery.specs.declared.Answer.{Answer}
+use Rattle.recovery.specs.declared.Answer.the-variants.{Rebuilt, Stored, Told}
+use Rattle.calls.specs.Calls.{Call, begin, write, read, test, decide, rebuild, isKnown, isDecided}
+use Rattle.promises.specs.Model.{Version, Token, Object, object, Model, Reply, latest, newest, placeOf, startOf, answerOf, versionOf, refuses, changed, withObject, stores, stored, hasRoom, ofFile, ofAction, ofUndecided, writing, reaches, readHistory, reading, ended, endedBy, modelCall}
+use Rattle.promises.proofs.Logs.{Lawful, known-place}
+use Rattle.promises.proofs.Appends.{opening-token, torn-token, image-token, owns, outcome-token}
+use Rattle.promises.proofs.Fates.{opening-undecided, outcome-undecided}
+use Rattle.promises.proofs.Versions.{version}
+use Rattle.promises.proofs.Ledger.{Ledger, LedgerResult, endAt, withEnds, ledgerGrown, ledgerRefuse, ledgerUndecided, ledgerRoom, ledgerKnows, ledgerForAction, ledgerForUndecided, ledgerForFile, ledgerImage, ledgerWrite, foundAnswer, within, raised, currentRead, tokenRead, ledgerVersions, ledgerRead, currentDecided, tokenDecided, ledgerDecide, toldFate, ledgerCall}
+use Rattle.promises.proofs.Histories.{asVersion, someVersion, someToken, history, newest-is, latest-is, place-is, start-is, opening-history, torn-history, image-history, longer, outcome-history}
+
+-- ---- a ledger stands for a model; the ends count only while the box is on
+
+pub record Ends (l : Ledger) (m : Model) : Type 0 where
+  pub floor : m .floor ≡ l .floor
+  pub current : (f : ℕ) → m .object f .currentend ≡ l .currentend f
+  pub token : (f : ℕ) → m .object f .tokenend ≡ l .tokenend f
+
+pub record Stands (on : Bool) (l : Ledger) (m : Model) : Type 0 where
+  pub pages : m .pages ≡ l .pages
+  pub files : m .files ≡ l .files
+  pub used : m .used ≡ length (l .log)
+  pub undecided : m .undecided ≡ ledgerUndecided l
+  pub fate : (a : ℕ) → m .fate a ≡ fateOf (l .log) a
+  pub history : (f : ℕ) → m .object f .history ≡ history (l .log) f
+  pub token : (f : ℕ) → m .object f .token ≡ someToken (token (l .log) f)
+  pub ends : on ≡ true → Ends l m
+
+pub record Alike (r : LedgerResult) (s : Reply) : Type 0 where
+  pub answer : r .0 ≡ s .0
+  pub after : Lawful (r .1 .log) → Stands true (r .1) (s .1)
+
+alike-cond : (b c : Bool) {x y : LedgerResult} {x′ y′ : Reply} → b ≡ c → (c ≡ true → Alike x x′) → (c ≡ false → Alike y y′) → Alike (cond b x y) (cond c x′ y′)
+alike-cond true true e f g = f refl
+alike-cond true false e f g = absurd (true≢false e)
+alike-cond false true e f g = absurd (false≢true e)
+alike-cond false false e f g = g refl
+
+-- ---- one object changed
+
+module _ {A : Type 0} (P : Object → A) (h : ℕ → Object) (f : ℕ) (x : Object) (k : ℕ → A) (same : (g : ℕ) → P (h g) ≡ k g) where
+  changed-at : (v : A) → P x ≡ v → (g : ℕ) → P (changed h f x g) ≡ cond (eqb f g) v (k g)
+  changed-at v e g = go (eqb g f) refl
+    where
+      go : (b : Bool) → eqb g f ≡ b → P (cond b x (h g)) ≡ cond (eqb f g) v (k g)
+      go true q = rw (eq-eqb f g (sym (eqb-true g f q))) e
+      go false q = rw (ne-eqb f g (λ z. eqb-false g f q (sym z))) (same g)
+
+  changed-not : P x ≡ k f → (g : ℕ) → P (changed h f x g) ≡ k g
+  changed-not e g = go (eqb g f) refl
+    where
+      go : (b : Bool) → eqb g f ≡ b → P (cond b x (h g)) ≡ k g
+      go true q = rw (eqb-true g f q) e
+      go false q = same g
+
+-- ---- fates
+
+fate-opening : (l : List Entry) (a : ℕ) → fateOf (opening ∷ l) a ≡ cond (eqb a (suc (length l))) undecided (fateOf l a)
+unfolding fateOf
+fate-opening l a = refl
+
+fate-image : (i : Image) (l : List Entry) (a : ℕ) → fateOf (image i ∷ l) a ≡ fateOf l a
+unfolding fateOf
+fate-image i l a = refl
+
+fate-outcome : (b : ℕ) (c : Bool) (l : List Entry) (a : ℕ) → fateOf (outcome b c ∷ l) a ≡ cond (eqb a b) (verdict c) (fateOf l a)
+unfolding fateOf
+fate-outcome b c l a = refl
+
+fates-image : (n : ℕ) (i : Image) (l : List Entry) → fatesOf n (image i ∷ l) ≡ fatesOf n l
+unfolding fateOf
+fates-image n i l = refl
+
+-- ---- every call
+
+known-bool : (x : Fate) → isKnown x ≡ true → 1 ≤ fateNumber x
+known-bool unknown e = absurd (false≢true e)
+known-bool undecided e = omega arith
+known-bool committed e = omega arith
+known-bool aborted e = omega arith
+
+module _ (l : Ledger) (m : Model) (w : Lawful (l .log)) (room : length (l .log) ≤ l .pages) (s : Stands true l m) where
+  e : Ends l m
+  e = s .ends refl
+
+  -- the tests
+  room-is : (n n′ : ℕ) → n′ ≡ n → ledgerRoom l n ≡ hasRoom m n′
+  room-is n n′ q = rw (s .pages, s .used, q)
+
+  knows-is : (a : ℕ) → ledgerKnows l a ≡ isKnown (m .fate a)
+  knows-is a = rw (s .fate a) (bool-ext (ledgerKnows l a) (isKnown (fateOf (l .log) a)) (λ q. and-true (leb 1 a && leb a (length (l .log))) (isKnown (fateOf (l .log) a)) q .1) (λ q.
+      let p = known-place (l .log) a w (known-bool (fateOf (l .log) a) q) in
+      rw (le-leb 1 a (p .0), le-leb a (length (l .log)) (p .1)) q))
+
+  refused : (n p p′ : ℕ) → p ≡ p′ → Alike (ledgerRefuse n p l) (refuses n p′ m)
+  refused n p p′ q = record { answer = rw q; after = λ k. s }
+
+  of-file : (f : ℕ) (r : LedgerResult) (r′ : Reply) → Alike r r′ → Alike (ledgerForFile l f r) (ofFile m f r′)
+  of-file f r r′ h = alike-cond (isFile (l .files) f) (isFile (m .files) f) (rw (s .files)) (λ q. h) (λ q. refused 3 0 0 refl)
+
+  of-action : (a : ℕ) (r : LedgerResult) (r′ : Reply) → Alike r r′ → Alike (ledgerForAction l a r) (ofAction m a r′)
+  of-action a r r′ h = alike-cond (ledgerKnows l a) (isKnown (m .fate a)) (knows-is a) (λ q. h) (λ q. refused 5 0 0 refl)
+
+  of-undecided : (a : ℕ) (r : LedgerResult) (r′ : Reply) → Alike r r′ → Alike (ledgerForUndecided l a r) (ofUndecided m a r′)
+  of-undecided a r r′ h =
+      of-action a (cond (isDecided (fateOf (l .log) a)) (ledgerRefuse 6 0 l) r) (cond (isDecided (m .fate a)) (refuses 6 0 m) r′)
+      (alike-cond (isDecided (fateOf (l .log) a)) (isDecided (m .fate a)) (rw (s .fate a)) (λ q. refused 6 0 0 refl) (λ q. h))
+
+  -- begin
+  begins : ledgerRoom l (ledgerUndecided l + 2) ≡ true
+      → Alike (ledgerGrown l opening (l .currentend) (l .tokenend)) (stored m (suc (m .undecided)) (changed (m .fate) (suc (m .used)) undecided) (m .object))
+  begins q = record {
+    answer = rw (s .used);
+    after = λ k. record {
+      pages = s .pages;
+      files = s .files;
+      used = ap suc (s .used);
+      undecided = ap suc (s .undecided) ∙ sym (opening-undecided (l .pages) (l .log) w (omega (arith, leb-true (ledgerUndecided l + 2) (l .pages - length (l .log)) q)));
+      fate = λ a. rw (s .used, s .fate a) (sym (fate-opening (l .log) a));
+      history = λ f. s .history f ∙ sym (opening-history (l .log) f w);
+      token = λ f. s .token f ∙ ap someToken (sym (opening-token (l .log) f w));
+      ends = λ o. record { floor = e .floor; current = e .current; token = e .token };
+    };
+  }
+
+  -- write
+  module _ (f start a : ℕ) (v : List ℕ) where
+    abbrev given : Placed
+    given = record { place = suc (length (l .log)); image = ledgerImage l f start a v }
+
+    abbrev written : Object
+    written = object (m .object f .history) (m .object f .currentend) (some (record { action = a; version = record { place = suc (m .used); start = start; value = v } })) start
+
+    token-is : (b : Bool) (z : Option Placed) → cond b (some (record { action = a; version = record { place = suc (m .used); start = start; value = v } })) (someToken z) ≡ someToken (cond b (some given) z)
+    token-is true z = rw (s .used)
+    token-is false z = refl
+
+    writes : Alike (ledgerGrown l (image (ledgerImage l f start a v)) (l .currentend) (endAt (l .tokenend) f start)) (stored m (m .undecided) (m .fate) (changed (m .object) f written))
+    writes = record {
+      answer = rw (s .used);
+      after = λ k. record {
+        pages = s .pages;
+        files = s .files;
+        used = ap suc (s .used);
+        undecided = s .undecided ∙ ap undecidedOf (sym (fates-image (l .pages) (ledgerImage l f start a v) (l .log)));
+        fate = λ b. s .fate b ∙ sym (fate-image (ledgerImage l f start a v) (l .log) b);
+        history = λ g. changed-not (λ x. x .history) (m .object) f written (history (l .log)) (s .history) (s .history f) g ∙ sym (image-history (ledgerImage l f start a v) (l .log) g (k .0));
+        token = λ g.
+            changed-at (λ x. x .token) (m .object) f written (λ g. someToken (token (l .log) g)) (s .token) (some (record { action = a; version = record { place = suc (m .used); start = start; value = v } })) refl g
+            ∙ token-is (eqb f g) (token (l .log) g) ∙ ap someToken (sym (image-token (ledgerImage l f start a v) (l .log) g (k .0)));
+        ends = λ o. record {
+          floor = e .floor;
+          current = changed-not (λ x. x .currentend) (m .object) f written (l .currentend) (e .current) (e .current f);
+          token = changed-at (λ x. x .tokenend) (m .object) f written (l .tokenend) (e .token) start refl;
+        };
+      };
+    }
+
+    write-token : (z : Option Placed) → Alike (ledgerWrite l f start a v z) (writing m f start a v (m .object f) (someToken z))
+    write-token none =
+        alike-cond (ltb (l .currentend f) start && ltb (l .floor) start) (ltb (m .object f .currentend) start && ltb (m .floor) start) (rw (e .current f, e .floor))
+        (λ q. alike-cond (ledgerRoom l (ledgerUndecided l + 1)) (hasRoom m (m .undecided + 1)) (room-is (ledgerUndecided l + 1) (m .undecided + 1) (ap (λ n. n + 1) (s .undecided)))
+        (λ q. writes) (λ q. refused 11 0 0 refl)) (λ q. refused 10 0 0 refl)
+    write-token (some x) = refused 8 (x .image .action) (x .image .action) refl
+
+  -- read
+  module _ (f time a : ℕ) where
+    found-is : (z : Option Placed) → foundAnswer z ≡ answerOf (someVersion z)
+    found-is none = refl
+    found-is (some x) = refl
+
+    within-is : (z : Option Placed) → within time z ≡ reaches time (someVersion z)
+    within-is none = refl
+    within-is (some x) = refl
+
+    abbrev x : Object
+    x = m .object f
+
+    -- an object with other ends
+    read-ends : (c t : ℕ) (ce te : ℕ → ℕ) → ((g : ℕ) → changed (m .object) f (object (x .history) c (x .token) t) g .currentend ≡ ce g)
+        → ((g : ℕ) → changed (m .object) f (object (x .history) c (x .token) t) g .tokenend ≡ te g)
+        → Stands true (withEnds l ce te) (withObject m f (object (x .history) c (x .token) t))
+    read-ends c t ce te hc ht = record {
+      pages = s .pages;
+      files = s .files;
+      used = s .used;
+      undecided = s .undecided;
+      fate = s .fate;
+      history = changed-not (λ x. x .history) (m .object) f (object (x .history) c (x .token) t) (history (l .log)) (s .history) (s .history f);
+      token = changed-not (λ x. x .token) (m .object) f (object (x .history) c (x .token) t) (λ g. someToken (token (l .log) g)) (s .token) (s .token f);
+      ends = λ o. record { floor = e .floor; current = hc; token = ht };
+    }
+
+    raised-is : cond (reaches time (newest (x .history))) (max (x .currentend) time) (x .currentend) ≡ raised (within time (current (l .log) f)) time (l .currentend f)
+    raised-is = rw (s .history f, newest-is (fateOf (l .log)) (imagesOf (l .log) f), e .current f, within-is (current (l .log) f))
+
+    read-versions : Alike (ledgerVersions l f time) (readHistory m f time x)
+    read-versions = record {
+      answer = found-is (version (l .log) f time) ∙ ap answerOf (sym (latest-is (fateOf (l .log)) time (imagesOf (l .log) f))) ∙ ap (λ vs. answerOf (latest time vs)) (sym (s .history f));
+      after = λ k. read-ends (cond (reaches time (newest (x .history))) (max (x .currentend) time) (x .currentend)) (x .tokenend) (currentRead l f time) (l .tokenend)
+          (changed-at (λ x. x .currentend) (m .object) f _ (l .currentend) (e .current) (raised (within time (current (l .log) f)) time (l .currentend f)) raised-is)
+          (changed-not (λ x. x .tokenend) (m .object) f _ (l .tokenend) (e .token) (e .token f));
+    }
+
+    read-token : (z : Option Placed) → Alike (ledgerRead l f time a z) (reading m f time a x (someToken z))
+    read-token none = read-versions
+    read-token (some y) =
+        alike-cond (leb (y .image .start) time) (leb (y .image .start) time) refl
+        (λ q. alike-cond (eqb (y .image .action) a) (eqb (y .image .action) a) refl
+        (λ q. record {
+          answer = refl;
+          after = λ k. read-ends (x .currentend) (max (x .tokenend) time) (l .currentend) (tokenRead l f time)
+              (changed-not (λ x. x .currentend) (m .object) f _ (l .currentend) (e .current) (e .current f))
+              (changed-at (λ x. x .tokenend) (m .object) f _ (l .tokenend) (e .token) (max (l .tokenend f) time) (rw (e .token f)));
+        })
+        (λ q. refused 9 (y .image .action) (y .image .action) refl))
+        (λ q. read-versions)
+
+  -- commit and abort
+  module _ (a : ℕ) (c : Bool) where
+    abbrev left : ℕ → Object
+    left f = endedBy a c (m .object f) (m .object f .token)
+
+    -- what an outcome leaves of an object, by its token
+    module _ (x : Object) where
+      left-history : (z : Option Placed) → endedBy a c x (someToken z) .history ≡ cond (owns a z) (longer c z (x .history)) (x .history)
+      left-history none = refl
+      left-history (some y) = go (eqb (y .image .action) a) c
+        where
+          go : (b c : Bool) → cond b (ended c x (record { action = y .image .action; version = asVersion y })) x .history ≡ cond b (longer c (some y) (x .history)) (x .history)
+          go true true = refl
+          go true false = refl
+          go false c = refl
+
+      left-token : (z : Option Placed) → x .token ≡ someToken z → endedBy a c x (someToken z) .token ≡ someToken (cond (owns a z) none z)
+      left-token none q = q
+      left-token (some y) q = go (eqb (y .image .action) a) c
+        where
+          go : (b c : Bool) → cond b (ended c x (record { action = y .image .action; version = asVersion y })) x .token ≡ someToken (cond b none (some y))
+          go true true = refl
+          go true false = refl
+          go false c = q
+
+      left-current : (z : Option Placed) → endedBy a c x (someToken z) .currentend ≡ cond (owns a z) (cond c (x .tokenend) (x .currentend)) (x .currentend)
+      left-current none = refl
+      left-current (some y) = go (eqb (y .image .action) a) c
+        where
+          go : (b c : Bool) → cond b (ended c x (record { action = y .image .action; version = asVersion y })) x .currentend ≡ cond b (cond c (x .tokenend) (x .currentend)) (x .currentend)
+          go true true = refl
+          go true false = refl
+          go false c = refl
+
+      left-end : (z : Option Placed) → endedBy a c x (someToken z) .tokenend ≡ cond (owns a z) 0 (x .tokenend)
+      left-end none = refl
+      left-end (some y) = go (eqb (y .image .action) a) c
+        where
+          go : (b c : Bool) → cond b (ended c x (record { action = y .image .action; version = asVersion y })) x .tokenend ≡ cond b 0 (x .tokenend)
+          go true true = refl
+          go true false = refl
+          go false c = refl
+
+    left-is : (f : ℕ) → left f ≡ endedBy a c (m .object f) (someToken (token (l .log) f))
+    left-is f = ap (endedBy a c (m .object f)) (s .token f)
+
+    decides : Alike (ledgerGrown l (outcome a c) (currentDecided l a c) (tokenDecided l a)) (stored m (pred (m .undecided)) (changed (m .fate) a (verdict c)) left)
+    decides = record {
+      answer = rw (s .used);
+      after = λ k. record {
+        pages = s .pages;
+        files = s .files;
+        used = ap suc (s .used);
+        undecided = ap pred (s .undecided ∙ sym (outcome-undecided (l .pages) (l .log) a c w room (k .0)));
+        fate = λ b. ap (λ x. cond (eqb b a) (verdict c) x) (s .fate b) ∙ sym (fate-outcome a c (l .log) b);
+        history = λ f.
+            ap (λ x. x .history) (left-is f) ∙ left-history (m .object f) (token (l .log) f)
+            ∙ ap (λ vs. cond (owns a (token (l .log) f)) (longer c (token (l .log) f) vs) vs) (s .history f) ∙ sym (outcome-history a c (l .log) f (k .0) w);
+        token = λ f.
+            ap (λ x. x .token) (left-is f) ∙ left-token (m .object f) (token (l .log) f) (s .token f) ∙ ap someToken (sym (outcome-token a c (l .log) f (k .0) w));
+        ends = λ o. record {
+          floor = e .floor;
+          current = λ f. ap (λ x. x .currentend) (left-is f) ∙ left-current (m .object f) (token (l .log) f) ∙ rw (e .current f, e .token f);
+          token = λ f. ap (λ x. x .tokenend) (left-is f) ∙ left-end (m .object f) (token (l .log) f) ∙ rw (e .token f);
+        };
+      };
+    }
+
+  pub call-alike : (k : Call) → Alike (ledgerCall l k) (modelCall m k)
+  call-alike begin =
+      alike-cond (ledgerRoom l (ledgerUndecided l + 2)) (hasRoom m (m .undecided + 2)) (room-is (ledgerUndecided l + 2) (m .undecided + 2) (ap (λ n. n + 2) (s .undecided)))
+      (λ q. begins (room-is (ledgerUndecided l + 2) (m .undecided + 2) (ap (λ n. n + 2) (s .undecided)) ∙ q)) (λ q. refused 11 0 0 refl)
+  call-alike (write f start a v) =
+      of-file f _ _ (alike-cond (leb (length v) valueSize) (leb (length v) valueSize) refl
+      (λ q. of-undecided a _ _ (subst (λ z. Alike (ledgerWrite l f start a v (token (l .log) f)) (writing m f start a v (m .object f) z)) (sym (s .token f)) (write-token f start a v (token (l .log) f))))
+      (λ q. refused 4 0 0 refl))
+  call-alike (read f time a) =
+      let r = subst (λ z. Alike (ledgerRead l f time a (token (l .log) f)) (reading m f time a (m .object f) z)) (sym (s .token f)) (read-token f time a (token (l .log) f)) in
+      of-file f _ _ (alike-cond (eqb a 0) (eqb a 0) refl (λ q. r) (λ q. of-undecided a _ _ r))
+  call-alike (test a) = of-action a _ _ (record { answer = rw (s .fate a); after = λ k. s })
+  call-alike (decide a c) =
+      of-undecided a _ _ (alike-cond (ledgerRoom l 1) (hasRoom m 1) (room-is 1 1 refl) (λ q. decides a c) (λ q. refused 11 0 0 refl))
+  call-alike (rebuild f) = of-file f _ _ (record {
+    answer = rw (
+      s .history f,
+      newest-is (fateOf (l .log)) (imagesOf (l .log) f),
+      place-is (current (l .log) f),
+      s .token f,
+      token-place (token (l .log) f),
+      e .current f,
+      e .token f,
+    );
+    after = λ k. s;
+  })
+    where
+      token-place : (z : Option Placed) → placeOf (versionOf (someToken z)) ≡ log.placeOf z
+      token-place none = refl
+      token-place (some x) = refl
