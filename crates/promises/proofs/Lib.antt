@@ -34,3 +34,5 @@ pub mod BoxShown
 pub mod BoxAlike
 pub mod Histories
 pub mod Objects
+pub mod ModelRuns
+pub mod Proved

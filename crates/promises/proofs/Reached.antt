@@ -70,7 +70,7 @@ module _ (files n : ℕ) (sz : sizes n n files ≡ true) where
   zero-clean (suc q) h false e =
       List·getD-eq-default (pages files n (replicate (pageSize * n) 0)) blank (omega (arith, pages-long files n (replicate (pageSize * n) 0), leb-false (suc q) n e))
 
-  blank-at : At n files false (worldOf files n (blankBox n)) (blankLedger n files)
+  pub blank-at : At n files false (worldOf files n (blankBox n)) (blankLedger n files)
   unfolding down
   blank-at = record {
     pages = refl;
@@ -90,7 +90,7 @@ pub record Reached (n files : ℕ) (b : Box) : Type 0 where
   pub sound : Sound files n b
 
 module _ (n files : ℕ) where
-  pub reached-blank : sizes n n files ≡ true → Reached n files (blankBox n)
+  abbrev pub reached-blank : sizes n n files ≡ true → Reached n files (blankBox n)
   reached-blank sz = record { sized = sz; ledger = blankLedger n files; at = blank-at files n sz; sound = record { long = length-replicate (pageSize * n) 0; rows = tt } }
 
   pub follows : (b : Box) → Reached n files b → (es : List Event) → AllAllowed n files es → RunFollows files n b es
