@@ -1,5 +1,5 @@
 -- What a call appends obeys the rules of its page, and the opening of its action stands in the log.
-use Prim.Native.Nat.{ℕ, suc, _+_, _≤_, _<_}
+use Prim.Native.Nat.{ℕ, suc, _+_, _≤_}
 use mathlib.Core.Path.{_≡_, refl, _∙_}
 use mathlib.Core.List.{List, [], _∷_}
 use mathlib.Core.Bool.{Bool, true, false, cond, _&&_}
@@ -10,13 +10,13 @@ use lib.Dec.{eqb, leb, ltb}
 use borrow.Author.Tests.{leb-true}
 use Rattle.encoding.proofs.Logic.{by-test}
 use Rattle.page.specs.Layout.{valueSize}
-use Rattle.recovery.specs.Log.{Entry, blank, torn, bad, opening, image, outcome, Fate, undecided, Placed, fateOf, imagesOf, verdict}
+use Rattle.recovery.specs.Log.{Entry, blank, torn, bad, opening, image, outcome, undecided, Placed, fateOf, imagesOf, verdict}
 use Rattle.recovery.specs.Lawful.{token}
 use Rattle.recovery.specs.World.{isFile}
 use Rattle.recovery.proofs.Lookups.{is-file}
 use Rattle.calls.specs.Calls.{Call, begin, write, read, test, decide, rebuild, isDecided}
 use Rattle.promises.specs.Runs.{Typed}
-use Rattle.promises.proofs.Logs.{entryIn, entry-cons, Lawful, Known, not-undecided, known-place, verdict-decided}
+use Rattle.promises.proofs.Logs.{entryIn, entry-cons, Lawful, not-undecided, known-place, verdict-decided}
 use Rattle.promises.proofs.Chains.{spots, current-high}
 use Rattle.promises.proofs.Ledger.{Ledger, LedgerResult, ledgerForUndecided, ledgerWrite, ledgerRead, ledgerCall, ledgerKnows, ledgerRoom, ledgerUndecided}
 use Rattle.promises.proofs.Stored.{Fitting}

@@ -1,27 +1,27 @@
 -- What a run has stored is found: the page of every answered call, of a cut one exactly if all its bytes are stored; and the fates.
-use Prim.Native.Nat.{ℕ, zero, suc, _+_, _*_, _≤_, _<_}
+use Prim.Native.Nat.{ℕ, suc, _≤_, _<_}
 use mathlib.Core.Path.{_≡_, refl, sym, ap, _∙_, subst}
-use mathlib.Core.List.{List, [], _∷_, _++_}
-use mathlib.Core.Bool.{Bool, true, false}
-use mathlib.Core.Option.{Option, some, none}
+use mathlib.Core.List.{List}
+use mathlib.Core.Bool.{Bool, true}
+use mathlib.Core.Option.{some, none}
 use native.Mathlib.Omega.{arith}
-use lib.ListN.{length, take, drop}
+use lib.ListN.{length}
 use Rattle.page.specs.Layout.{pageSize}
-use Rattle.recovery.specs.Log.{Entry, blank, torn, bad, opening, image, outcome, Fate, verdict}
-use Rattle.recovery.specs.Sheet.{pageBytes, sealed}
+use Rattle.recovery.specs.Log.{Entry, torn, image, verdict}
+use Rattle.recovery.specs.Sheet.{sealed}
 use Rattle.recovery.specs.World.{World, entryAt, fateNumber}
 use Rattle.recovery.specs.declared.Answer.{Answer}
 use Rattle.recovery.specs.declared.Answer.the-variants.{Stored, Told}
+use Rattle.recovery.specs.Lent.{Left}
 use Rattle.calls.specs.Calls.{Call, begin, write, read, test, decide, rebuild, call}
-use Rattle.promises.specs.Runs.{Memory, Box, on, off, sheetOf, Event, calls, cuts, callOn, answerTo, after, runs, Typed, AllAllowed}
+use Rattle.promises.specs.Runs.{Box, on, off, sheetOf, Event, calls, cuts, callOn, answerTo, after, runs, Typed, AllAllowed}
 use Rattle.promises.specs.Promises.{IsPageOf}
-use Rattle.promises.proofs.Ledger.{Ledger, ledgerCall}
+use Rattle.promises.proofs.Ledger.{ledgerCall}
 use Rattle.promises.proofs.Written.{Writes}
-use Rattle.promises.proofs.Found.{Found, wrote, called, answered-found, cut-found, cut-torn}
+use Rattle.promises.proofs.Found.{wrote, called, answered-found, cut-found, cut-torn}
 use Rattle.promises.proofs.FatesTold.{outcome-told, begin-told}
 use Rattle.promises.proofs.PageRuns as paged
-use Rattle.promises.proofs.PageRuns.{At}
-use Rattle.promises.proofs.ByteRuns.{worldIn, worldOf, isOn, answer-is, Follows, event-follows, eventsOf, eventsIn, at-next, run-follows}
+use Rattle.promises.proofs.ByteRuns.{worldIn, worldOf, isOn, answer-is, Follows, event-follows, eventsOf, eventsIn, run-follows}
 use Rattle.promises.proofs.Reached.{Reached, reached-next, reached-on, page-in}
 
 -- ---- answers
@@ -60,7 +60,7 @@ module _ (n files : ℕ) where
     then-world = run-follows files n (r .sized) (after b e) (next .ledger) (next .at) (next .sound) es al .world ∙ ap (λ w. paged.runs w then) (t .world)
 
   -- a call that stored a page on a box that is on
-  module _ (m : Memory) (r : Reached n files (on m)) (k : Call) (t : Typed k) (place : ℕ) (e : callOn m k .answer ≡ Stored place) where
+  module _ (m : Left) (r : Reached n files (on m)) (k : Call) (t : Typed k) (place : ℕ) (e : callOn m k .answer ≡ Stored place) where
     abbrev w : World
     w = worldIn files n m
 
@@ -128,7 +128,7 @@ module _ (n files : ℕ) where
 
   -- ---- the fates
 
-  module _ (m : Memory) (r : Reached n files (on m)) (es : List Event) (al : AllAllowed n files es) where
+  module _ (m : Left) (r : Reached n files (on m)) (es : List Event) (al : AllAllowed n files es) where
     after-call : (k : Call) → Typed k → Reached n files (runs (after (on m) (calls k)) es)
     after-call k t =
         let f = event-follows files n (r .sized) (on m) (r .ledger) (r .at) (r .sound) (calls k) t in

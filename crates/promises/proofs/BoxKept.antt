@@ -2,27 +2,26 @@
 use Prim.Native.Nat.{ℕ, zero, suc, _+_, _-_, _*_, _/_, min, _≤_, _<_}
 use mathlib.Core.Path.{_≡_, refl, sym, ap, _∙_, subst}
 use mathlib.Core.List.{List, [], _∷_, _++_}
-use mathlib.Core.Bool.{Bool, true, false, cond}
+use mathlib.Core.Bool.{Bool, true, false}
 use native.Mathlib.Omega.{arith}
 use lib.ListN.{length, getD, take, drop, length-append, length-take, length-drop, take-append-drop, drop-of-length-le, List·getD-append, List·getD-eq-default}
-use lib.Seq.{ext-getD, getD-take, getD-drop, length-take-le}
+use lib.Seq.{ext-getD, getD-take, getD-drop}
 use lib.Dec.{leb}
 use borrow.Author.Tests.{leb-true, leb-false}
 use Rattle.encoding.proofs.Logic.{by-test}
 use Rattle.page.specs.Layout.{pageSize}
-use Rattle.recovery.specs.Log.{Entry, blank}
+use Rattle.recovery.specs.Log.{blank}
 use Rattle.recovery.specs.Sheet.{pageBytes, sealed}
-use Rattle.recovery.specs.World.{Result, entryAt, opened}
+use Rattle.recovery.specs.World.{opened}
 use Rattle.recovery.specs.Numbers.{isRefused}
 use Rattle.recovery.specs.Lent.{Left, rowLength, rowsOf, pagesOf, whole, leaves, refused, closed, openLeaves}
 use Rattle.calls.specs.Calls.{Call}
 use Rattle.calls.proofs.OnePage.{SameBut, only-one-page}
-use Rattle.promises.specs.Runs.{Memory, Box, on, off, sheetOf, Event, calls, opens, cuts, callOn, memoryOf, boxOf, storedTo, after, runs, AllAllowed}
-use Rattle.promises.proofs.Ledger.{Ledger}
+use Rattle.promises.specs.Runs.{Box, on, off, sheetOf, Event, calls, opens, cuts, callOn, boxOf, storedTo, after, runs, AllAllowed}
 use Rattle.promises.proofs.PageRuns as paged
-use Rattle.promises.proofs.PageRuns.{At, stands-off}
-use Rattle.promises.proofs.Extends.{Extends, ext-refl, extends}
-use Rattle.promises.proofs.ByteRuns.{worldOf, isOn, Follows, event-follows, eventsOf, at-next}
+use Rattle.promises.proofs.PageRuns.{stands-off}
+use Rattle.promises.proofs.Extends.{ext-refl, extends}
+use Rattle.promises.proofs.ByteRuns.{worldOf, isOn, event-follows, eventsOf}
 use Rattle.promises.proofs.Reached.{Reached, reached-next, follows, page-in}
 
 -- sheets as long, with the same bytes up to a place
@@ -44,7 +43,7 @@ same-page q s t h (suc r) k = ext-getD 0 (pageBytes t (suc r)) (pageBytes s (suc
 
 -- ---- each event
 
-module _ (m : Memory) (k : Call) where
+module _ (m : Left) (k : Call) where
   one : SameBut (m .state .end) (m .sheet) (callOn m k .sheet)
   one = only-one-page (m .sheet) (m .fates) (m .rows) (m .state) k
 
@@ -87,7 +86,7 @@ open-sheet s fates rows floor = by-test (λ (x : Left). x .sheet ≡ s) (whole (
 
 pub open-box : (s fates rows : List ℕ) (floor : ℕ) → sheetOf (boxOf (openLeaves s fates rows floor)) ≡ s
 open-box s fates rows floor = by-test (λ (b : Box). sheetOf b ≡ s) (isRefused (openLeaves s fates rows floor .answer))
-    {x = off (openLeaves s fates rows floor .sheet)} {y = on (memoryOf (openLeaves s fates rows floor))} (λ e. open-sheet s fates rows floor) (λ e. open-sheet s fates rows floor)
+    {x = off (openLeaves s fates rows floor .sheet)} {y = on (openLeaves s fates rows floor)} (λ e. open-sheet s fates rows floor) (λ e. open-sheet s fates rows floor)
 
 -- ---- a run
 

@@ -1,43 +1,38 @@
 -- Whole or not at all, of a box that a run has reached: a committed action shows all its versions, any other none outside itself.
-use Prim.Native.Nat.{ℕ, zero, suc, _*_, _≤_, _<_}
+use Prim.Native.Nat.{ℕ, zero, suc, _≤_, _<_}
 use mathlib.Core.Path.{_≡_, refl, sym, ap, _∙_, subst}
-use mathlib.Core.List.{List, [], _∷_}
 use mathlib.Core.Bool.{Bool, true, false}
-use mathlib.Core.Option.{Option, some, none}
+use mathlib.Core.Option.{some, none}
 use native.Mathlib.Omega.{arith}
 use lib.ListN.{length}
 use lib.Dec.{leb}
 use borrow.Author.Tests.{leb-true, leb-false, le-leb}
 use Rattle.encoding.proofs.Logic.{by-test}
-use Rattle.page.specs.Layout.{pageSize}
-use Rattle.recovery.specs.Log.{Image, Entry, blank, image, Fate, unknown, undecided, committed, aborted, fateOf}
+use Rattle.recovery.specs.Log.{Image, blank, image, Fate, unknown, undecided, committed, aborted, fateOf}
 use Rattle.recovery.specs.Sheet.{decoded, sealed}
 use Rattle.recovery.specs.World.{World, entryAt, fateAt, fateNumber, isFile}
 use Rattle.recovery.specs.declared.Answer.{Answer}
-use Rattle.recovery.specs.declared.Answer.the-variants.{Refused, Value, Told}
-use Rattle.calls.specs.Calls.{Call, read, test, call}
-use Rattle.promises.specs.Runs.{Memory, Box, on, off, sheetOf, calls, callOn, answerTo}
+use Rattle.recovery.specs.declared.Answer.the-variants.{Refused, Value, Nothing, Told}
+use Rattle.recovery.specs.Lent.{Left}
+use Rattle.calls.specs.Calls.{read, test, call}
+use Rattle.promises.specs.Runs.{Box, on, off, sheetOf, calls, callOn, answerTo}
+use Rattle.promises.specs.Promises.{IsVersion, Shown}
 use Rattle.promises.proofs.Ledger.{Ledger, LedgerResult, ledgerKnows, toldFate, ledgerCall}
 use Rattle.promises.proofs.Sim.{Sim, fate-eq}
 use Rattle.promises.proofs.SimCalls.{sim-call}
 use Rattle.promises.proofs.Shown.{committed-shown, own-shown}
-use Rattle.promises.proofs.Visible.{Whose, kept, own, read-shows}
+use Rattle.promises.proofs.Visible.{Whose, kept, own, read-shows, read-none}
 use Rattle.promises.proofs.FatesTold.{test-known}
 use Rattle.promises.proofs.Replaced.{unsealed, bad-image, lies-below, Below}
-use Rattle.promises.proofs.ByteRuns.{worldIn, worldOf, answer-is}
+use Rattle.promises.proofs.ByteRuns.{worldIn, answer-is}
 use Rattle.promises.proofs.Reached.{Reached, page-in, page-lies}
 use Rattle.promises.proofs.BoxFound.{some-is, not-heard}
 
 -- what a test tells is the fate
 told-number : (w : World) (l : Ledger) (s : Sim w l) (a y : ℕ) → call w (test a) .0 ≡ Told y → fateNumber (fateOf (l .log) a) ≡ y
-told-number w l s a y e = go (ledgerKnows l a) refl (sym (sim-call w l s (test a) .answer) ∙ e)
-  where
-    Is : LedgerResult → Type 0
-    Is r = r .0 ≡ Told y → fateNumber (fateOf (l .log) a) ≡ y
-
-    go : (b : Bool) → ledgerKnows l a ≡ b → ledgerCall l (test a) .0 ≡ Told y → fateNumber (fateOf (l .log) a) ≡ y
-    go b q = by-test (λ (r : LedgerResult). r .0 ≡ Told y → fateNumber (fateOf (l .log) a) ≡ y) (ledgerKnows l a) {x = (toldFate (fateOf (l .log) a), l)} {y = (Refused 5 0, l)}
-        (λ t h. cc) (λ t h. let z : _≡_ {A = ℕ} 0 1 = cc in absurd (omega arith))
+told-number w l s a y e = by-test (λ (r : LedgerResult). r .0 ≡ Told y → fateNumber (fateOf (l .log) a) ≡ y) (ledgerKnows l a)
+    {x = (toldFate (fateOf (l .log) a), l)} {y = (Refused 5 0, l)} (λ t h. cc) (λ t h. let z : _≡_ {A = ℕ} 0 1 = cc in absurd (omega arith))
+    (sym (sim-call w l s (test a) .answer) ∙ e)
 
 committed-is : (x : Fate) → fateNumber x ≡ 2 → x ≡ committed
 committed-is unknown e = absurd (omega arith)
@@ -53,7 +48,7 @@ undecided-is aborted e = absurd (omega arith)
 
 module _ (n files : ℕ) where
   -- an image of the box, where its world has it
-  module _ (m : Memory) (r : Reached n files (on m)) (place : ℕ) (i : Image) (e : sealed files (m .sheet) place ≡ image i) where
+  module _ (m : Left) (r : Reached n files (on m)) (place : ℕ) (i : Image) (e : sealed files (m .sheet) place ≡ image i) where
     abbrev w : World
     w = worldIn files n m
 
@@ -118,37 +113,56 @@ module _ (n files : ℕ) where
 
   -- ---- what a read shows
 
-  abbrev pub Shows : Box → ℕ → ℕ → ℕ → ℕ → ℕ → ℕ → Type 0
-  Shows b file time action place start size =
-      (i : Image) × (sealed files (sheetOf b) place ≡ image i) × (i .file ≡ file) × (i .start ≡ start) × (length (i .value) ≡ size) × (start ≤ time) × (1 ≤ i .action)
-      × ((i .action ≡ action → ⊥) → answerTo b (calls (test (i .action))) ≡ some (Told 2))
+  module _ (m : Left) (r : Reached n files (on m)) (f t a : ℕ) where
+    -- a place that the world has an image at
+    place-in : (p : ℕ) (i : Image) → entryAt (worldIn files n m) p ≡ image i → (1 ≤ p) × (p ≤ n)
+    place-in zero i e = let z : _≡_ {A = ℕ} 0 1 = cc in absurd (omega arith)
+    place-in (suc q) i e = go (leb (suc q) (m .state .end)) refl
+      where
+        go : (b : Bool) → leb (suc q) (m .state .end) ≡ b → (1 ≤ suc q) × (suc q ≤ n)
+        go true k = (omega arith, omega (arith, leb-true (suc q) (m .state .end) k, r .at .stands .ends, r .at .stands .room, r .at .pages))
+        go false k =
+            let z : image i ≡ blank = sym e ∙ r .at .stands .clean (suc q) (leb-false (suc q) (m .state .end) k) in
+            let y : _≡_ {A = ℕ} 0 1 = cc in absurd (omega arith)
 
-  shows-on : (m : Memory) (r : Reached n files (on m)) (f t a p s l : ℕ) → callOn m (read f t a) .answer ≡ Value p s l → Shows (on m) f t a p s l
-  shows-on m r f t a p s l e =
-      let w = worldIn files n m in
-      let v = read-shows w (r .ledger) (r .at .stands) f t a p s l (sym (answer-is files n m (r .sound) (read f t a)) ∙ e) in
-      let x = v .seen in
-      let inside : (1 ≤ p) × (p ≤ n) = place-in p (v .seen) (v .here) in
-      let here : sealed files (m .sheet) p ≡ image (v .seen) = sym (page-in n files (on m) p (inside .0) (inside .1)) ∙ v .here in
-      (v .seen, here, v .file, v .start, v .len, v .inTime, numbers m r p (v .seen) here .1, λ o. ap some (committed-told (v .seen) (v .whose) o))
-    where
-      place-in : (p : ℕ) (i : Image) → entryAt (worldIn files n m) p ≡ image i → (1 ≤ p) × (p ≤ n)
-      place-in zero i e = let z : _≡_ {A = ℕ} 0 1 = cc in absurd (omega arith)
-      place-in (suc q) i e = go (leb (suc q) (m .state .end)) refl
-        where
-          go : (b : Bool) → leb (suc q) (m .state .end) ≡ b → (1 ≤ suc q) × (suc q ≤ n)
-          go true k = (omega arith, omega (arith, leb-true (suc q) (m .state .end) k, r .at .stands .ends, r .at .stands .room, r .at .pages))
-          go false k =
-              let z : image i ≡ blank = sym e ∙ r .at .stands .clean (suc q) (leb-false (suc q) (m .state .end) k) in
-              let y : _≡_ {A = ℕ} 0 1 = cc in absurd (omega arith)
+    committed-told : (i : Image) → Whose (worldIn files n m) a i → (i .action ≡ a → ⊥) → callOn m (test (i .action)) .answer ≡ Told 2
+    committed-told i (kept c) o =
+        let d : fateOf (r .ledger .log) (i .action) ≡ committed = sym (fate-eq (worldIn files n m) (r .ledger) (r .at .stands) (i .action)) ∙ c in
+        answer-is files n m (r .sound) (test (i .action))
+        ∙ test-known (worldIn files n m) (r .ledger) (i .action) (r .at .stands) (rw d (omega arith)) ∙ ap toldFate d
+    committed-told i (own h q) o = absurd (o q)
 
-      committed-told : (i : Image) → Whose (worldIn files n m) a i → (i .action ≡ a → ⊥) → callOn m (test (i .action)) .answer ≡ Told 2
-      committed-told i (kept c) o =
-          let d : fateOf (r .ledger .log) (i .action) ≡ committed = sym (fate-eq (worldIn files n m) (r .ledger) (r .at .stands) (i .action)) ∙ c in
-          answer-is files n m (r .sound) (test (i .action))
-          ∙ test-known (worldIn files n m) (r .ledger) (i .action) (r .at .stands) (rw d (omega arith)) ∙ ap toldFate d
-      committed-told i (own h q) o = absurd (o q)
+    said : (x : Answer) → callOn m (read f t a) .answer ≡ x → call (worldIn files n m) (read f t a) .0 ≡ x
+    said x e = sym (answer-is files n m (r .sound) (read f t a)) ∙ e
 
-  pub box-shows : (b : Box) → Reached n files b → (f t a p s l : ℕ) → answerTo b (calls (read f t a)) ≡ some (Value p s l) → Shows b f t a p s l
+    shows-on : (p s l : ℕ) → callOn m (read f t a) .answer ≡ Value p s l → Shown n files (on m) f t a p s l
+    shows-on p s l e =
+        let v = read-shows (worldIn files n m) (r .ledger) (r .at .stands) f t a p s l (said (Value p s l) e) in
+        let inside : (1 ≤ p) × (p ≤ n) = place-in p (v .seen) (v .here) in
+        let here : sealed files (m .sheet) p ≡ image (v .seen) = sym (page-in n files (on m) p (inside .0) (inside .1)) ∙ v .here in
+        record { seen = v .seen; here = here; is = (v .file, v .start, v .len, v .inTime); whose = λ o. (here, v .file, ap some (committed-told (v .seen) (v .whose) o)) }
+
+    -- the highest start that is not above the time
+    module _ (q : ℕ) (i : Image) (v : IsVersion n files (on m) f q i) where
+      fate : fateAt (worldIn files n m) (i .action) ≡ committed
+      fate = committed-is (fateAt (worldIn files n m) (i .action)) (fate-is m r q i (v .0) 2 (some-is (v .2)))
+
+      highest-on : (p s l : ℕ) → callOn m (read f t a) .answer ≡ Value p s l → i .start ≤ t → i .start ≤ s
+      highest-on p s l e k =
+          read-shows (worldIn files n m) (r .ledger) (r .at .stands) f t a p s l (said (Value p s l) e) .latest q i (end-is m r q i (v .0)) (entry-is m r q i (v .0)) (v .1) fate k
+
+      later-on : callOn m (read f t a) .answer ≡ Nothing → t < i .start
+      later-on e = read-none (worldIn files n m) (r .ledger) (r .at .stands) f t a (said Nothing e) q i (end-is m r q i (v .0)) (entry-is m r q i (v .0)) (v .1) fate
+
+  pub box-shows : (b : Box) → Reached n files b → (f t a p s l : ℕ) → answerTo b (calls (read f t a)) ≡ some (Value p s l) → Shown n files b f t a p s l
   box-shows (on m) r f t a p s l e = shows-on m r f t a p s l (some-is e)
   box-shows (off u) r f t a p s l e = not-heard e
+
+  pub box-highest : (b : Box) → Reached n files b → (f t a p s l : ℕ) → answerTo b (calls (read f t a)) ≡ some (Value p s l) → (q : ℕ) (i : Image) → IsVersion n files b f q i
+      → i .start ≤ t → i .start ≤ s
+  box-highest (on m) r f t a p s l e q i v k = highest-on m r f t a q i v p s l (some-is e) k
+  box-highest (off u) r f t a p s l e q i v k = not-heard e
+
+  pub box-later : (b : Box) → Reached n files b → (f t a : ℕ) → answerTo b (calls (read f t a)) ≡ some Nothing → (q : ℕ) (i : Image) → IsVersion n files b f q i → t < i .start
+  box-later (on m) r f t a e q i v = later-on m r f t a q i v (some-is e)
+  box-later (off u) r f t a e q i v = not-heard e

@@ -1,12 +1,12 @@
 -- A call over bytes is the call over decoded pages: the bytes that it leaves, or that a cut leaves of it, are the pages that it
 -- leaves.
-use Prim.Native.Nat.{ℕ, zero, suc, _+_, _-_, _*_, _/_, min, _≤_, _<_}
-use mathlib.Core.Path.{_≡_, refl, sym, ap, _∙_, subst}
+use Prim.Native.Nat.{ℕ, zero, suc, _+_, _-_, _*_, min, _≤_, _<_}
+use mathlib.Core.Path.{_≡_, refl, sym, ap, _∙_}
 use mathlib.Core.List.{List, [], _∷_, _++_, append-nil, append-assoc}
 use mathlib.Core.Bool.{Bool, true, false, cond}
 use native.Mathlib.Omega.{arith}
 use lib.ListN.{length, getD, take, drop, replicate, length-append, length-take, length-drop, length-replicate, take-append-drop}
-use lib.Seq.{ext-getD, take-all, take-at, length-take-le, take-append-le, drop-append-le, take-append-add, drop-append-add, drop-drop, take-add}
+use lib.Seq.{ext-getD, take-all, length-take-le, take-append-le, drop-append-le, take-append-add, drop-append-add, drop-drop}
 use lib.Dec.{eqb, leb, ltb}
 use borrow.Author.Tests.{eqb-true, leb-true, leb-false, eq-eqb, ne-eqb, le-ltb}
 use Rattle.encoding.specs.Bytes.{zeros}
@@ -17,14 +17,14 @@ use Rattle.page.specs.Layout.{pageSize, mostPlaces, mostFiles}
 use Rattle.page.specs.Answers.{tested, cut}
 use Rattle.page.proofs.Found.{found}
 use Rattle.page.proofs.RoundTrip.{cut-whole}
-use Rattle.recovery.specs.Places.{nth, put}
+use Rattle.recovery.specs.Places.{put}
 use Rattle.recovery.specs.Log.{Entry, blank, torn, bad, opening, image, outcome, fateOf, undecided}
 use Rattle.recovery.specs.Sheet.{pageBytes, entryOf, isOpening, decoded, seal, sealed, pages}
 use Rattle.recovery.specs.World.{World, entryAt}
-use Rattle.recovery.proofs.Pages.{page-at-place, pages-long}
+use Rattle.recovery.proofs.Pages.{page-at-place}
 use Rattle.calls.specs.Effect.{packedEntry, withPage, grown}
 use Rattle.promises.specs.Runs.{storedTo}
-use Rattle.promises.proofs.Logs.{entryIn, entry-top, Fits, Lawful}
+use Rattle.promises.proofs.Logs.{entryIn, entry-top, Fits}
 use Rattle.promises.proofs.Fates.{entry-down}
 use Rattle.promises.proofs.Openings.{Holds}
 use Rattle.promises.proofs.Cuts.{partial, holds-put}

@@ -1,32 +1,30 @@
 -- A run over bytes is a run over decoded pages: each event of a box is one of its world, or none if the box is off.
-use Prim.Native.Nat.{ℕ, zero, suc, _+_, _-_, _*_, _/_, _%_, _≤_, _<_}
+use Prim.Native.Nat.{ℕ, suc, _+_, _*_, _/_, _%_, _≤_}
 use mathlib.Core.Path.{_≡_, refl, sym, ap, _∙_, subst}
 use mathlib.Core.List.{List, [], _∷_, _++_}
-use mathlib.Core.Bool.{Bool, true, false, cond, _&&_, false≢true, true≢false}
+use mathlib.Core.Bool.{Bool, true, false, cond, _&&_}
 use mathlib.Core.Option.{Option, some, none}
 use native.Mathlib.Omega.{arith}
-use lib.ListN.{length, take, drop, replicate, length-replicate}
+use lib.ListN.{length}
 use lib.Dec.{eqb, leb}
-use borrow.Author.Tests.{eqb-true, leb-true, eq-eqb}
+use borrow.Author.Tests.{leb-true}
 use Rattle.encoding.proofs.Logic.{and-true, and-false, by-test}
 use Rattle.page.specs.Layout.{pageSize, mostPlaces, mostFiles}
-use Rattle.recovery.specs.Log.{Entry, blank}
+use Rattle.recovery.specs.Log.{Entry}
 use Rattle.recovery.specs.Sheet.{pages}
 use Rattle.recovery.specs.Numbers.{isRefused}
 use Rattle.recovery.specs.World.{World, Result, entryAt, sizes, down, endOf, highestBad, opened, unopened}
-use Rattle.recovery.specs.Lent.{Left, rowLength, rowsOf, flat, lent, pagesOf, whole, sizesRight, stateOf, leaves, refused, closed, openLeaves}
-use Rattle.recovery.specs.declared.State.{State}
+use Rattle.recovery.specs.Lent.{Left, rowLength, rowsOf, lent, whole, sizesRight, leaves, refused, closed, openLeaves}
 use Rattle.recovery.specs.declared.Row.{Row}
 use Rattle.recovery.specs.declared.Answer.{Answer}
-use Rattle.recovery.specs.declared.Answer.the-variants.{Refused, Opened}
+use Rattle.recovery.specs.declared.Answer.the-variants.{Refused}
 use Rattle.recovery.proofs.FlatRows.{rows-long, flat-long, flat-rows}
-use Rattle.recovery.proofs.Pages.{pages-long}
 use Rattle.recovery.proofs.Sizes.{sizes-right}
 use Rattle.recovery.proofs.OpeningLaws.{open-refused}
 use Rattle.calls.specs.Calls.{Call, call}
 use Rattle.calls.specs.Effect.{grown, lower, callLeaves}
-use Rattle.promises.specs.Runs.{Memory, Box, on, off, sheetOf, Event, calls, opens, cuts, callOn, memoryOf, boxOf, storedTo, answerTo, after, runs, Typed, Allowed, AllAllowed, blankBox, Run}
-use Rattle.promises.proofs.Ledger.{Ledger, ledgerCall, ledgerOpened}
+use Rattle.promises.specs.Runs.{Box, on, off, sheetOf, Event, calls, opens, cuts, callOn, boxOf, storedTo, answerTo, after, runs, Typed, Allowed, AllAllowed}
+use Rattle.promises.proofs.Ledger.{Ledger, ledgerCall}
 use Rattle.promises.proofs.Openings.{Holds, sim-holds, sim-open}
 use Rattle.promises.proofs.Cuts.{partial, cutSheet, moves}
 use Rattle.recovery.specs.Places.{put}
@@ -61,7 +59,7 @@ open-sheet s fates rows floor = by-test (λ (r : Result). r .1 .sheet ≡ s) (si
 module _ (files n : ℕ) where
   -- ---- a box as a world
 
-  abbrev pub worldIn : Memory → World
+  abbrev pub worldIn : Left → World
   worldIn m = record { sheet = pages files n (m .sheet); fates = m .fates; rows = rowsOf (m .rows); end = m .state .end; floor = m .state .floor; undecided = m .state .undecided }
 
   abbrev pub worldOf : Box → World
@@ -82,7 +80,7 @@ module _ (files n : ℕ) where
 
   -- ---- calls
 
-  module _ (m : Memory) (s : Sound (on m)) where
+  module _ (m : Left) (s : Sound (on m)) where
     pages-are : length (m .sheet) / pageSize ≡ n
     pages-are = omega (arith, s .long)
 
@@ -157,7 +155,7 @@ module _ (files n : ℕ) where
     z = bounds n files sz
 
     -- a call, and one that is cut
-    module _ (m : Memory) (l : Ledger) (a : At n files true (worldIn m) l) (s : Sound (on m)) (k : Call) (t : Typed k) where
+    module _ (m : Left) (l : Ledger) (a : At n files true (worldIn m) l) (s : Sound (on m)) (k : Call) (t : Typed k) where
       after-call : Sim (call (worldIn m) k .1) (ledgerCall l k .1)
       after-call = sim-call (worldIn m) l (a .stands) k .after
 
@@ -271,8 +269,8 @@ module _ (files n : ℕ) where
           let r = sim-open (pages files n (sheetOf b)) n files (l .log) held-open sz fates (rowsOf rows) floor pg rl in
           let o = opened (pages files n (sheetOf b)) fates (rowsOf rows) floor in
           let left : leaves (sheetOf b) o ≡ openLeaves (sheetOf b) fates rows floor = rw (w, ns, fs) in
-          let on-is : boxOf (leaves (sheetOf b) o) ≡ on (memoryOf (leaves (sheetOf b) o)) = ap (λ x. cond (isRefused x) (off (sheetOf b)) (on (memoryOf (leaves (sheetOf b) o)))) (r .answer) in
-          let here : worldIn (memoryOf (leaves (sheetOf b) o)) ≡ o .1 = λ i. record {
+          let on-is : boxOf (leaves (sheetOf b) o) ≡ on (leaves (sheetOf b) o) = ap (λ x. cond (isRefused x) (off (sheetOf b)) (on (leaves (sheetOf b) o))) (r .answer) in
+          let here : worldIn (leaves (sheetOf b) o) ≡ o .1 = λ i. record {
             sheet = sym (open-sheet (pages files n (sheetOf b)) fates (rowsOf rows) floor) i;
             fates = o .1 .fates;
             rows = flat-rows (o .1 .rows) i;

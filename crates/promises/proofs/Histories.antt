@@ -1,140 +1,62 @@
 -- The history of a file in a log: its committed images, the newest first. What a read finds in it, and what an append makes of it.
-use Prim.Native.Nat.{ℕ, suc, _≤_, _<_}
-use mathlib.Core.Path.{_≡_, refl, sym, ap, _∙_}
+use Prim.Native.Nat.{ℕ}
+use mathlib.Core.Path.{_≡_, refl, ap}
 use mathlib.Core.List.{List, [], _∷_}
 use mathlib.Core.Bool.{Bool, true, false, cond}
 use mathlib.Core.Option.{Option, some, none}
-use native.Mathlib.Omega.{arith}
-use lib.ListN.{length}
 use lib.Dec.{eqb, leb}
-use borrow.Author.Tests.{eqb-true, eq-eqb, leb-true, leb-false}
+use borrow.Author.Tests.{eqb-true, eq-eqb}
 use Rattle.encoding.proofs.Logic.{by-test}
 use Rattle.recovery.specs.Log.{Image, Entry, torn, opening, image, outcome, Fate, unknown, undecided, committed, aborted, Placed, fateOf, imagesOf, currentStep, currentOf, tokenOf}
-use Rattle.recovery.specs.Log as log
-use Rattle.recovery.specs.Lawful.{current, token}
+use Rattle.recovery.specs.Lawful.{token}
 use Rattle.recovery.proofs.InspectFates.{All}
-use Rattle.promises.specs.Model.{Version, Token, latest, newest, placeOf, startOf}
-use Rattle.promises.specs.Promises.{In, here, later, Highest}
+use Rattle.promises.specs.Model.{latest, newest}
 use Rattle.promises.proofs.Logs.{ImageFits, Lawful, Keeps}
 use Rattle.promises.proofs.Chains.{Chain, chain}
 use Rattle.promises.proofs.Appends.{Agree, agree-keeps, opening-agree, owns, turned, turn-keeps, token-other}
 use Rattle.promises.proofs.Versions.{versionStep, versionOf, version}
 
--- an image as a version, and as a token
-abbrev pub asVersion : Placed → Version
-asVersion x = record { place = x .place; start = x .image .start; value = x .image .value }
-
-abbrev pub someVersion : Option Placed → Option Version
-someVersion none = none
-someVersion (some x) = some (asVersion x)
-
-abbrev pub someToken : Option Placed → Option Token
-someToken none = none
-someToken (some x) = some (record { action = x .image .action; version = asVersion x })
-
-abbrev pub historyStep : Fate → Placed → List Version → List Version
+abbrev pub historyStep : Fate → Placed → List Placed → List Placed
 historyStep unknown x vs = vs
 historyStep undecided x vs = vs
-historyStep committed x vs = asVersion x ∷ vs
+historyStep committed x vs = x ∷ vs
 historyStep aborted x vs = vs
 
-unfoldable pub historyOf : (ℕ → Fate) → List Placed → List Version
+unfoldable pub historyOf : (ℕ → Fate) → List Placed → List Placed
 historyOf φ [] = []
 historyOf φ (x ∷ xs) = historyStep (φ (x .image .action)) x (historyOf φ xs)
 
-abbrev pub history : List Entry → ℕ → List Version
+abbrev pub history : List Entry → ℕ → List Placed
 history l f = historyOf (fateOf l) (imagesOf l f)
 
 -- ---- reading it
 
 module _ (φ : ℕ → Fate) where
-  pub newest-is : (xs : List Placed) → newest (historyOf φ xs) ≡ someVersion (currentOf φ xs)
+  pub newest-is : (xs : List Placed) → newest (historyOf φ xs) ≡ currentOf φ xs
   unfolding historyOf currentOf
   newest-is [] = refl
   newest-is (x ∷ xs) = go (φ (x .image .action)) (newest-is xs)
     where
-      go : (y : Fate) → newest (historyOf φ xs) ≡ someVersion (currentOf φ xs) → newest (historyStep y x (historyOf φ xs)) ≡ someVersion (currentStep y x (currentOf φ xs))
+      go : (y : Fate) → newest (historyOf φ xs) ≡ currentOf φ xs → newest (historyStep y x (historyOf φ xs)) ≡ currentStep y x (currentOf φ xs)
       go unknown r = r
       go undecided r = r
       go committed r = refl
       go aborted r = r
 
-  pub latest-is : (t : ℕ) (xs : List Placed) → latest t (historyOf φ xs) ≡ someVersion (versionOf φ t xs)
+  pub latest-is : (t : ℕ) (xs : List Placed) → latest t (historyOf φ xs) ≡ versionOf φ t xs
   unfolding historyOf versionOf latest
   latest-is t [] = refl
   latest-is t (x ∷ xs) = go (φ (x .image .action)) (latest-is t xs)
     where
-      go : (y : Fate) → latest t (historyOf φ xs) ≡ someVersion (versionOf φ t xs) → latest t (historyStep y x (historyOf φ xs)) ≡ someVersion (versionStep y t x (versionOf φ t xs))
+      go : (y : Fate) → latest t (historyOf φ xs) ≡ versionOf φ t xs → latest t (historyStep y x (historyOf φ xs)) ≡ versionStep y t x (versionOf φ t xs)
       go unknown r = r
       go undecided r = r
       go committed r = pick (leb (x .image .start) t)
         where
-          pick : (b : Bool) → cond b (some (asVersion x)) (latest t (historyOf φ xs)) ≡ someVersion (cond b (some x) (versionOf φ t xs))
+          pick : (b : Bool) → cond b (some x) (latest t (historyOf φ xs)) ≡ cond b (some x) (versionOf φ t xs)
           pick true = refl
           pick false = r
       go aborted r = r
-
-pub place-is : (z : Option Placed) → placeOf (someVersion z) ≡ log.placeOf z
-place-is none = refl
-place-is (some x) = refl
-
-pub start-is : (z : Option Placed) → startOf (someVersion z) ≡ log.startOf z
-start-is none = refl
-start-is (some x) = refl
-
--- ---- starts fall from the newest to the oldest
-
-abbrev Falls : List Version → Type 0
-Falls [] = Unit {0}
-Falls (v ∷ vs) = (startOf (newest vs) < v .start) × Falls vs
-
-falls : (φ : ℕ → Fate) (xs : List Placed) → Chain φ xs → Falls (historyOf φ xs)
-unfolding historyOf
-falls φ [] h = tt
-falls φ (x ∷ xs) h = go (φ (x .image .action)) (falls φ xs (h .2))
-  where
-    go : (y : Fate) → Falls (historyOf φ xs) → Falls (historyStep y x (historyOf φ xs))
-    go unknown r = r
-    go undecided r = r
-    go committed r = (rw (newest-is φ xs, start-is (currentOf φ xs)) (h .0 .later), r)
-    go aborted r = r
-
--- so no older version starts later
-older : (vs : List Version) (u : Version) → Falls vs → In u vs → u .start ≤ startOf (newest vs)
-older (v ∷ vs) u f here = omega arith
-older (v ∷ vs) u f (later h) = omega (arith, older vs u (f .1) h, f .0)
-
-in-later : (t : ℕ) (v : Version) (vs : List Version) (z : Option Version) → t < v .start → Highest t vs z → Highest t (v ∷ vs) z
-in-later t v vs none b h = go
-  where
-    go : (u : Version) → In u (v ∷ vs) → t < u .start
-    go u here = b
-    go u (later i) = h u i
-in-later t v vs (some w) b h = (later (h .0), h .1, go)
-  where
-    go : (u : Version) → In u (v ∷ vs) → u .start ≤ t → u .start ≤ w .start
-    go u here k = absurd (omega arith)
-    go u (later i) k = h .2 u i k
-
-abbrev Some : List Version → Type 0
-Some [] = ⊥
-Some (v ∷ vs) = Unit {0}
-
-in-some : (u : Version) (vs : List Version) → In u vs → Some vs
-in-some u (v ∷ vs) here = tt
-in-some u (v ∷ vs) (later h) = tt
-
-latest-highest : (t : ℕ) (vs : List Version) → Falls vs → Highest t vs (latest t vs)
-unfolding latest
-latest-highest t [] f = λ u i. absurd (in-some u [] i)
-latest-highest t (v ∷ vs) f = go (leb (v .start) t) refl (latest-highest t vs (f .1))
-  where
-    go : (b : Bool) → leb (v .start) t ≡ b → Highest t vs (latest t vs) → Highest t (v ∷ vs) (cond b (some v) (latest t vs))
-    go true e h = (here, leb-true (v .start) t e, λ u i k. older (v ∷ vs) u f i)
-    go false e h = in-later t v vs (latest t vs) (leb-false (v .start) t e) h
-
-pub history-highest : (t : ℕ) (l : List Entry) (f : ℕ) → Lawful l → Highest t (history l f) (latest t (history l f))
-history-highest t l f w = latest-highest t (history l f) (falls (fateOf l) (imagesOf l f) (chain l f w))
 
 -- ---- appends
 
@@ -161,9 +83,9 @@ unfolding imagesOf fateOf historyOf
 image-history i l f h = by-test (λ xs. historyOf (fateOf l) xs ≡ history l f) (eqb (i .file) f) (λ e. rw (h .live)) (λ e. refl)
 
 -- a commit makes the action's token the newest version
-abbrev pub longer : Bool → Option Placed → List Version → List Version
+abbrev pub longer : Bool → Option Placed → List Placed → List Placed
 longer c none vs = vs
-longer true (some x) vs = asVersion x ∷ vs
+longer true (some x) vs = x ∷ vs
 longer false (some x) vs = vs
 
 turn-history : (a : ℕ) (c : Bool) (φ : ℕ → Fate) (xs : List Placed) → φ a ≡ undecided → Chain φ xs
@@ -180,7 +102,7 @@ turn-history a c φ (x ∷ xs) h w = go (eqb (x .image .action) a) refl c
 
     go : (t : Bool) → eqb (x .image .action) a ≡ t → (c : Bool) → historyOf (ψ c) (x ∷ xs)
         ≡ cond (owns a (tokenOf φ (x ∷ xs))) (longer c (tokenOf φ (x ∷ xs)) (historyOf φ (x ∷ xs))) (historyOf φ (x ∷ xs))
-    go true e true = rw (eqb-true (x .image .action) a e, h, eq-eqb a a refl) (ap (λ vs. asVersion x ∷ vs) (rest true))
+    go true e true = rw (eqb-true (x .image .action) a e, h, eq-eqb a a refl, rest true)
     go true e false = rw (eqb-true (x .image .action) a e, h, eq-eqb a a refl) (rest false)
     go false e c = rw (token-other φ a x xs w e) (rw (e, rest c))
 

@@ -1,35 +1,34 @@
 -- A run of a box is answered as the object model's, event by event; so rebuilds are not seen.
-use Prim.Native.Nat.{ℕ, zero, suc, _+_, _*_, _≤_, _<_}
+use Prim.Native.Nat.{ℕ, suc, _*_}
 use mathlib.Core.Path.{_≡_, refl, sym, ap, _∙_, subst}
-use mathlib.Core.List.{List, [], _∷_, _++_}
-use mathlib.Core.Bool.{Bool, true, false, cond, _||_, false≢true, true≢false}
-use mathlib.Core.Option.{Option, some, none}
+use mathlib.Core.List.{List, [], _∷_}
+use mathlib.Core.Bool.{Bool, true, false, cond, _||_, false≢true}
+use mathlib.Core.Option.{some}
 use native.Mathlib.Omega.{arith}
 use lib.ListN.{length, replicate, length-replicate}
-use lib.Dec.{eqb, leb, ltb}
+use lib.Dec.{eqb, ltb}
 use borrow.Author.Tests.{eq-eqb, ne-eqb}
 use Rattle.encoding.proofs.Logic.{by-test}
 use Rattle.page.specs.Layout.{pageSize}
-use Rattle.recovery.specs.Log.{Entry, blank, torn, Placed, fateOf, imagesOf}
+use Rattle.recovery.specs.Log.{Entry, blank, torn, fateOf, imagesOf}
 use Rattle.recovery.specs.Log as log
 use Rattle.recovery.specs.Lawful.{current, token}
-use Rattle.recovery.specs.World.{World, isFile, fatesOf, undecidedOf}
-use Rattle.recovery.specs.Lent.{rowsOf, sizesRight}
-use Rattle.recovery.specs.declared.Answer.{Answer}
+use Rattle.recovery.specs.World.{isFile, fatesOf, undecidedOf}
+use Rattle.recovery.specs.Lent.{Left, rowsOf, sizesRight}
 use Rattle.recovery.specs.declared.Answer.the-variants.{Refused, Opened}
 use Rattle.calls.specs.Calls.{Call, begin, write, read, test, decide, rebuild, call}
-use Rattle.promises.specs.Runs.{Memory, Box, on, off, Event, calls, opens, cuts, callOn, answerTo, after, runs, heard, Typed, Allowed, AllAllowed}
-use Rattle.promises.specs.Model.{Model, Reply, modelCall, modelOpened, modelCut, stores, reopened, newest, startOf, versionOf, isRight, modelAnswer, modelAfter, modelOn, modelHeard, modelRuns, blankModel}
+use Rattle.promises.specs.Runs.{Box, on, off, Event, calls, opens, cuts, callOn, answerTo, after, heard, Allowed, AllAllowed}
+use Rattle.promises.specs.Model.{Model, Reply, modelCall, modelOpened, modelCut, stores, isRight, modelAnswer, modelAfter, modelOn, modelHeard}
 use Rattle.promises.specs.Promises.{isRebuild, bare, others, othersHeard}
 use Rattle.promises.proofs.Logs.{entry-top, Lawful}
-use Rattle.promises.proofs.Ledger.{Ledger, ledgerCall, ledgerOpened, ledgerUndecided}
+use Rattle.promises.proofs.Ledger.{Ledger, ledgerCall, ledgerOpened}
 use Rattle.promises.proofs.SimCalls.{sim-call}
 use Rattle.promises.proofs.Cuts.{cutLog, Step, stay, add, moves}
 use Rattle.promises.proofs.PageRuns as paged
-use Rattle.promises.proofs.PageRuns.{At, Stands as StandsAt, stands-off, event}
-use Rattle.promises.proofs.Histories.{someToken, history, newest-is, start-is, torn-history}
-use Rattle.promises.proofs.Objects.{Ends, Stands, call-alike}
-use Rattle.promises.proofs.ByteRuns.{worldIn, worldOf, isOn, answer-is, Follows, event-follows, eventsOf, onAfter}
+use Rattle.promises.proofs.PageRuns.{event}
+use Rattle.promises.proofs.Histories.{history, newest-is}
+use Rattle.promises.proofs.Objects.{Stands, call-alike}
+use Rattle.promises.proofs.ByteRuns.{worldIn, worldOf, isOn, answer-is, Follows, event-follows}
 use Rattle.promises.proofs.Reached.{Reached, reached-next}
 
 -- ---- openings and cuts
@@ -37,10 +36,6 @@ use Rattle.promises.proofs.Reached.{Reached, reached-next}
 module _ (l : Ledger) (m : Model) where
   dark : (b : Bool) → Stands b l m → Stands false l m
   dark b s = record { pages = s .pages; files = s .files; used = s .used; undecided = s .undecided; fate = s .fate; history = s .history; token = s .token; ends = λ o. absurd (false≢true o) }
-
-  token-start : (z : Option Placed) → startOf (versionOf (someToken z)) ≡ log.startOf z
-  token-start none = refl
-  token-start (some x) = refl
 
   reopen : (b : Bool) (floor : ℕ) → Stands b l m → Stands true (ledgerOpened (l .pages) (l .files) (l .log) floor) (modelOpened m floor)
   reopen b floor s = record {
@@ -53,8 +48,8 @@ module _ (l : Ledger) (m : Model) where
     token = s .token;
     ends = λ o. record {
       floor = refl;
-      current = λ f. rw (s .history f, newest-is (fateOf (l .log)) (imagesOf (l .log) f)) (start-is (current (l .log) f));
-      token = λ f. rw (s .token f) (token-start (token (l .log) f));
+      current = λ f. rw (s .history f, newest-is (fateOf (l .log)) (imagesOf (l .log) f));
+      token = λ f. rw (s .token f);
     };
   }
 
@@ -105,7 +100,7 @@ module _ (n files : ℕ) where
     pub power : isOn files n (after b e) ≡ modelOn (isOn files n b) m e
     pub next : Stands (isOn files n (after b e)) (reached-next n files b r e f .ledger) (modelAfter (isOn files n b) m e)
 
-  module _ (m : Memory) (r : Reached n files (on m)) (x : Model) (s : Stands true (r .ledger) x) (k : Call) where
+  module _ (m : Left) (r : Reached n files (on m)) (x : Model) (s : Stands true (r .ledger) x) (k : Call) where
     lawful-after : Lawful (ledgerCall (r .ledger) k .1 .log)
     lawful-after = sim-call (worldIn files n m) (r .ledger) (r .at .stands) k .after .lawful
 
@@ -183,22 +178,6 @@ module _ (n files : ℕ) where
       let h = heard-alike (after b e) (reached-next n files b r e f) (modelAfter (isOn files n b) x e) (a .next) es (t .1) in
       ap (λ y. y ∷ heard (after b e) es) (a .answer)
       ∙ ap (λ ys. modelAnswer (isOn files n b) x e ∷ ys) (h ∙ ap (λ c. modelHeard c (modelAfter (isOn files n b) x e) es) (a .power))
-
-  -- the log that a run reaches has the model's histories
-  pub record Ends-in (x : Model) : Type 0 where
-    pub log : List Entry
-    pub lawful : Lawful log
-    pub history : (f : ℕ) → x .object f .history ≡ history log f
-
-  pub run-ends : (b : Box) (r : Reached n files b) (x : Model) → Stands (isOn files n b) (r .ledger) x → (es : List Event) → AllAllowed n files es
-      → Ends-in (modelRuns (isOn files n b) x es)
-  unfolding modelRuns
-  run-ends b r x s [] t = record { log = r .ledger .log; lawful = stands-off (isOn files n b) (worldOf files n b) (r .ledger) (r .at .stands) .holds .lawful; history = s .history }
-  run-ends b r x s (e ∷ es) t =
-      let f = follow b r e (t .0) in
-      let a = event-alike b r x s e f in
-      subst (λ c. Ends-in (modelRuns c (modelAfter (isOn files n b) x e) es)) (a .power)
-      (run-ends (after b e) (reached-next n files b r e f) (modelAfter (isOn files n b) x e) (a .next) es (t .1))
 
   -- ---- rebuilds
 

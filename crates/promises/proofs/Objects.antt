@@ -1,29 +1,26 @@
 -- The ledger does what the object model does: every call is answered alike, and leaves the same histories, tokens and ends.
-use Prim.Native.Nat.{ℕ, zero, suc, pred, max, _+_, _-_, _≤_, _<_}
+use Prim.Native.Nat.{ℕ, suc, pred, max, _+_, _-_, _≤_}
 use mathlib.Core.Path.{_≡_, refl, sym, ap, _∙_, subst}
-use mathlib.Core.List.{List, [], _∷_}
+use mathlib.Core.List.{List, _∷_}
 use mathlib.Core.Bool.{Bool, true, false, cond, _&&_, false≢true, true≢false}
 use mathlib.Core.Option.{Option, some, none}
 use native.Mathlib.Omega.{arith}
 use lib.ListN.{length}
 use lib.Dec.{eqb, leb, ltb}
 use borrow.Author.Tests.{eqb-true, eqb-false, eq-eqb, ne-eqb, leb-true, le-leb}
-use Rattle.encoding.proofs.Logic.{by-test, bool-ext, and-true}
+use Rattle.encoding.proofs.Logic.{bool-ext, and-true}
 use Rattle.page.specs.Layout.{valueSize}
-use Rattle.recovery.specs.Log.{Image, Entry, torn, opening, image, outcome, Fate, unknown, undecided, committed, aborted, Placed, fateOf, imagesOf, verdict}
-use Rattle.recovery.specs.Log as log
+use Rattle.recovery.specs.Log.{Image, Entry, opening, image, outcome, Fate, unknown, undecided, committed, aborted, Placed, fateOf, imagesOf, verdict, placeOf, startOf}
 use Rattle.recovery.specs.Lawful.{current, token}
 use Rattle.recovery.specs.World.{isFile, fateNumber, fatesOf, undecidedOf}
-use Rattle.recovery.specs.declared.Answer.{Answer}
-use Rattle.recovery.specs.declared.Answer.the-variants.{Rebuilt, Stored, Told}
 use Rattle.calls.specs.Calls.{Call, begin, write, read, test, decide, rebuild, isKnown, isDecided}
-use Rattle.promises.specs.Model.{Version, Token, Object, object, Model, Reply, latest, newest, placeOf, startOf, answerOf, versionOf, refuses, changed, withObject, stores, stored, hasRoom, ofFile, ofAction, ofUndecided, writing, reaches, readHistory, reading, ended, endedBy, modelCall}
+use Rattle.promises.specs.Model.{Object, object, Model, Reply, latest, newest, answerOf, refuses, changed, withObject, stored, hasRoom, ofFile, ofAction, ofUndecided, writing, readHistory, reading, ended, endedBy, modelCall}
 use Rattle.promises.proofs.Logs.{Lawful, known-place}
-use Rattle.promises.proofs.Appends.{opening-token, torn-token, image-token, owns, outcome-token}
+use Rattle.promises.proofs.Appends.{opening-token, image-token, owns, outcome-token}
 use Rattle.promises.proofs.Fates.{opening-undecided, outcome-undecided}
 use Rattle.promises.proofs.Versions.{version}
-use Rattle.promises.proofs.Ledger.{Ledger, LedgerResult, endAt, withEnds, ledgerGrown, ledgerRefuse, ledgerUndecided, ledgerRoom, ledgerKnows, ledgerForAction, ledgerForUndecided, ledgerForFile, ledgerImage, ledgerWrite, foundAnswer, within, raised, currentRead, tokenRead, ledgerVersions, ledgerRead, currentDecided, tokenDecided, ledgerDecide, toldFate, ledgerCall}
-use Rattle.promises.proofs.Histories.{asVersion, someVersion, someToken, history, newest-is, latest-is, place-is, start-is, opening-history, torn-history, image-history, longer, outcome-history}
+use Rattle.promises.proofs.Ledger.{Ledger, LedgerResult, endAt, withEnds, ledgerGrown, ledgerRefuse, ledgerUndecided, ledgerRoom, ledgerKnows, ledgerForAction, ledgerForUndecided, ledgerForFile, ledgerImage, ledgerWrite, foundAnswer, within, raised, currentRead, tokenRead, ledgerVersions, ledgerRead, currentDecided, tokenDecided, ledgerCall}
+use Rattle.promises.proofs.Histories.{history, newest-is, latest-is, opening-history, image-history, longer, outcome-history}
 
 -- ---- a ledger stands for a model; the ends count only while the box is on
 
@@ -39,7 +36,7 @@ pub record Stands (on : Bool) (l : Ledger) (m : Model) : Type 0 where
   pub undecided : m .undecided ≡ ledgerUndecided l
   pub fate : (a : ℕ) → m .fate a ≡ fateOf (l .log) a
   pub history : (f : ℕ) → m .object f .history ≡ history (l .log) f
-  pub token : (f : ℕ) → m .object f .token ≡ someToken (token (l .log) f)
+  pub token : (f : ℕ) → m .object f .token ≡ token (l .log) f
   pub ends : on ≡ true → Ends l m
 
 pub record Alike (r : LedgerResult) (s : Reply) : Type 0 where
@@ -134,22 +131,27 @@ module _ (l : Ledger) (m : Model) (w : Lawful (l .log)) (room : length (l .log) 
       undecided = ap suc (s .undecided) ∙ sym (opening-undecided (l .pages) (l .log) w (omega (arith, leb-true (ledgerUndecided l + 2) (l .pages - length (l .log)) q)));
       fate = λ a. rw (s .used, s .fate a) (sym (fate-opening (l .log) a));
       history = λ f. s .history f ∙ sym (opening-history (l .log) f w);
-      token = λ f. s .token f ∙ ap someToken (sym (opening-token (l .log) f w));
+      token = λ f. s .token f ∙ sym (opening-token (l .log) f w);
       ends = λ o. record { floor = e .floor; current = e .current; token = e .token };
     };
   }
 
   -- write
   module _ (f start a : ℕ) (v : List ℕ) where
+    -- the token as the model has it, and as the ledger has it
+    abbrev made : Placed
+    made = record { place = suc (m .used); image = record { file = f; action = a; link = placeOf (newest (m .object f .history)); start = start; value = v } }
+
     abbrev given : Placed
     given = record { place = suc (length (l .log)); image = ledgerImage l f start a v }
 
-    abbrev written : Object
-    written = object (m .object f .history) (m .object f .currentend) (some (record { action = a; version = record { place = suc (m .used); start = start; value = v } })) start
+    made-is : made ≡ given
+    made-is =
+        let link : placeOf (newest (m .object f .history)) ≡ placeOf (current (l .log) f) = ap (λ xs. placeOf (newest xs)) (s .history f) ∙ ap placeOf (newest-is (fateOf (l .log)) (imagesOf (l .log) f)) in
+        λ i. record { place = suc (s .used i); image = record { file = f; action = a; link = link i; start = start; value = v } }
 
-    token-is : (b : Bool) (z : Option Placed) → cond b (some (record { action = a; version = record { place = suc (m .used); start = start; value = v } })) (someToken z) ≡ someToken (cond b (some given) z)
-    token-is true z = rw (s .used)
-    token-is false z = refl
+    abbrev written : Object
+    written = object (m .object f .history) (m .object f .currentend) (some made) start
 
     writes : Alike (ledgerGrown l (image (ledgerImage l f start a v)) (l .currentend) (endAt (l .tokenend) f start)) (stored m (m .undecided) (m .fate) (changed (m .object) f written))
     writes = record {
@@ -162,8 +164,7 @@ module _ (l : Ledger) (m : Model) (w : Lawful (l .log)) (room : length (l .log) 
         fate = λ b. s .fate b ∙ sym (fate-image (ledgerImage l f start a v) (l .log) b);
         history = λ g. changed-not (λ x. x .history) (m .object) f written (history (l .log)) (s .history) (s .history f) g ∙ sym (image-history (ledgerImage l f start a v) (l .log) g (k .0));
         token = λ g.
-            changed-at (λ x. x .token) (m .object) f written (λ g. someToken (token (l .log) g)) (s .token) (some (record { action = a; version = record { place = suc (m .used); start = start; value = v } })) refl g
-            ∙ token-is (eqb f g) (token (l .log) g) ∙ ap someToken (sym (image-token (ledgerImage l f start a v) (l .log) g (k .0)));
+            changed-at (λ x. x .token) (m .object) f written (token (l .log)) (s .token) (some given) (ap some made-is) g ∙ sym (image-token (ledgerImage l f start a v) (l .log) g (k .0));
         ends = λ o. record {
           floor = e .floor;
           current = changed-not (λ x. x .currentend) (m .object) f written (l .currentend) (e .current) (e .current f);
@@ -172,7 +173,7 @@ module _ (l : Ledger) (m : Model) (w : Lawful (l .log)) (room : length (l .log) 
       };
     }
 
-    write-token : (z : Option Placed) → Alike (ledgerWrite l f start a v z) (writing m f start a v (m .object f) (someToken z))
+    write-token : (z : Option Placed) → Alike (ledgerWrite l f start a v z) (writing m f start a v (m .object f) z)
     write-token none =
         alike-cond (ltb (l .currentend f) start && ltb (l .floor) start) (ltb (m .object f .currentend) start && ltb (m .floor) start) (rw (e .current f, e .floor))
         (λ q. alike-cond (ledgerRoom l (ledgerUndecided l + 1)) (hasRoom m (m .undecided + 1)) (room-is (ledgerUndecided l + 1) (m .undecided + 1) (ap (λ n. n + 1) (s .undecided)))
@@ -181,12 +182,12 @@ module _ (l : Ledger) (m : Model) (w : Lawful (l .log)) (room : length (l .log) 
 
   -- read
   module _ (f time a : ℕ) where
-    found-is : (z : Option Placed) → foundAnswer z ≡ answerOf (someVersion z)
+    found-is : (z : Option Placed) → foundAnswer z ≡ answerOf z
     found-is none = refl
     found-is (some x) = refl
 
-    within-is : (z : Option Placed) → within time z ≡ reaches time (someVersion z)
-    within-is none = refl
+    within-is : (z : Option Placed) → within time z ≡ leb (startOf z) time
+    within-is none = sym (le-leb 0 time (omega arith))
     within-is (some x) = refl
 
     abbrev x : Object
@@ -203,22 +204,22 @@ module _ (l : Ledger) (m : Model) (w : Lawful (l .log)) (room : length (l .log) 
       undecided = s .undecided;
       fate = s .fate;
       history = changed-not (λ x. x .history) (m .object) f (object (x .history) c (x .token) t) (history (l .log)) (s .history) (s .history f);
-      token = changed-not (λ x. x .token) (m .object) f (object (x .history) c (x .token) t) (λ g. someToken (token (l .log) g)) (s .token) (s .token f);
+      token = changed-not (λ x. x .token) (m .object) f (object (x .history) c (x .token) t) (λ g. token (l .log) g) (s .token) (s .token f);
       ends = λ o. record { floor = e .floor; current = hc; token = ht };
     }
 
-    raised-is : cond (reaches time (newest (x .history))) (max (x .currentend) time) (x .currentend) ≡ raised (within time (current (l .log) f)) time (l .currentend f)
+    raised-is : cond (leb (startOf (newest (x .history))) time) (max (x .currentend) time) (x .currentend) ≡ raised (within time (current (l .log) f)) time (l .currentend f)
     raised-is = rw (s .history f, newest-is (fateOf (l .log)) (imagesOf (l .log) f), e .current f, within-is (current (l .log) f))
 
     read-versions : Alike (ledgerVersions l f time) (readHistory m f time x)
     read-versions = record {
       answer = found-is (version (l .log) f time) ∙ ap answerOf (sym (latest-is (fateOf (l .log)) time (imagesOf (l .log) f))) ∙ ap (λ vs. answerOf (latest time vs)) (sym (s .history f));
-      after = λ k. read-ends (cond (reaches time (newest (x .history))) (max (x .currentend) time) (x .currentend)) (x .tokenend) (currentRead l f time) (l .tokenend)
+      after = λ k. read-ends (cond (leb (startOf (newest (x .history))) time) (max (x .currentend) time) (x .currentend)) (x .tokenend) (currentRead l f time) (l .tokenend)
           (changed-at (λ x. x .currentend) (m .object) f _ (l .currentend) (e .current) (raised (within time (current (l .log) f)) time (l .currentend f)) raised-is)
           (changed-not (λ x. x .tokenend) (m .object) f _ (l .tokenend) (e .token) (e .token f));
     }
 
-    read-token : (z : Option Placed) → Alike (ledgerRead l f time a z) (reading m f time a x (someToken z))
+    read-token : (z : Option Placed) → Alike (ledgerRead l f time a z) (reading m f time a x z)
     read-token none = read-versions
     read-token (some y) =
         alike-cond (leb (y .image .start) time) (leb (y .image .start) time) refl
@@ -239,43 +240,43 @@ module _ (l : Ledger) (m : Model) (w : Lawful (l .log)) (room : length (l .log) 
 
     -- what an outcome leaves of an object, by its token
     module _ (x : Object) where
-      left-history : (z : Option Placed) → endedBy a c x (someToken z) .history ≡ cond (owns a z) (longer c z (x .history)) (x .history)
+      left-history : (z : Option Placed) → endedBy a c x z .history ≡ cond (owns a z) (longer c z (x .history)) (x .history)
       left-history none = refl
       left-history (some y) = go (eqb (y .image .action) a) c
         where
-          go : (b c : Bool) → cond b (ended c x (record { action = y .image .action; version = asVersion y })) x .history ≡ cond b (longer c (some y) (x .history)) (x .history)
+          go : (b c : Bool) → cond b (ended c x y) x .history ≡ cond b (longer c (some y) (x .history)) (x .history)
           go true true = refl
           go true false = refl
           go false c = refl
 
-      left-token : (z : Option Placed) → x .token ≡ someToken z → endedBy a c x (someToken z) .token ≡ someToken (cond (owns a z) none z)
+      left-token : (z : Option Placed) → x .token ≡ z → endedBy a c x z .token ≡ cond (owns a z) none z
       left-token none q = q
       left-token (some y) q = go (eqb (y .image .action) a) c
         where
-          go : (b c : Bool) → cond b (ended c x (record { action = y .image .action; version = asVersion y })) x .token ≡ someToken (cond b none (some y))
+          go : (b c : Bool) → cond b (ended c x y) x .token ≡ cond b none (some y)
           go true true = refl
           go true false = refl
           go false c = q
 
-      left-current : (z : Option Placed) → endedBy a c x (someToken z) .currentend ≡ cond (owns a z) (cond c (x .tokenend) (x .currentend)) (x .currentend)
+      left-current : (z : Option Placed) → endedBy a c x z .currentend ≡ cond (owns a z) (cond c (x .tokenend) (x .currentend)) (x .currentend)
       left-current none = refl
       left-current (some y) = go (eqb (y .image .action) a) c
         where
-          go : (b c : Bool) → cond b (ended c x (record { action = y .image .action; version = asVersion y })) x .currentend ≡ cond b (cond c (x .tokenend) (x .currentend)) (x .currentend)
+          go : (b c : Bool) → cond b (ended c x y) x .currentend ≡ cond b (cond c (x .tokenend) (x .currentend)) (x .currentend)
           go true true = refl
           go true false = refl
           go false c = refl
 
-      left-end : (z : Option Placed) → endedBy a c x (someToken z) .tokenend ≡ cond (owns a z) 0 (x .tokenend)
+      left-end : (z : Option Placed) → endedBy a c x z .tokenend ≡ cond (owns a z) 0 (x .tokenend)
       left-end none = refl
       left-end (some y) = go (eqb (y .image .action) a) c
         where
-          go : (b c : Bool) → cond b (ended c x (record { action = y .image .action; version = asVersion y })) x .tokenend ≡ cond b 0 (x .tokenend)
+          go : (b c : Bool) → cond b (ended c x y) x .tokenend ≡ cond b 0 (x .tokenend)
           go true true = refl
           go true false = refl
           go false c = refl
 
-    left-is : (f : ℕ) → left f ≡ endedBy a c (m .object f) (someToken (token (l .log) f))
+    left-is : (f : ℕ) → left f ≡ endedBy a c (m .object f) (token (l .log) f)
     left-is f = ap (endedBy a c (m .object f)) (s .token f)
 
     decides : Alike (ledgerGrown l (outcome a c) (currentDecided l a c) (tokenDecided l a)) (stored m (pred (m .undecided)) (changed (m .fate) a (verdict c)) left)
@@ -291,7 +292,7 @@ module _ (l : Ledger) (m : Model) (w : Lawful (l .log)) (room : length (l .log) 
             ap (λ x. x .history) (left-is f) ∙ left-history (m .object f) (token (l .log) f)
             ∙ ap (λ vs. cond (owns a (token (l .log) f)) (longer c (token (l .log) f) vs) vs) (s .history f) ∙ sym (outcome-history a c (l .log) f (k .0) w);
         token = λ f.
-            ap (λ x. x .token) (left-is f) ∙ left-token (m .object f) (token (l .log) f) (s .token f) ∙ ap someToken (sym (outcome-token a c (l .log) f (k .0) w));
+            ap (λ x. x .token) (left-is f) ∙ left-token (m .object f) (token (l .log) f) (s .token f) ∙ sym (outcome-token a c (l .log) f (k .0) w);
         ends = λ o. record {
           floor = e .floor;
           current = λ f. ap (λ x. x .currentend) (left-is f) ∙ left-current (m .object f) (token (l .log) f) ∙ rw (e .current f, e .token f);
@@ -318,15 +319,9 @@ module _ (l : Ledger) (m : Model) (w : Lawful (l .log)) (room : length (l .log) 
     answer = rw (
       s .history f,
       newest-is (fateOf (l .log)) (imagesOf (l .log) f),
-      place-is (current (l .log) f),
       s .token f,
-      token-place (token (l .log) f),
       e .current f,
       e .token f,
     );
     after = λ k. s;
   })
-    where
-      token-place : (z : Option Placed) → placeOf (versionOf (someToken z)) ≡ log.placeOf z
-      token-place none = refl
-      token-place (some x) = refl

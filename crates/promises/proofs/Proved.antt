@@ -1,38 +1,39 @@
 -- The promises hold: the one theorem of this crate.
-use Prim.Native.Nat.{ℕ, zero, suc, _*_, _/_, _%_, _≤_, _<_}
+use Prim.Native.Nat.{ℕ, _*_, _/_, _%_}
 use mathlib.Core.Path.{_≡_, refl, sym, ap, _∙_, subst}
 use mathlib.Core.List.{List, [], _∷_, _++_}
 use mathlib.Core.Bool.{Bool, true, false, cond, false≢true}
-use mathlib.Core.Option.{some, none}
+use mathlib.Core.Option.{some}
 use native.Mathlib.Omega.{arith}
 use lib.ListN.{length}
 use borrow.Author.Tests.{le-leb}
 use Rattle.page.specs.Layout.{pageSize, mostPlaces, mostFiles}
 use Rattle.recovery.specs.Log.{torn, fateOf, imagesOf, tokenOf}
 use Rattle.recovery.specs.Sheet.{pageBytes, sealed, pages}
-use Rattle.recovery.specs.World.{down, endOf, sizes, fatesOf, undecidedOf}
+use Rattle.recovery.specs.World.{down, endOf, sizes}
 use Rattle.recovery.specs.Lawful.{lowestUnlawful}
 use Rattle.recovery.specs.Lent.{inspected, inspectable, rowLength, openLeaves, sizesRight}
 use Rattle.recovery.specs.Numbers.{isRefused}
+use Rattle.recovery.specs.declared.Answer.{Answer}
 use Rattle.recovery.specs.declared.Answer.the-variants.{Stored}
 use Rattle.recovery.specs.declared.Inspected.the-variants.{Lowest}
 use Rattle.recovery.proofs.Pages.{pages-long}
-use Rattle.calls.specs.Calls.{Call, begin, write, read, test, decide}
-use Rattle.promises.specs.Runs.{Box, on, off, sheetOf, Event, calls, cuts, opens, memoryOf, answerTo, after, runs, Run, AllAllowed, Allowed, blankBox}
-use Rattle.promises.specs.Model.{latest, blankModel, modelHeard}
-use Rattle.promises.specs.Promises.{Promises, Highest, IsPageOf}
+use Rattle.calls.specs.Calls.{begin, write, read, test, decide}
+use Rattle.promises.specs.Runs.{Box, on, off, sheetOf, Event, calls, cuts, opens, answerTo, after, runs, Run, AllAllowed, Allowed, blankBox, Floors}
+use Rattle.promises.specs.Model.{blankModel, modelHeard}
+use Rattle.promises.specs.Promises.{Promises, IsPageOf}
 use Rattle.promises.proofs.Fates.{undecided-low}
 use Rattle.promises.proofs.Openings.{holds-lawful}
 use Rattle.promises.proofs.PageRuns.{blankLedger, stands-off}
-use Rattle.promises.proofs.Histories.{history, historyOf, history-highest}
+use Rattle.promises.proofs.Histories.{historyOf}
 use Rattle.promises.proofs.Objects.{Stands}
-use Rattle.promises.proofs.ModelRuns.{heard-alike, others-alike, run-ends}
-use Rattle.promises.proofs.ByteRuns.{Bounds, bounds, worldOf, isOn, event-follows}
+use Rattle.promises.proofs.ModelRuns.{heard-alike, others-alike}
+use Rattle.promises.proofs.ByteRuns.{bounds, worldOf, isOn, event-follows}
 use Rattle.promises.proofs.Reached.{runs-join, allowed-split, Reached, reached-blank, reached-on, reached}
 use Rattle.promises.proofs.BoxFound.{box-found, box-found-cut, box-torn, box-begun, box-decided}
 use Rattle.promises.proofs.BoxKept.{box-kept, box-lost}
-use Rattle.promises.proofs.BoxShown.{box-all, box-own, box-shows}
-use Rattle.promises.proofs.BoxAlike.{floors-from, box-alike, box-above}
+use Rattle.promises.proofs.BoxShown.{box-all, box-own, box-shows, box-highest, box-later}
+use Rattle.promises.proofs.BoxAlike.{FloorsFrom, box-alike, box-above}
 
 module _ (n files : ℕ) where
   -- ---- the blank sheet, and a run in two parts
@@ -111,22 +112,24 @@ module _ (n files : ℕ) where
       go (isRefused (openLeaves (sheetOf b) fates rows floor .answer)) refl (g .power ∙ sizes-are fates rows (r .sized) f k)
     where
       go : (c : Bool) → isRefused (openLeaves (sheetOf b) fates rows floor .answer) ≡ c
-          → isOn files n (cond c (off (openLeaves (sheetOf b) fates rows floor .sheet)) (on (memoryOf (openLeaves (sheetOf b) fates rows floor)))) ≡ true → c ≡ false
+          → isOn files n (cond c (off (openLeaves (sheetOf b) fates rows floor .sheet)) (on (openLeaves (sheetOf b) fates rows floor))) ≡ true → c ≡ false
       go true e q = absurd (false≢true q)
       go false e q = refl
+
+  -- the floors after a read that was answered
+  floors-after : (es es′ : List Event) (file time : ℕ) (x : Answer) → Floors blank (es ++ calls (read file time 0) ∷ es′)
+      → answerTo (runs blank es) (calls (read file time 0)) ≡ some x → isRefused x ≡ false → FloorsFrom time es′
+  floors-after es es′ file time x f e ok es₂ es₃ floor fates rows q =
+      f es es₂ es₃ file time floor fates rows x (ap (λ l. es ++ calls (read file time 0) ∷ l) q) e ok
 
   -- ---- all of them
 
   pub promised : Promises n files
   promised = record {
     as-model = λ es r. heard-alike n files blank (start (r .sized)) (blankModel n files) blank-stands es (r .allowed);
-    highest = λ es r file time.
-        let h = run-ends n files blank (start (r .sized)) (blankModel n files) blank-stands es (r .allowed) in
-        subst (λ vs. Highest time vs (latest time vs)) (sym (h .history file)) (history-highest time (h .log) file (h .lawful));
     nothing-below = λ es es′ file time start action place value x r f e ok w.
         let p = parts es (calls (read file time 0)) es′ r in
-        let g = floors-from blank 0 es (calls (read file time 0) ∷ es′) f in
-        box-above n files file time x ok es′ (p .rest) (g .0) (runs blank es) (p .first) (g .1) e start action place value
+        box-above n files file time x ok es′ (p .rest) (floors-after es es′ file time x f e ok) (runs blank es) (p .first) e start action place value
         (subst (λ c. answerTo c (calls (write file start action value)) ≡ some (Stored place)) (p .joined) w);
     lawful = λ es r. inspects (runs blank es) (reached n files es r);
     opened = λ es floor fates rows r f k. accepted (runs blank es) (reached n files es r) floor fates rows f k;
@@ -152,13 +155,14 @@ module _ (n files : ℕ) where
     all-shown = λ es place i r e t. box-all n files (runs blank es) (reached n files es r) place i e t;
     none-shown = λ es file time action place start size r e. box-shows n files (runs blank es) (reached n files es r) file time action place start size e;
     own-shown = λ es place time i r e t h. box-own n files (runs blank es) (reached n files es r) place i e t time h;
+    highest = λ es file time action place start size r e q i v k. box-highest n files (runs blank es) (reached n files es r) file time action place start size e q i v k;
+    nothing-yet = λ es file time action r e q i v. box-later n files (runs blank es) (reached n files es r) file time action e q i v;
     unseen = λ es es′ r r′ e.
         others-alike n files blank (start (r .sized)) (blankModel n files) blank-stands es (r .allowed)
         ∙ ap (modelHeard false (blankModel n files)) e
         ∙ sym (others-alike n files blank (start (r′ .sized)) (blankModel n files) blank-stands es′ (r′ .allowed));
     alike = λ es es′ file time x y r f e ok w.
         let p = parts es (calls (read file time 0)) es′ r in
-        let g = floors-from blank 0 es (calls (read file time 0) ∷ es′) f in
-        box-alike n files file time x ok es′ (p .rest) (g .0) (runs blank es) (p .first) (g .1) e y
+        box-alike n files file time x ok es′ (p .rest) (floors-after es es′ file time x f e ok) (runs blank es) (p .first) e y
         (subst (λ c. answerTo c (calls (read file time 0)) ≡ some y) (p .joined) w);
   }

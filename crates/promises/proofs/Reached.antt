@@ -1,33 +1,27 @@
 -- Boxes that a run reaches: each stands for a ledger. Where a run goes on from one, and what its pages are.
-use Prim.Native.Nat.{ℕ, zero, suc, _+_, _-_, _*_, _≤_, _<_}
+use Prim.Native.Nat.{ℕ, zero, suc, _-_, _*_, _≤_, _<_}
 use mathlib.Core.Path.{_≡_, refl, sym, ap, _∙_, subst}
 use mathlib.Core.List.{List, [], _∷_, _++_}
 use mathlib.Core.Bool.{Bool, true, false}
-use mathlib.Core.Option.{Option, some, none}
 use native.Mathlib.Omega.{arith}
-use lib.ListN.{length, take, drop, replicate, length-take, length-drop, length-replicate, List·getD-eq-default}
+use lib.ListN.{length, take, replicate, length-replicate, List·getD-eq-default}
 use lib.Dec.{leb}
 use borrow.Author.Tests.{leb-true, leb-false}
-use Rattle.page.specs.declared.Unpacked.{Unpacked}
-use Rattle.page.specs.declared.Unpacked.the-variants.{Refused, Blank, Torn, Opening, Image as AnImage, Outcome, Unfit}
-use Rattle.page.specs.Layout.{pageSize, mostPlaces, mostFiles}
+use Rattle.page.specs.declared.Unpacked.the-variants.{Blank}
+use Rattle.page.specs.Layout.{pageSize}
 use Rattle.page.specs.Answers.{inBounds, tested}
-use Rattle.page.proofs.Rules.{InBounds, are-in-bounds}
-use Rattle.page.proofs.Found.{found}
+use Rattle.page.proofs.Rules.{are-in-bounds}
 use Rattle.recovery.specs.Places.{nth}
 use Rattle.recovery.specs.Log.{Entry, blank, bad}
 use Rattle.recovery.specs.Sheet.{pageBytes, entryOf, decoded, seal, sealed, pages}
-use Rattle.recovery.specs.World.{World, entryAt, down, sizes}
-use Rattle.recovery.specs.declared.Answer.{Answer}
+use Rattle.recovery.specs.World.{entryAt, down, sizes}
 use Rattle.recovery.proofs.Pages.{page-at-place, pages-long, test-out}
-use Rattle.calls.specs.Calls.{Call}
-use Rattle.promises.specs.Runs.{Memory, Box, on, off, sheetOf, Event, calls, callOn, answerTo, after, runs, AllAllowed, blankBox, Run}
+use Rattle.promises.specs.Runs.{Box, on, off, sheetOf, Event, after, runs, AllAllowed, blankBox, Run}
 use Rattle.promises.proofs.Ledger.{Ledger}
-use Rattle.promises.proofs.Openings.{Holds}
 use Rattle.promises.proofs.PageRuns as paged
 use Rattle.promises.proofs.PageRuns.{At, blankLedger}
 use Rattle.promises.proofs.ByteCalls.{drop-zeros}
-use Rattle.promises.proofs.ByteRuns.{Bounds, bounds, worldIn, worldOf, isOn, Sound, Follows, event-follows, eventsOf, eventsIn, at-next, run-follows, RunFollows}
+use Rattle.promises.proofs.ByteRuns.{Bounds, bounds, worldOf, isOn, Sound, Follows, eventsOf, eventsIn, at-next, run-follows, RunFollows}
 
 -- ---- lists of events
 

@@ -8,16 +8,14 @@ use lib.ListN.{length, getD, take, drop, length-append, length-take, length-drop
 use lib.Seq.{drop-at, take-at, getD-take, getD-drop, ext-getD, length-take-le, getD-append-add}
 use lib.Dec.{leb, ltb}
 use borrow.Author.Tests.{ltb-true, ltb-false, leb-true, leb-false}
-use Rattle.encoding.proofs.Logic.{by-test}
-use Rattle.page.specs.declared.Page.{Page}
 use Rattle.page.specs.declared.Unpacked.{Unpacked}
 use Rattle.page.specs.declared.Unpacked.the-variants.{Refused, Blank, Torn, Opening, Image as AnImage, Outcome, Unfit}
 use Rattle.page.specs.Layout.{pageSize}
 use Rattle.page.specs.Answers.{tested}
 use Rattle.page.proofs.Found.{image-is, outcome-is}
-use Rattle.recovery.specs.Places.{nth, put, tabulate}
+use Rattle.recovery.specs.Places.{nth, put}
 use Rattle.recovery.specs.Log.{Image, Entry, blank, torn, bad, opening, image, outcome}
-use Rattle.recovery.specs.Sheet.{pageBytes, entryOf, imageFrom, isOpening, decoded, seal, sealed, pages}
+use Rattle.recovery.specs.Sheet.{pageBytes, entryOf, isOpening, decoded, seal, sealed, pages}
 use Rattle.recovery.proofs.Places.{put-tabulate}
 use Rattle.recovery.proofs.Pages.{page-at-place}
 use Rattle.calls.specs.Effect.{withPage}

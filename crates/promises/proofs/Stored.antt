@@ -1,18 +1,15 @@
 -- What the page test says of a page that a call appends, when all of its bytes are stored, or some, or none.
-use Prim.Native.Nat.{ℕ, zero, suc, _+_, _-_, _^_, _≤_, _<_}
-use mathlib.Core.Path.{_≡_, refl, sym, ap, _∙_}
-use mathlib.Core.List.{List, _++_}
+use Prim.Native.Nat.{ℕ, _-_, _^_, _≤_, _<_}
+use mathlib.Core.Path.{_≡_, refl, ap, _∙_}
 use mathlib.Core.Bool.{Bool, true, false, cond}
 use native.Mathlib.Omega.{arith}
-use lib.ListN.{length, take, drop, replicate, length-append, length-replicate}
+use lib.ListN.{length, take, replicate, length-append, length-replicate}
 use lib.Seq.{take-at}
 use lib.Dec.{eqb, ltb}
-use borrow.Author.Tests.{eqb-true, ltb-false}
-use Rattle.page.specs.declared.Page.{Page}
-use Rattle.page.specs.declared.Unpacked.{Unpacked}
-use Rattle.page.specs.declared.Unpacked.the-variants.{Refused, Blank, Torn, Opening, Image as AnImage, Outcome, Unfit}
+use borrow.Author.Tests.{ltb-false}
+use Rattle.page.specs.declared.Unpacked.the-variants.{Blank, Torn}
 use Rattle.page.specs.Layout.{pageSize, valueSize, mostPlaces, mostFiles}
-use Rattle.page.specs.Table.{packed, meetsRules, valueOf}
+use Rattle.page.specs.Table.{meetsRules, valueOf}
 use Rattle.page.specs.Answers.{tested, byKind, cut}
 use Rattle.page.proofs.Rules.{InBounds}
 use Rattle.page.proofs.RoundTrip.{length-packed, value-back, cut-tested, cut-whole}

@@ -7,33 +7,22 @@ use mathlib.Core.Option.{Option, some, none}
 use lib.ListN.{length}
 use lib.Dec.{eqb, leb, ltb}
 use Rattle.page.specs.Layout.{pageSize, valueSize}
-use Rattle.recovery.specs.Log.{Fate, unknown, undecided, verdict}
+use Rattle.recovery.specs.Log.{Placed, Fate, unknown, undecided, verdict, placeOf, startOf}
 use Rattle.recovery.specs.declared.Answer.{Answer}
 use Rattle.recovery.specs.declared.Answer.the-variants.{Refused, Opened, Rebuilt, Stored, Value, Nothing, Told}
 use Rattle.recovery.specs.World.{isFile, fateNumber}
 use Rattle.recovery.specs.Lent.{sizesRight}
-use Rattle.calls.specs.Calls.{Call, begin, write, read, test, decide, rebuild, isKnown, isDecided}
+use Rattle.calls.specs.Calls.{Call, begin, write, read, test, decide, rebuild, isKnown, isDecided, valueOf}
 use Rattle.promises.specs.Runs.{Event, calls, opens, cuts}
 
--- a version, valid from its start to that of the next one
-pub record Version : Type 0 where
-  pub place : ℕ
-  pub start : ℕ
-  pub value : List ℕ
-
--- a version that an undecided action wrote
-pub record Token : Type 0 where
-  pub action : ℕ
-  pub version : Version
-
--- the newest version first; its end time, and the token's
+-- its versions, the newest first, and its token, with the end time of the newest version and of the token
 pub record Object : Type 0 where
-  pub history : List Version
+  pub history : List Placed
   pub currentend : ℕ
-  pub token : Option Token
+  pub token : Option Placed
   pub tokenend : ℕ
 
-abbrev pub object : List Version → ℕ → Option Token → ℕ → Object
+abbrev pub object : List Placed → ℕ → Option Placed → ℕ → Object
 object history currentend token tokenend = record { history = history; currentend = currentend; token = token; tokenend = tokenend }
 
 -- so many pages, of which so many are used; the actions by their place
@@ -51,30 +40,18 @@ Reply = Answer × Model
 
 -- ---- reading a history
 
--- the version with the highest start that is not above a time: starts fall from the newest to the oldest
-unfoldable pub latest : ℕ → List Version → Option Version
-latest time [] = none
-latest time (v ∷ vs) = cond (leb (v .start) time) (some v) (latest time vs)
-
-abbrev pub newest : List Version → Option Version
+abbrev pub newest : List Placed → Option Placed
 newest [] = none
-newest (v ∷ vs) = some v
+newest (x ∷ xs) = some x
 
-abbrev pub placeOf : Option Version → ℕ
-placeOf none = 0
-placeOf (some v) = v .place
+-- the version with the highest start that is not above a time: starts fall from the newest to the oldest
+unfoldable pub latest : ℕ → List Placed → Option Placed
+latest time [] = none
+latest time (x ∷ xs) = cond (leb (x .image .start) time) (some x) (latest time xs)
 
-abbrev pub startOf : Option Version → ℕ
-startOf none = 0
-startOf (some v) = v .start
-
-abbrev pub answerOf : Option Version → Answer
+abbrev pub answerOf : Option Placed → Answer
 answerOf none = Nothing
-answerOf (some v) = Value (v .place) (v .start) (length (v .value))
-
-abbrev pub versionOf : Option Token → Option Version
-versionOf none = none
-versionOf (some t) = some (t .version)
+answerOf (some x) = valueOf x
 
 -- ---- what calls change
 
@@ -109,46 +86,42 @@ ofUndecided m a k = ofAction m a (cond (isDecided (m .fate a)) (refuses 6 0 m) k
 
 -- ---- write: a token where there is none, with a start above all that was read
 
-abbrev pub writing : Model → ℕ → ℕ → ℕ → List ℕ → Object → Option Token → Reply
-writing m f start a v x (some t) = refuses 8 (t .action) m
+abbrev pub writing : Model → ℕ → ℕ → ℕ → List ℕ → Object → Option Placed → Reply
+writing m f start a v x (some t) = refuses 8 (t .image .action) m
 writing m f start a v x none =
     cond (ltb (x .currentend) start && ltb (m .floor) start)
     (cond (hasRoom m (m .undecided + 1))
-    (stored m (m .undecided) (m .fate)
-    (changed (m .object) f (object (x .history) (x .currentend) (some (record { action = a; version = record { place = suc (m .used); start = start; value = v } })) start)))
+    (stored m (m .undecided) (m .fate) (changed (m .object) f (object (x .history) (x .currentend)
+    (some (record { place = suc (m .used); image = record { file = f; action = a; link = placeOf (newest (x .history)); start = start; value = v } })) start)))
     (refuses 11 0 m))
     (refuses 10 0 m)
 
 -- ---- read: the own token, or the history; what was read is known to hold until that time at least
 
-abbrev pub reaches : ℕ → Option Version → Bool
-reaches time none = true
-reaches time (some v) = leb (v .start) time
-
 abbrev pub readHistory : Model → ℕ → ℕ → Object → Reply
 readHistory m f time x = (
   answerOf (latest time (x .history)),
-  withObject m f (object (x .history) (cond (reaches time (newest (x .history))) (max (x .currentend) time) (x .currentend)) (x .token) (x .tokenend)),
+  withObject m f (object (x .history) (cond (leb (startOf (newest (x .history))) time) (max (x .currentend) time) (x .currentend)) (x .token) (x .tokenend)),
 )
 
-abbrev pub reading : Model → ℕ → ℕ → ℕ → Object → Option Token → Reply
+abbrev pub reading : Model → ℕ → ℕ → ℕ → Object → Option Placed → Reply
 reading m f time a x none = readHistory m f time x
 reading m f time a x (some t) =
-    cond (leb (t .version .start) time)
-    (cond (eqb (t .action) a)
-    (answerOf (some (t .version)), withObject m f (object (x .history) (x .currentend) (x .token) (max (x .tokenend) time)))
-    (refuses 9 (t .action) m))
+    cond (leb (t .image .start) time)
+    (cond (eqb (t .image .action) a)
+    (valueOf t, withObject m f (object (x .history) (x .currentend) (x .token) (max (x .tokenend) time)))
+    (refuses 9 (t .image .action) m))
     (readHistory m f time x)
 
 -- ---- commit and abort: the action's token becomes the newest version, or is discarded
 
-abbrev pub ended : Bool → Object → Token → Object
-ended true x t = object (t .version ∷ x .history) (x .tokenend) none 0
+abbrev pub ended : Bool → Object → Placed → Object
+ended true x t = object (t ∷ x .history) (x .tokenend) none 0
 ended false x t = object (x .history) (x .currentend) none 0
 
-abbrev pub endedBy : ℕ → Bool → Object → Option Token → Object
+abbrev pub endedBy : ℕ → Bool → Object → Option Placed → Object
 endedBy a c x none = x
-endedBy a c x (some t) = cond (eqb (t .action) a) (ended c x t) x
+endedBy a c x (some t) = cond (eqb (t .image .action) a) (ended c x t) x
 
 -- ---- every call
 
@@ -164,13 +137,13 @@ modelCall m (decide a c) =
     (stored m (pred (m .undecided)) (changed (m .fate) a (verdict c)) (λ f. endedBy a c (m .object f) (m .object f .token)))
     (refuses 11 0 m))
 modelCall m (rebuild f) =
-    ofFile m f (Rebuilt (placeOf (newest (m .object f .history))) (m .object f .currentend) (placeOf (versionOf (m .object f .token))) (m .object f .tokenend), m)
+    ofFile m f (Rebuilt (placeOf (newest (m .object f .history))) (m .object f .currentend) (placeOf (m .object f .token)) (m .object f .tokenend), m)
 
 -- ---- openings and cuts
 
 -- an opening forgets how far reads went, and takes a floor instead
 abbrev pub reopened : Object → Object
-reopened x = object (x .history) (startOf (newest (x .history))) (x .token) (startOf (versionOf (x .token)))
+reopened x = object (x .history) (startOf (newest (x .history))) (x .token) (startOf (x .token))
 
 abbrev pub modelOpened : Model → ℕ → Model
 modelOpened m floor = record { pages = m .pages; files = m .files; used = m .used; floor = floor; undecided = m .undecided; fate = m .fate; object = λ f. reopened (m .object f) }
@@ -210,7 +183,3 @@ modelOn b m (cuts k n) = false
 unfoldable pub modelHeard : Bool → Model → List Event → List (Option Answer)
 modelHeard b m [] = []
 modelHeard b m (e ∷ es) = modelAnswer b m e ∷ modelHeard (modelOn b m e) (modelAfter b m e) es
-
-unfoldable pub modelRuns : Bool → Model → List Event → Model
-modelRuns b m [] = m
-modelRuns b m (e ∷ es) = modelRuns (modelOn b m e) (modelAfter b m e) es

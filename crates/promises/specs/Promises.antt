@@ -1,15 +1,15 @@
 -- The promises of demands 2 and 3, each about every run: any calls, openings and cuts on a sheet that began blank. Beyond `Run`
 -- only `NothingBelow` and `Alike` have a premise, the floor's.
-use Prim.Native.Nat.{ℕ, suc, _*_, _≤_, _<_}
+use Prim.Native.Nat.{ℕ, _*_, _≤_, _<_}
 use mathlib.Core.Path.{_≡_}
 use mathlib.Core.List.{List, [], _∷_, _++_}
 use mathlib.Core.Bool.{Bool, true, false, cond}
 use mathlib.Core.Option.{Option, some, none}
 use lib.ListN.{length, replicate}
 use Rattle.page.specs.Layout.{pageSize}
-use Rattle.recovery.specs.Log.{Image, Entry, blank, torn, bad, opening, image, outcome, verdict}
+use Rattle.recovery.specs.Log.{Image, Entry, blank, torn, opening, image, outcome, verdict}
 use Rattle.recovery.specs.declared.Answer.{Answer}
-use Rattle.recovery.specs.declared.Answer.the-variants.{Stored, Value, Told}
+use Rattle.recovery.specs.declared.Answer.the-variants.{Stored, Value, Nothing, Told}
 use Rattle.recovery.specs.declared.Inspected.the-variants.{Lowest}
 use Rattle.recovery.specs.Numbers.{isRefused}
 use Rattle.recovery.specs.Sheet.{pageBytes, sealed}
@@ -17,18 +17,9 @@ use Rattle.recovery.specs.World.{fateNumber}
 use Rattle.recovery.specs.Lent.{rowLength, openLeaves, inspected}
 use Rattle.calls.specs.Calls.{Call, begin, write, read, test, decide, rebuild}
 use Rattle.promises.specs.Runs.{Box, sheetOf, Event, calls, opens, cuts, answerTo, after, runs, heard, Run, blankBox, Floors}
-use Rattle.promises.specs.Model.{Version, latest, blankModel, modelHeard, modelRuns}
+use Rattle.promises.specs.Model.{blankModel, modelHeard}
 
 -- ---- words of the statements
-
-pub data In (v : Version) : List Version → Type 0 where
-  here : {vs : List Version} → In v (v ∷ vs)
-  later : {u : Version} {vs : List Version} → In v vs → In v (u ∷ vs)
-
--- the version with the highest start that is not above a time
-abbrev pub Highest : ℕ → List Version → Option Version → Type 0
-Highest time vs none = (u : Version) → In u vs → time < u .start
-Highest time vs (some v) = In v vs × (v .start ≤ time) × ((u : Version) → In u vs → u .start ≤ time → u .start ≤ v .start)
 
 -- the page that a call appends
 abbrev pub IsPageOf : Call → Entry → Type 0
@@ -73,14 +64,23 @@ module _ (pages files : ℕ) where
   abbrev pub pageIn : Box → ℕ → Entry
   pageIn b place = sealed files (sheetOf b) place
 
+  -- a version of a file: a committed image
+  abbrev pub IsVersion : Box → ℕ → ℕ → Image → Type 0
+  IsVersion b file place i = (pageIn b place ≡ image i) × (i .file ≡ file) × (answerTo b (calls (test (i .action))) ≡ some (Told 2))
+
+  -- what a read shows is an image of the file, not above the time; a version, but of the reader's own action
+  pub record Shown (b : Box) (file time action place start size : ℕ) : Type 0 where
+    pub seen : Image
+    pub here : pageIn b place ≡ image seen
+    pub is : (seen .file ≡ file) × (seen .start ≡ start) × (length (seen .value) ≡ size) × (start ≤ time)
+    pub whose : (seen .action ≡ action → ⊥) → IsVersion b file place seen
+
   pub record Promises : Type 0 where
-    -- demand 2: every call answers as the object model; a read as "the highest start not above the time"
+    -- demand 2: every call answers as the object model
     pub as-model : (es : List Event) → Run pages files es → heard (blankBox pages) es ≡ modelHeard false (blankModel pages files) es
-    pub highest : (es : List Event) → Run pages files es → (file time : ℕ)
-        → Highest time (modelRuns false (blankModel pages files) es .object file .history) (latest time (modelRuns false (blankModel pages files) es .object file .history))
     -- a time once answered is never written at or below
     pub nothing-below : (es es′ : List Event) (file time start action place : ℕ) (value : List ℕ) (x : Answer)
-        → Run pages files (es ++ calls (read file time 0) ∷ es′) → Floors 0 (blankBox pages) (es ++ calls (read file time 0) ∷ es′)
+        → Run pages files (es ++ calls (read file time 0) ∷ es′) → Floors (blankBox pages) (es ++ calls (read file time 0) ∷ es′)
         → answerTo (boxAfter es) (calls (read file time 0)) ≡ some x → isRefused x ≡ false
         → answerTo (boxAfter (es ++ calls (read file time 0) ∷ es′)) (calls (write file start action value)) ≡ some (Stored place) → time < start
     -- the sheet is lawful, and can be opened
@@ -109,17 +109,21 @@ module _ (pages files : ℕ) where
         → answerTo (boxAfter es) (calls (test (i .action))) ≡ some (Told 2)
         → answerTo (boxAfter es) (calls (read (i .file) (i .start) 0)) ≡ some (Value place (i .start) (length (i .value)))
     pub none-shown : (es : List Event) (file time action place start size : ℕ) → Run pages files es
-        → answerTo (boxAfter es) (calls (read file time action)) ≡ some (Value place start size)
-        → (i : Image) × (pageIn (boxAfter es) place ≡ image i) × (i .file ≡ file) × (i .start ≡ start) × (length (i .value) ≡ size) × (start ≤ time) × (1 ≤ i .action)
-        × ((i .action ≡ action → ⊥) → answerTo (boxAfter es) (calls (test (i .action))) ≡ some (Told 2))
+        → answerTo (boxAfter es) (calls (read file time action)) ≡ some (Value place start size) → Shown (boxAfter es) file time action place start size
     pub own-shown : (es : List Event) (place time : ℕ) (i : Image) → Run pages files es → pageIn (boxAfter es) place ≡ image i
         → answerTo (boxAfter es) (calls (test (i .action))) ≡ some (Told 1) → i .start ≤ time
         → answerTo (boxAfter es) (calls (read (i .file) time (i .action))) ≡ some (Value place (i .start) (length (i .value)))
+    -- a read gives the version with the highest start that is not above its time
+    pub highest : (es : List Event) (file time action place start size : ℕ) → Run pages files es
+        → answerTo (boxAfter es) (calls (read file time action)) ≡ some (Value place start size)
+        → (p : ℕ) (i : Image) → IsVersion (boxAfter es) file p i → i .start ≤ time → i .start ≤ start
+    pub nothing-yet : (es : List Event) (file time action : ℕ) → Run pages files es → answerTo (boxAfter es) (calls (read file time action)) ≡ some Nothing
+        → (p : ℕ) (i : Image) → IsVersion (boxAfter es) file p i → time < i .start
     -- rows rebuilt together or one by one, in any order among the same other calls, give those the same answers
     pub unseen : (es es′ : List Event) → Run pages files es → Run pages files es′ → others es ≡ others es′
         → othersHeard (blankBox pages) es ≡ othersHeard (blankBox pages) es′
     -- a read outside any action, once answered without a refusal, is answered alike again
     pub alike : (es es′ : List Event) (file time : ℕ) (x y : Answer)
-        → Run pages files (es ++ calls (read file time 0) ∷ es′) → Floors 0 (blankBox pages) (es ++ calls (read file time 0) ∷ es′)
+        → Run pages files (es ++ calls (read file time 0) ∷ es′) → Floors (blankBox pages) (es ++ calls (read file time 0) ∷ es′)
         → answerTo (boxAfter es) (calls (read file time 0)) ≡ some x → isRefused x ≡ false
         → answerTo (boxAfter (es ++ calls (read file time 0) ∷ es′)) (calls (read file time 0)) ≡ some y → y ≡ x

@@ -1,11 +1,10 @@
 -- Runs of a box: calls, openings and cuts of the supply, in any number and order, what each is answered and what it leaves.
-use Prim.Native.Nat.{ℕ, _+_, _*_, _^_, max, _≤_, _<_}
+use Prim.Native.Nat.{ℕ, _+_, _*_, _^_, _≤_, _<_}
 use mathlib.Core.Path.{_≡_}
 use mathlib.Core.List.{List, [], _∷_, _++_}
-use mathlib.Core.Bool.{Bool, true, false, cond}
+use mathlib.Core.Bool.{true, false, cond}
 use mathlib.Core.Option.{Option, some, none}
 use lib.ListN.{length, take, drop, replicate}
-use lib.Dec.{eqb}
 use Rattle.page.specs.Layout.{pageSize}
 use Rattle.recovery.specs.declared.State.{State}
 use Rattle.recovery.specs.declared.Answer.{Answer}
@@ -16,14 +15,8 @@ use Rattle.calls.specs.Calls.{Call, begin, write, read, test, decide, rebuild}
 use Rattle.calls.specs.Effect.{callLeaves}
 
 -- a box is on, with all that the last call left it, or off, with its sheet alone
-pub record Memory : Type 0 where
-  pub sheet : List ℕ
-  pub fates : List ℕ
-  pub rows : List ℕ
-  pub state : State
-
 pub data Box : Type 0 where
-  on : Memory → Box
+  on : Left → Box
   off : List ℕ → Box
 
 abbrev pub sheetOf : Box → List ℕ
@@ -37,18 +30,15 @@ pub data Event : Type 0 where
   opens : ℕ → List ℕ → List ℕ → Event
   cuts : Call → ℕ → Event
 
--- what the functions leave, by their contracts
-abbrev pub callOn : Memory → Call → Left
+-- a call gets what the last one left, and leaves what its contract says
+abbrev pub callOn : Left → Call → Left
 callOn m k = callLeaves (m .sheet) (m .fates) (m .rows) (m .state) k
-
-abbrev pub memoryOf : Left → Memory
-memoryOf x = record { sheet = x .sheet; fates = x .fates; rows = x .rows; state = x .state }
 
 -- no call gets a refused opening's state
 abbrev pub boxOf : Left → Box
-boxOf x = cond (isRefused (x .answer)) (off (x .sheet)) (on (memoryOf x))
+boxOf x = cond (isRefused (x .answer)) (off (x .sheet)) (on x)
 
--- bytes are stored first to last, and nothing but the page above the end is written
+-- a page's bytes are stored first to last
 abbrev pub storedTo : ℕ → List ℕ → List ℕ → List ℕ
 storedTo i new old = take i new ++ drop i old
 
@@ -60,7 +50,7 @@ answerTo b (opens floor fates rows) = some (openLeaves (sheetOf b) fates rows fl
 answerTo b (cuts k n) = none
 
 abbrev pub after : Box → Event → Box
-after (on m) (calls k) = on (memoryOf (callOn m k))
+after (on m) (calls k) = on (callOn m k)
 after (off s) (calls k) = off s
 after b (opens floor fates rows) = boxOf (openLeaves (sheetOf b) fates rows floor)
 after (on m) (cuts k n) = off (storedTo (pageSize * m .state .end + n) (callOn m k .sheet) (m .sheet))
@@ -103,28 +93,7 @@ pub record Run (pages files : ℕ) (es : List Event) : Type 0 where
   pub sized : sizes pages pages files ≡ true
   pub allowed : AllAllowed pages files es
 
--- the time that a read outside any action asks, 0 for another call
-abbrev pub timeOf : Call → ℕ
-timeOf begin = 0
-timeOf (write file start action value) = 0
-timeOf (read file time action) = cond (eqb action 0) time 0
-timeOf (test action) = 0
-timeOf (decide action committed) = 0
-timeOf (rebuild file) = 0
-
--- that time, of a read that is answered without a refusal
-abbrev pub timeHeard : Box → Event → ℕ
-timeHeard (on m) (calls k) = cond (isRefused (callOn m k .answer)) 0 (timeOf k)
-timeHeard (off s) (calls k) = 0
-timeHeard b (opens floor fates rows) = 0
-timeHeard b (cuts k n) = 0
-
-abbrev pub FloorFrom : ℕ → Event → Type 0
-FloorFrom time (calls k) = Unit {0}
-FloorFrom time (opens floor fates rows) = time ≤ floor
-FloorFrom time (cuts k n) = Unit {0}
-
--- each opening's floor is at least every time heard before it
-abbrev pub Floors : ℕ → Box → List Event → Type 0
-Floors time b [] = Unit {0}
-Floors time b (e ∷ es) = FloorFrom time e × Floors (max time (timeHeard b e)) (after b e) es
+-- each opening's floor is at least every time asked in earlier reads outside any action that were answered without a refusal
+abbrev pub Floors : Box → List Event → Type 0
+Floors b es = (es₁ es₂ es₃ : List Event) (file time floor : ℕ) (fates rows : List ℕ) (x : Answer) → es ≡ es₁ ++ calls (read file time 0) ∷ (es₂ ++ opens floor fates rows ∷ es₃)
+    → answerTo (runs b es₁) (calls (read file time 0)) ≡ some x → isRefused x ≡ false → time ≤ floor
