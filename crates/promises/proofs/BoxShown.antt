@@ -140,7 +140,7 @@ module _ (n files : ℕ) where
         let v = read-shows (worldIn files n m) (r .ledger) (r .at .stands) f t a p s l (said (Value p s l) e) in
         let inside : (1 ≤ p) × (p ≤ n) = place-in p (v .seen) (v .here) in
         let here : sealed files (m .sheet) p ≡ image (v .seen) = sym (page-in n files (on m) p (inside .0) (inside .1)) ∙ v .here in
-        record { seen = v .seen; here = here; is = (v .file, v .start, v .len, v .inTime); whose = λ o. (here, v .file, ap some (committed-told (v .seen) (v .whose) o)) }
+        record { seen = v .seen; here = here; is = (v .file, v .start, v .len, v .inTime, numbers m r p (v .seen) here .1); whose = λ o. (here, v .file, ap some (committed-told (v .seen) (v .whose) o)) }
 
     -- the highest start that is not above the time
     module _ (q : ℕ) (i : Image) (v : IsVersion n files (on m) f q i) where

@@ -36,3 +36,4 @@ pub mod Histories
 pub mod Objects
 pub mod ModelRuns
 pub mod Proved
+pub mod Examples

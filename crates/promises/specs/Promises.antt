@@ -72,7 +72,7 @@ module _ (pages files : ℕ) where
   pub record Shown (b : Box) (file time action place start size : ℕ) : Type 0 where
     pub seen : Image
     pub here : pageIn b place ≡ image seen
-    pub is : (seen .file ≡ file) × (seen .start ≡ start) × (length (seen .value) ≡ size) × (start ≤ time)
+    pub is : (seen .file ≡ file) × (seen .start ≡ start) × (length (seen .value) ≡ size) × (start ≤ time) × (1 ≤ seen .action)
     pub whose : (seen .action ≡ action → ⊥) → IsVersion b file place seen
 
   pub record Promises : Type 0 where
