@@ -1,7 +1,7 @@
 -- Runs that meet the premises of the promises, computed on bytes: document 01's listing, a change of two locks that is cut at every
 -- byte, and a read before and after a cut.
-use Prim.Native.Nat.{ℕ, zero, suc, _+_, _*_, _≤_, _<_}
-use mathlib.Core.Path.{_≡_, refl, sym, ap, _∙_}
+use Prim.Native.Nat.{ℕ, max, _*_, _≤_, _<_}
+use mathlib.Core.Path.{_≡_, refl, _∙_, subst}
 use mathlib.Core.List.{List, [], _∷_, _++_}
 use mathlib.Core.Bool.{Bool, true, false, cond}
 use mathlib.Core.Option.{Option, some, none}
@@ -11,7 +11,7 @@ use lib.Dec.{eqb, ltb}
 use Rattle.recovery.specs.declared.Answer.{Answer}
 use Rattle.recovery.specs.declared.Answer.the-variants.{Refused, Opened, Stored, Value, Nothing, Told}
 use Rattle.calls.specs.Calls.{Call, begin, write, read, test, decide, rebuild}
-use Rattle.promises.specs.Runs.{Box, Event, calls, opens, cuts, answerTo, after, runs, heard, Run, blankBox}
+use Rattle.promises.specs.Runs.{Box, Event, calls, opens, cuts, answerTo, after, runs, heard, Run, blankBox, Floors}
 use Rattle.recovery.specs.Lent.{sizesRight}
 use Rattle.promises.specs.Model.{latest, blankModel, modelHeard}
 use Rattle.promises.proofs.Proved.{promised}
@@ -112,3 +112,59 @@ change-heard i = heard-by 6 2 (change i) _ (change-run i) (go (eqb i 0) (ltb i 6
     go true c e f = rw e
     go false true e f = rw (e, f)
     go false false e f = rw (e, f)
+
+-- ---- floors, event by event
+
+-- the time that a read outside any action asks, and every opening's floor at least a time
+abbrev timeOf : Call → ℕ
+timeOf begin = 0
+timeOf (write f s a v) = 0
+timeOf (read f t a) = t
+timeOf (test a) = 0
+timeOf (decide a c) = 0
+timeOf (rebuild f) = 0
+
+abbrev Checked : ℕ → List Event → Type 0
+Checked t [] = Unit {0}
+Checked t (calls k ∷ es) = Checked (max t (timeOf k)) es
+Checked t (opens floor fates rows ∷ es) = (t ≤ floor) × Checked t es
+Checked t (cuts k i ∷ es) = Checked t es
+
+first-floor : (u t floor : ℕ) (fates rows : List ℕ) (es₂ es₃ : List Event) → u ≤ t → Checked t (es₂ ++ opens floor fates rows ∷ es₃) → u ≤ floor
+first-floor u t floor fates rows [] es₃ h c = omega (arith, c .0)
+first-floor u t floor fates rows (calls k ∷ es₂) es₃ h c = first-floor u (max t (timeOf k)) floor fates rows es₂ es₃ (omega arith) c
+first-floor u t floor fates rows (opens f a b ∷ es₂) es₃ h c = first-floor u t floor fates rows es₂ es₃ h (c .1)
+first-floor u t floor fates rows (cuts k i ∷ es₂) es₃ h c = first-floor u t floor fates rows es₂ es₃ h c
+
+floors-in : (t time floor : ℕ) (file : ℕ) (fates rows : List ℕ) (es₁ es₂ es₃ : List Event) → Checked t (es₁ ++ calls (read file time 0) ∷ (es₂ ++ opens floor fates rows ∷ es₃)) → time ≤ floor
+floors-in t time floor file fates rows [] es₂ es₃ c = first-floor time (max t time) floor fates rows es₂ es₃ (omega arith) c
+floors-in t time floor file fates rows (calls k ∷ es₁) es₂ es₃ c = floors-in (max t (timeOf k)) time floor file fates rows es₁ es₂ es₃ c
+floors-in t time floor file fates rows (opens f a b ∷ es₁) es₂ es₃ c = floors-in t time floor file fates rows es₁ es₂ es₃ (c .1)
+floors-in t time floor file fates rows (cuts k i ∷ es₁) es₂ es₃ c = floors-in t time floor file fates rows es₁ es₂ es₃ c
+
+checked-floors : (b : Box) (es : List Event) → Checked 0 es → Floors b es
+checked-floors b es c es₁ es₂ es₃ file time floor fates rows x e h ok = floors-in 0 time floor file fates rows es₁ es₂ es₃ (subst (Checked 0) e c)
+
+-- ---- the same past time read before and after the supply is pulled
+
+abbrev before : List Event
+before = opening 10 2 0 ∷ calls begin ∷ calls (write 1 5 1 (7 ∷ [])) ∷ calls (decide 1 true) ∷ []
+
+-- between: a newer version, and one that is cut
+abbrev between : List Event
+between = calls begin ∷ calls (write 1 9 4 (8 ∷ [])) ∷ calls (decide 4 true) ∷ calls begin ∷ cuts (write 1 12 7 (9 ∷ [])) 30 ∷ opening 10 2 6 ∷ []
+
+again-run : Run 10 2 (before ++ calls (read 1 6 0) ∷ between)
+unfolding sizesRight
+again-run = record { sized = refl; allowed = (λ e. refl, (tt, (omega arith, (tt, (tt, (tt, (omega arith, (tt, (tt, (omega arith, (λ e. refl, tt))))))))))) }
+
+again-floors : Floors (blankBox 10) (before ++ calls (read 1 6 0) ∷ between)
+again-floors = checked-floors (blankBox 10) (before ++ calls (read 1 6 0) ∷ between) (omega arith, (omega arith, tt))
+
+-- answered, and answered alike: the version from 5, though 9 is the newest
+pub again-heard : heard (blankBox 10) (before ++ calls (read 1 6 0) ∷ (between ++ calls (read 1 6 0) ∷ []))
+    ≡ some (Opened 0 0) ∷ some (Stored 1) ∷ some (Stored 2) ∷ some (Stored 3) ∷ some (Value 2 5 1)
+    ∷ some (Stored 4) ∷ some (Stored 5) ∷ some (Stored 6) ∷ some (Stored 7) ∷ none ∷ some (Opened 8 1) ∷ some (Value 2 5 1) ∷ []
+unfolding modelHeard latest sizesRight
+again-heard = heard-by 10 2 (before ++ calls (read 1 6 0) ∷ (between ++ calls (read 1 6 0) ∷ [])) _
+    (record { sized = refl; allowed = (λ e. refl, (tt, (omega arith, (tt, (tt, (tt, (omega arith, (tt, (tt, (omega arith, (λ e. refl, (tt, tt)))))))))))) }) refl
