@@ -33,14 +33,14 @@ length-value-end p v k = simp length-append (omega arith)
 
 module _ (s : List ℕ) (l : length s ≡ pageSize) (b : AreBytes s) where
   -- a field's number gives its bytes again
-  cell-as : (from to x : ℕ) → from ≤ to → to ≤ pageSize → field from to s ≡ x → cell from to x ≡ part from to s
+  pub cell-as : (from to x : ℕ) → from ≤ to → to ≤ pageSize → field from to s ≡ x → cell from to x ≡ part from to s
   cell-as from to x h k e = ap (bytes (to - from)) (sym e) ∙ rw (length-part from to s (omega arith)) at (bytes-number (part from to s) (part-bytes s from to b))
 
   cell-is : (from to : ℕ) → from ≤ to → to ≤ pageSize → cell from to (field from to s) ≡ part from to s
   cell-is from to h k = cell-as from to (field from to s) h k refl
 
   -- the bytes before an index, and the part after it
-  on : (from to : ℕ) {xs ys : List ℕ} → from ≤ to → xs ≡ take from s → ys ≡ part from to s → xs ++ ys ≡ take to s
+  pub on : (from to : ℕ) {xs ys : List ℕ} → from ≤ to → xs ≡ take from s → ys ≡ part from to s → xs ++ ys ≡ take to s
   on from to h e f =
       let k : from + (to - from) ≡ to = omega arith in
       ap₂ _++_ e f ∙ rw k at (sym (take-add from (to - from) s))

@@ -2,7 +2,7 @@
 -- one file's image, and the value; the number and the values of each answer; and what a cut leaves of an append.
 use Prim.Native.Nat.{ℕ, _-_}
 use mathlib.Core.List.{List, [], _∷_, _++_}
-use mathlib.Core.Bool.{Bool, _&&_, cond}
+use mathlib.Core.Bool.{Bool, true, false, _&&_, cond}
 use lib.ListN.{length, take, replicate}
 use lib.Dec.{eqb}
 use Rattle.encoding.specs.Bytes.{zeros}
@@ -31,6 +31,16 @@ tested s place files =
     cond (inBounds (length s) place files)
     (cond (zeros s) Blank (cond (torn s) Torn (cond (fits s place files) (byKind (fieldsOf s)) Unfit)))
     Refused
+
+-- an opening, of what the page test says
+unfoldable pub isOpening : Unpacked → Bool
+isOpening Refused = false
+isOpening Blank = false
+isOpening Torn = false
+isOpening (Opening p) = true
+isOpening (Image p) = false
+isOpening (Outcome p) = false
+isOpening Unfit = false
 
 -- the number of an answer: 0 the fields, 1 refused by line 1, 2 unfit, 3 blank, 4 torn
 abbrev pub testNumber : Unpacked → ℕ

@@ -45,11 +45,15 @@ fn seek_at(sheet: &[u8], place: u64, files: u64, file: u64) -> Sought
 pub fn is_opening_at(sheet: &[u8], place: u64, files: u64) -> bool
     ensures { λ r. ⌜ r ≡ isOpening (decoded files (now (sheet .entry)) place) ⌝ }
 {
-    let page = page_at(sheet, place, files);
-    match page {
-        Unpacked::Opening(_) => true,
-        _ => false,
+    if place < 1 {
+        return false;
     }
+    if ((sheet.len() / Page::SIZE) as u64) < place {
+        return false;
+    }
+    let a = Page::SIZE * (place as usize - 1);
+    let e = a + Page::SIZE;
+    Page::is_opening(&sheet[a..e], place, files)
 }
 
 // The fields of a sealed image of a file at a place.
