@@ -397,10 +397,10 @@ impl Page {
         if field(part, Page::FILE, Page::ACTION) != file {
             return Sought::Other;
         }
-        let Unpacked::Image(p) = Page::test(part, place, files) else {
+        let Unpacked::Image(_) = Page::test(part, place, files) else {
             return Sought::Other;
         };
-        Sought::Image(p)
+        Sought::Image(Page::fields(part))
     }
 
     // Writes the page of these fields and this value into the 64 bytes lent, or leaves them as they are.

@@ -67,7 +67,7 @@ pub fn image_at(sheet: &[u8], files: u64, file: u64, place: u64) -> Sought
     if !is_opening_at(sheet, image.action, files) {
         return Sought::Other;
     }
-    Sought::Image(image)
+    found
 }
 
 // The lent fate of an action, 0 for no place.
