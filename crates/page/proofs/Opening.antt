@@ -19,7 +19,7 @@ use Rattle.page.specs.declared.Unpacked.{Unpacked}
 use Rattle.page.specs.declared.Unpacked.the-variants.{Refused, Blank, Torn, Opening, Image, Outcome, Unfit}
 use Rattle.page.specs.Layout.{kindAt, actionAt, startAt, valueAt, placeAt, checkAt, spareEndAt, markAt, pageSize, endMark, mostPlaces, valueSize}
 use Rattle.page.specs.Table.{cell, head, front, packed, field, fieldsOf, valueOf, opening, lowest, highest, between, meetsRules, isPageOf}
-use Rattle.page.specs.Answers.{tested, isOpening}
+use Rattle.page.specs.Answers.{tested, isOpeningPage}
 use Rattle.page.proofs.Rules.{InBounds}
 use Rattle.page.proofs.RoundTrip.{length-front, packed-tested, ruled}
 use Rattle.page.proofs.Quick.{cell-as, on}
@@ -173,17 +173,17 @@ module _ (place : ℕ) (h : place ≤ mostPlaces) where
 -- ---- the page test finds an opening exactly in those bytes
 
 module _ (s : List ℕ) (place files : ℕ) (q : InBounds (length s) place files) where
-  opened : s ≡ packed (opening place) (replicate valueSize 0) place → isOpening (tested s place files) ≡ true
-  unfolding isOpening
+  opened : s ≡ packed (opening place) (replicate valueSize 0) place → isOpeningPage (tested s place files) ≡ true
+  unfolding isOpeningPage
   opened e =
       let q64 : InBounds pageSize place files = record { size-is = refl; place-is = q .place-is; files-are = q .files-are } in
       let rules = opening-rules place files in
-      ap (λ (t : List ℕ). isOpening (tested t place files)) e
-      ∙ ap isOpening (packed-tested (opening place) (replicate valueSize 0) place refl files q64 (ruled (opening place) (replicate valueSize 0) place files q64 rules .widths))
+      ap (λ (t : List ℕ). isOpeningPage (tested t place files)) e
+      ∙ ap isOpeningPage (packed-tested (opening place) (replicate valueSize 0) place refl files q64 (ruled (opening place) (replicate valueSize 0) place files q64 rules .widths))
       ∙ simp rules
 
-  from-opening : (u : Unpacked) → u ≡ tested s place files → isOpening u ≡ true → s ≡ packed (opening place) (replicate valueSize 0) place
-  unfolding isOpening isPageOf meetsRules
+  from-opening : (u : Unpacked) → u ≡ tested s place files → isOpeningPage u ≡ true → s ≡ packed (opening place) (replicate valueSize 0) place
+  unfolding isOpeningPage isPageOf meetsRules
   from-opening Refused e o = absurd (false≢true o)
   from-opening Blank e o = absurd (false≢true o)
   from-opening Torn e o = absurd (false≢true o)
@@ -198,7 +198,7 @@ module _ (s : List ℕ) (place files : ℕ) (q : InBounds (length s) place files
   from-opening (Outcome p) e o = absurd (false≢true o)
   from-opening Unfit e o = absurd (false≢true o)
 
-  pub opening-same : same s (packed (opening place) (replicate valueSize 0) place) ≡ isOpening (tested s place files)
+  pub opening-same : same s (packed (opening place) (replicate valueSize 0) place) ≡ isOpeningPage (tested s place files)
   opening-same =
       bool-ext _ _ (λ t. opened (same-true s _ t))
       (λ o. ap (same s) (sym (from-opening _ refl o)) ∙ same-refl s)

@@ -32,15 +32,24 @@ tested s place files =
     (cond (zeros s) Blank (cond (torn s) Torn (cond (fits s place files) (byKind (fieldsOf s)) Unfit)))
     Refused
 
--- an opening, of what the page test says
-unfoldable pub isOpening : Unpacked → Bool
-isOpening Refused = false
-isOpening Blank = false
-isOpening Torn = false
-isOpening (Opening p) = true
-isOpening (Image p) = false
-isOpening (Outcome p) = false
-isOpening Unfit = false
+-- blank, and an opening, of what the page test says
+abbrev pub isBlankPage : Unpacked → Bool
+isBlankPage Refused = false
+isBlankPage Blank = true
+isBlankPage Torn = false
+isBlankPage (Opening p) = false
+isBlankPage (Image p) = false
+isBlankPage (Outcome p) = false
+isBlankPage Unfit = false
+
+unfoldable pub isOpeningPage : Unpacked → Bool
+isOpeningPage Refused = false
+isOpeningPage Blank = false
+isOpeningPage Torn = false
+isOpeningPage (Opening p) = true
+isOpeningPage (Image p) = false
+isOpeningPage (Outcome p) = false
+isOpeningPage Unfit = false
 
 -- the number of an answer: 0 the fields, 1 refused by line 1, 2 unfit, 3 blank, 4 torn
 abbrev pub testNumber : Unpacked → ℕ

@@ -16,7 +16,7 @@ ghost use Rattle.encoding.specs.Bytes.{bytes, zeros, same, check};
 ghost use Rattle.page.specs.Layout.{valueAt, pageSize, mostPlaces, valueSize};
 ghost use Rattle.page.specs.Table.{head, front, packed, field, fieldsOf, opening, image, outcome, lowest, highest, within, between, used, meetsRules, isPageOf, torn};
 ghost use Rattle.page.specs.Steps.{framed};
-ghost use Rattle.page.specs.Answers.{inBounds, byKind, tested, isOpening, packs, imageOf, valueIn};
+ghost use Rattle.page.specs.Answers.{inBounds, byKind, tested, isBlankPage, isOpeningPage, packs, imageOf, valueIn};
 
 // The fields of a page (a log record), kind to start. The 32 bytes of the value stay beside it.
 pub struct Page {
@@ -361,6 +361,16 @@ impl Page {
         (48406 + 48628 + low + middle + high) % 65521
     }
 
+    // Whether the page test finds a blank page.
+    pub fn is_blank(part: &[u8], place: u64, files: u64) -> bool
+        ensures { λ r. ⌜ r ≡ isBlankPage (tested (now (part .entry)) place files) ⌝ }
+    {
+        if !is_in_bounds(part.len(), place, files) {
+            return false;
+        }
+        is_zero(part)
+    }
+
     // Whether 64 bytes are the opening at a place, eight bytes at a time.
     fn is_packed_opening(part: &[u8], place: u64) -> bool
         requires { ⌜ (length (now part) ≡ pageSize) × (place ≤ mostPlaces) ⌝ }
@@ -376,7 +386,7 @@ impl Page {
 
     // Whether the page test finds an opening. It has no free field: its place gives all its bytes.
     pub fn is_opening(part: &[u8], place: u64, files: u64) -> bool
-        ensures { λ r. ⌜ r ≡ isOpening (tested (now (part .entry)) place files) ⌝ }
+        ensures { λ r. ⌜ r ≡ isOpeningPage (tested (now (part .entry)) place files) ⌝ }
     {
         if !is_in_bounds(part.len(), place, files) {
             return false;
@@ -400,6 +410,7 @@ impl Page {
         let Unpacked::Image(_) = Page::test(part, place, files) else {
             return Sought::Other;
         };
+        // Read again from the part: a copy of the answer would wait for its stores.
         Sought::Image(Page::fields(part))
     }
 

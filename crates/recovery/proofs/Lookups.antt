@@ -12,8 +12,7 @@ use Rattle.encoding.proofs.Logic.{and-true}
 use Rattle.page.specs.declared.Unpacked.{Unpacked}
 use Rattle.page.specs.declared.Unpacked.the-variants.{Refused, Blank, Torn, Opening, Image, Outcome, Unfit}
 use Rattle.page.specs.Layout.{pageSize}
-use Rattle.page.specs.Answers as page
-use Rattle.page.specs.Answers.{tested}
+use Rattle.page.specs.Answers.{tested, isBlankPage, isOpeningPage}
 use Rattle.recovery.specs.Places.{nth}
 use Rattle.recovery.specs.Sheet.{pageBytes, entryOf, isOpening, decoded}
 use Rattle.recovery.specs.World.{cold, isFile}
@@ -26,8 +25,8 @@ use Rattle.recovery.proofs.FlatRows.{row-at}
 
 -- ---- an opening at a place
 
-opening-entry : (b : List ℕ) (u : Unpacked) → page.isOpening u ≡ isOpening (entryOf b u)
-unfolding page.isOpening
+opening-entry : (b : List ℕ) (u : Unpacked) → isOpeningPage u ≡ isOpening (entryOf b u)
+unfolding isOpeningPage
 opening-entry b Refused = refl
 opening-entry b Blank = refl
 opening-entry b Torn = refl
@@ -37,14 +36,19 @@ opening-entry b (Outcome x) = refl
 opening-entry b Unfit = refl
 
 module _ (s : List ℕ) (p files : ℕ) where
-  pub opening-decoded : page.isOpening (tested (pageBytes s p) p files) ≡ isOpening (decoded files s p)
+  pub opening-decoded : isOpeningPage (tested (pageBytes s p) p files) ≡ isOpening (decoded files s p)
   unfolding decoded
   opening-decoded = opening-entry (pageBytes s p) (tested (pageBytes s p) p files)
 
   -- a place that the sheet does not have
   pub opening-out : (1 ≤ p → pageSize * p ≤ length s → ⊥) → false ≡ isOpening (decoded files s p)
-  unfolding page.isOpening
-  opening-out h = ap page.isOpening (test-out s p files h) ∙ opening-decoded
+  unfolding isOpeningPage
+  opening-out h = ap isOpeningPage (test-out s p files h) ∙ opening-decoded
+
+-- ---- a blank page at a place
+
+pub blank-out : (s : List ℕ) (p files : ℕ) → (1 ≤ p → pageSize * p ≤ length s → ⊥) → false ≡ isBlankPage (tested (pageBytes s p) p files)
+blank-out s p files h = ap isBlankPage (test-out s p files h)
 
 -- ---- an element at a place
 

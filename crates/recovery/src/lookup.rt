@@ -5,7 +5,7 @@ use page::Unpacked;
 ghost use mathlib.Core.Bool.{_||_};
 ghost use mathlib.Core.Path.{_≡_};
 ghost use lib.Dec.{eqb};
-ghost use Rattle.page.specs.Answers.{tested, imageOf};
+ghost use Rattle.page.specs.Answers.{tested, isBlankPage, imageOf};
 ghost use Rattle.recovery.specs.Places.{nth};
 ghost use Rattle.recovery.specs.Sheet.{pageBytes, isOpening, decoded};
 ghost use Rattle.recovery.specs.Steps.{countedFate, sealedImage};
@@ -39,6 +39,21 @@ fn seek_at(sheet: &[u8], place: u64, files: u64, file: u64) -> Sought
     let a = Page::SIZE * (place as usize - 1);
     let e = a + Page::SIZE;
     Page::seek(&sheet[a..e], place, files, file)
+}
+
+// Whether the page at a place is blank.
+pub fn is_blank_at(sheet: &[u8], place: u64, files: u64) -> bool
+    ensures { λ r. ⌜ r ≡ isBlankPage (tested (pageBytes (now (sheet .entry)) place) place files) ⌝ }
+{
+    if place < 1 {
+        return false;
+    }
+    if ((sheet.len() / Page::SIZE) as u64) < place {
+        return false;
+    }
+    let a = Page::SIZE * (place as usize - 1);
+    let e = a + Page::SIZE;
+    Page::is_blank(&sheet[a..e], place, files)
 }
 
 // Whether the page at a place is an opening.

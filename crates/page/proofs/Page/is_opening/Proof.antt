@@ -1,7 +1,7 @@
 -- `page::Page::is_opening`: what line 1 refuses, and the bytes that the place gives. Assumes nothing.
 use Rattle.page.proofs.Opening.{opening-same}
 use Rattle.page.proofs.Rules.{InBounds, in-bounds}
-use Rattle.page.specs.Answers.{tested, isOpening}
+use Rattle.page.specs.Answers.{tested, isOpeningPage}
 use Rattle.encoding.proofs.Logic.{refused, passed}
 use denote.Ref.{now}
 use lib.ListN.{length}
@@ -18,7 +18,7 @@ is-in-bounds-requires : tie.Need-is-in-bounds-requires
 is-in-bounds-requires c κs = search needs
 
 returns : tie.Need-returns
-unfolding tested isOpening
+unfolding tested isOpeningPage
 returns c = simp (refused (c .before .is-in-bounds .ensures) (c .if1 .taken))
 
 is-packed-opening-requires : tie.Need-is-packed-opening-requires

@@ -1,7 +1,7 @@
 -- `recovery::lookup::is_opening_at`: the part at the place, or none. Assumes nothing.
 use Rattle.recovery.proofs.Lookups.{opening-decoded, opening-out}
 use Rattle.recovery.proofs.Pages.{test-is}
-use Rattle.page.specs.Answers.{isOpening}
+use Rattle.page.specs.Answers.{isOpeningPage}
 use denote.Ref.{now}
 use native.Mathlib.Omega.{arith}
 use mathlib.Core.Path.{refl, ap, _∙_}
@@ -43,7 +43,7 @@ is-opening-requires c κs = search needs
 returns-3 : tie.Need-returns-3
 returns-3 c =
     let a = c .before .before .before .before .before .args in
-    c .is-opening .ensures ∙ ap isOpening (test-is (now (a .sheet)) _ _ (a .place) (a .files) (omega arith) refl refl) ∙ opening-decoded (now (a .sheet)) (a .place) (a .files)
+    c .is-opening .ensures ∙ ap isOpeningPage (test-is (now (a .sheet)) _ _ (a .place) (a .files) (omega arith) refl refl) ∙ opening-decoded (now (a .sheet)) (a .place) (a .files)
 
 pub is-opening-at-spec : {M : Type 1} → statement M
 is-opening-at-spec =
