@@ -42,41 +42,30 @@ passing-is (suc n) x = omega (arith, passing-is n x)
 four : ℕ → ℕ → ℕ → ℕ → ℕ → ℕ → ℕ → ℕ → ℕ → ℕ
 four a b c d x y z t rest = a * x + (b * y + (c * z + (d * t + rest)))
 
-sums : (x y z t : ℕ) → t ≡ 0
-    → 48406 + 48628 + (15964 + 4654) * x + (38049 + 528) * y + (14425 + 257) * z
-    ≡ 48406 + (48628 + passing 7 (four 15964 38049 14425 61498 x y z t (passing 8 0))) + passing 20 0 + passing 16 (four 4654 528 257 1 x y z t 0)
-unfolding four
-sums x y z t h = simp passing-is (omega arith)
+-- the first 60 bytes of an opening by their weights, of the four bytes of its place
+summed : ℕ → ℕ → ℕ → ℕ → ℕ
+summed x y z t = 48406 + (48628 + passing 7 (four 15964 38049 14425 61498 x y z t (passing 8 0))) + passing 20 0 + passing 16 (four 4654 528 257 1 x y z t 0)
+
+summed-is : (x y z t : ℕ) → t ≡ 0 → 48406 + 48628 + (15964 + 4654) * x + (38049 + 528) * y + (14425 + 257) * z ≡ summed x y z t
+unfolding summed four
+summed-is x y z t h = simp passing-is (omega arith)
 
 module _ (place : ℕ) where
   first-60 : List ℕ
   first-60 = front (opening place) (replicate valueSize 0) place
 
-  b0 : ℕ
-  b0 = place % 256
-
-  b1 : ℕ
-  b1 = place / 256 % 256
-
-  b2 : ℕ
-  b2 = place / 256 / 256 % 256
-
-  b3 : ℕ
-  b3 = place / 256 / 256 / 256 % 256
-
   weighed-sum : 48406 + weighed (part 0 20 (weights 60)) first-60 0 + weighed (part 20 40 (weights 60)) first-60 20 + weighed (part 40 60 (weights 60)) first-60 40
-      ≡ 48406 + (48628 + passing 7 (four 15964 38049 14425 61498 b0 b1 b2 b3 (passing 8 0))) + passing 20 0 + passing 16 (four 4654 528 257 1 b0 b1 b2 b3 0)
-  unfolding first-60 b0 b1 b2 b3 weights front head passing four
+      ≡ summed (place % 256) (place / 256 % 256) (place / 256 / 256 % 256) (place / 256 / 256 / 256 % 256)
+  unfolding first-60 weights front head summed passing four
   weighed-sum = refl
 
   pub opening-word : place ≤ mostPlaces
       → (48406 + 48628 + (15964 + 4654) * (place % 256) + (38049 + 528) * (place / 256 % 256) + (14425 + 257) * (place / 65536)) % 65521
       ≡ check (front (opening place) (replicate valueSize 0) place)
-  unfolding first-60 b0 b1 b2 b3
+  unfolding first-60
   opening-word h =
       let high : place / 65536 ≡ place / 256 / 256 % 256 = omega arith in
-      let none : place / 256 / 256 / 256 % 256 ≡ 0 = omega arith in
-      rw high (ap (λ (k : ℕ). k % 65521) (sums b0 b1 b2 b3 none ∙ sym weighed-sum)
+      rw high (ap (λ (k : ℕ). k % 65521) (summed-is _ _ _ (place / 256 / 256 / 256 % 256) (omega arith) ∙ sym weighed-sum)
       ∙ page-word first-60 (length-front (opening place) (replicate valueSize 0) place refl))
 
 -- ---- the bytes, eight at a time

@@ -349,6 +349,16 @@ impl Page {
         p.by_kind()
     }
 
+    // Whether the page test finds a blank page.
+    pub fn is_blank(part: &[u8], place: u64, files: u64) -> bool
+        ensures { λ r. ⌜ r ≡ isBlankPage (tested (now (part .entry)) place files) ⌝ }
+    {
+        if !is_in_bounds(part.len(), place, files) {
+            return false;
+        }
+        is_zero(part)
+    }
+
     // The check word of the opening at a place: of its 60 bytes only the kind and the place, which stands there twice, are not 0.
     fn opening_word(place: u64) -> u64
         requires { ⌜ place ≤ mostPlaces ⌝ }
@@ -359,16 +369,6 @@ impl Page {
         let middle = (38049 + 528) * (place / 256 % 256);
         let high = (14425 + 257) * (place / 65536);
         (48406 + 48628 + low + middle + high) % 65521
-    }
-
-    // Whether the page test finds a blank page.
-    pub fn is_blank(part: &[u8], place: u64, files: u64) -> bool
-        ensures { λ r. ⌜ r ≡ isBlankPage (tested (now (part .entry)) place files) ⌝ }
-    {
-        if !is_in_bounds(part.len(), place, files) {
-            return false;
-        }
-        is_zero(part)
     }
 
     // Whether 64 bytes are the opening at a place, eight bytes at a time.
