@@ -1,7 +1,5 @@
 // Append: one page above the end, and nothing else of the sheet.
 use page::Page;
-use page::Unpacked;
-use recovery::page_at;
 ghost use mathlib.Core.Bool.{true};
 ghost use mathlib.Core.Path.{_≡_};
 ghost use Prim.Native.Nat.{_+_, _*_, _≤_, suc};
@@ -17,11 +15,7 @@ ghost use Rattle.calls.specs.Effect.{withPage};
 pub(crate) fn is_blank_at(sheet: &[u8], place: u64, files: u64) -> bool
     ensures { λ r. ⌜ r ≡ isBlank (sealed files (now (sheet .entry)) place) ⌝ }
 {
-    let page = page_at(sheet, place, files);
-    match page {
-        Unpacked::Blank => true,
-        _ => false,
-    }
+    recovery::is_blank_at(sheet, place, files)
 }
 
 // Stores a page above the end, byte 0 first and byte 63 last, as pack writes it.

@@ -107,6 +107,8 @@ fn write_warm(
     requires { ⌜ (lineOne (length (now sheet)) (length (now fates)) (length (now rows)) (state .end) (state .undecided) ≡ true) × (isFile (length (now rows) / rowLength) file ≡ true) × (length (now value) ≤ valueSize) × (actionLine (now fates) (state .end) action ≡ 0) ⌝ }
     ensures { λ r. ⌜ leftBy r (now (sheet .exit)) (now (fates .entry)) (now (rows .exit)) ≡ callLeaves (now (sheet .entry)) (now (fates .entry)) (now (rows .entry)) state (Call.write file start action (now (value .entry))) ⌝ }
 {
+    // First, so that these stores are done when the page is written from them.
+    let bytes = pad(value);
     let end = state.end;
     let files = (rows.len() / ROW_LENGTH) as u64;
     let row = warm_row(&sheet[..], fates, rows, file, end);
@@ -116,7 +118,6 @@ fn write_warm(
     };
     set_row(rows, file, written_row(row, place, start));
     let page = Page::image(value.len() as u64, file, action, row.current, start);
-    let bytes = pad(value);
     append(sheet, end, files, page, &bytes);
     Done {
         answer: Answer::Stored(place),

@@ -5,4 +5,5 @@ pub mod Found
 pub mod Seek
 pub mod Written
 pub mod Obeyed
+pub mod Opening
 pub mod Once

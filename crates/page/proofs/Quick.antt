@@ -9,16 +9,17 @@ use lib.Dec.{eqb}
 use lib.ListN.{length, take, drop, getD, length-append}
 use lib.Seq.{take-at, drop-at, take-all, take-add, getD-drop}
 use Rattle.encoding.specs.Bytes.{AreBytes, part, number, bytes, zeros, same, check}
-use Rattle.encoding.proofs.Logic.{and-true, and-both, and-false, bool-ext}
+use Rattle.encoding.proofs.Logic.{and-true, and-both, and-false, bool-ext, by-test}
 use Rattle.encoding.proofs.Numbers.{bytes-number, number-bytes, number-byte, part-bytes, same-refl, same-true, zeros-at, not-zeros}
 use Rattle.encoding.proofs.Parts.{length-part}
 use Rattle.encoding.proofs.Weighing.{check-small}
 use Rattle.page.specs.declared.Page.{Page}
+use Rattle.page.specs.declared.Unpacked.{Unpacked}
 use Rattle.page.specs.declared.Unpacked.the-variants.{Blank, Torn, Unfit}
 use Rattle.page.specs.Layout.{kindAt, smallAt, spareAt, fileAt, actionAt, linkAt, startAt, valueAt, placeAt, checkAt, spareEndAt, markAt, pageSize, endMark, mostPlaces, valueSize}
 use Rattle.page.specs.Table.{cell, head, front, packed, field, fieldsOf, valueOf, within, meetsRules, isPageOf, fits, torn}
 use Rattle.page.specs.Steps.{framed}
-use Rattle.page.specs.Answers.{inBounds, byKind, tested}
+use Rattle.page.specs.Answers.{inBounds, byKind, tested, isBlankPage}
 use Rattle.page.proofs.Rules.{within-true, InBounds, in-bounds}
 use Rattle.page.proofs.RoundTrip.{length-front, last-byte}
 
@@ -33,14 +34,14 @@ length-value-end p v k = simp length-append (omega arith)
 
 module _ (s : List ℕ) (l : length s ≡ pageSize) (b : AreBytes s) where
   -- a field's number gives its bytes again
-  cell-as : (from to x : ℕ) → from ≤ to → to ≤ pageSize → field from to s ≡ x → cell from to x ≡ part from to s
+  pub cell-as : (from to x : ℕ) → from ≤ to → to ≤ pageSize → field from to s ≡ x → cell from to x ≡ part from to s
   cell-as from to x h k e = ap (bytes (to - from)) (sym e) ∙ rw (length-part from to s (omega arith)) at (bytes-number (part from to s) (part-bytes s from to b))
 
   cell-is : (from to : ℕ) → from ≤ to → to ≤ pageSize → cell from to (field from to s) ≡ part from to s
   cell-is from to h k = cell-as from to (field from to s) h k refl
 
   -- the bytes before an index, and the part after it
-  on : (from to : ℕ) {xs ys : List ℕ} → from ≤ to → xs ≡ take from s → ys ≡ part from to s → xs ++ ys ≡ take to s
+  pub on : (from to : ℕ) {xs ys : List ℕ} → from ≤ to → xs ≡ take from s → ys ≡ part from to s → xs ++ ys ≡ take to s
   on from to h e f =
       let k : from + (to - from) ≡ to = omega arith in
       ap₂ _++_ e f ∙ rw k at (sym (take-add from (to - from) s))
@@ -184,3 +185,23 @@ pub marked-tested : (s : List ℕ) (place files : ℕ) → inBounds (length s) p
 unfolding tested torn
 marked-tested s place files a m =
     simp (a, not-zeros s markAt m, and-false (within (getD s kindAt 0) 1 3) (eqb (getD s markAt 0) 0) (ne-eqb (getD s markAt 0) 0 m))
+
+-- ---- a blank page is one of zeros
+
+pub zeros-blank : (s : List ℕ) (place files : ℕ) → inBounds (length s) place files ≡ true → zeros s ≡ isBlankPage (tested s place files)
+unfolding tested
+zeros-blank s place files a = simp a (go (zeros s))
+  where
+    kinds : false ≡ isBlankPage (byKind (fieldsOf s))
+    kinds =
+        by-test (λ (u : Unpacked). false ≡ isBlankPage u) (eqb (fieldsOf s .kind) 1) (λ e. refl)
+        (λ e. by-test (λ (u : Unpacked). false ≡ isBlankPage u) (eqb (fieldsOf s .kind) 2) (λ f. refl) (λ f. refl))
+
+    other : false ≡ isBlankPage (cond (torn s) Torn (cond (fits s place files) (byKind (fieldsOf s)) Unfit))
+    other =
+        by-test (λ (u : Unpacked). false ≡ isBlankPage u) (torn s) (λ e. refl)
+        (λ e. by-test (λ (u : Unpacked). false ≡ isBlankPage u) (fits s place files) (λ f. kinds) (λ f. refl))
+
+    go : (z : Bool) → z ≡ isBlankPage (cond z Blank (cond (torn s) Torn (cond (fits s place files) (byKind (fieldsOf s)) Unfit)))
+    go true = refl
+    go false = other

@@ -56,8 +56,10 @@ module _ (s : List ℕ) (place files file : ℕ) where
   pub other-file : (fieldsOf s .file ≡ file → ⊥) → sought.Sought.Other ≡ imageOf file (tested s place files)
   other-file h = sym (only-fields (file-other (fieldsOf s) h))
 
-  pub this-image : (p : Page) → Image p ≡ tested s place files → fieldsOf s .file ≡ file → sought.Sought.Image p ≡ imageOf file (tested s place files)
+  -- the fields are read again from the part
+  pub this-image : (p x : Page) → Image x ≡ tested s place files → p ≡ fieldsOf s → fieldsOf s .file ≡ file → sought.Sought.Image p ≡ imageOf file (tested s place files)
   unfolding imageOf
-  this-image p e f =
-      let g : p .file ≡ file = ap (λ (x : Page). x .file) (found s place files (Image p) e .fields-are) ∙ f in
-      rw (← e) (simp (eq-eqb (p .file) file g))
+  this-image p x e r f =
+      let i = found s place files (Image x) e .fields-are in
+      let g : x .file ≡ file = ap (λ (y : Page). y .file) i ∙ f in
+      ap sought.Sought.Image (r ∙ sym i) ∙ rw (← e) (simp (eq-eqb (x .file) file g))

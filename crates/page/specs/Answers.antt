@@ -2,7 +2,7 @@
 -- one file's image, and the value; the number and the values of each answer; and what a cut leaves of an append.
 use Prim.Native.Nat.{ℕ, _-_}
 use mathlib.Core.List.{List, [], _∷_, _++_}
-use mathlib.Core.Bool.{Bool, _&&_, cond}
+use mathlib.Core.Bool.{Bool, true, false, _&&_, cond}
 use lib.ListN.{length, take, replicate}
 use lib.Dec.{eqb}
 use Rattle.encoding.specs.Bytes.{zeros}
@@ -31,6 +31,25 @@ tested s place files =
     cond (inBounds (length s) place files)
     (cond (zeros s) Blank (cond (torn s) Torn (cond (fits s place files) (byKind (fieldsOf s)) Unfit)))
     Refused
+
+-- blank, and an opening, of what the page test says
+abbrev pub isBlankPage : Unpacked → Bool
+isBlankPage Refused = false
+isBlankPage Blank = true
+isBlankPage Torn = false
+isBlankPage (Opening p) = false
+isBlankPage (Image p) = false
+isBlankPage (Outcome p) = false
+isBlankPage Unfit = false
+
+unfoldable pub isOpeningPage : Unpacked → Bool
+isOpeningPage Refused = false
+isOpeningPage Blank = false
+isOpeningPage Torn = false
+isOpeningPage (Opening p) = true
+isOpeningPage (Image p) = false
+isOpeningPage (Outcome p) = false
+isOpeningPage Unfit = false
 
 -- the number of an answer: 0 the fields, 1 refused by line 1, 2 unfit, 3 blank, 4 torn
 abbrev pub testNumber : Unpacked → ℕ

@@ -10,13 +10,13 @@ use encoding::write_number;
 ghost use mathlib.Core.Bool.{cond};
 ghost use mathlib.Core.List.{_++_};
 ghost use mathlib.Core.Path.{_≡_};
-ghost use Prim.Native.Nat.{_+_, _≤_, _-_};
-ghost use lib.ListN.{length, take};
-ghost use Rattle.encoding.specs.Bytes.{bytes, zeros};
+ghost use Prim.Native.Nat.{_+_, _≤_, _<_, _-_};
+ghost use lib.ListN.{length, take, replicate};
+ghost use Rattle.encoding.specs.Bytes.{bytes, zeros, same, check};
 ghost use Rattle.page.specs.Layout.{valueAt, pageSize, mostPlaces, valueSize};
-ghost use Rattle.page.specs.Table.{head, packed, field, fieldsOf, opening, image, outcome, lowest, highest, within, between, used, meetsRules, isPageOf, torn};
+ghost use Rattle.page.specs.Table.{head, front, packed, field, fieldsOf, opening, image, outcome, lowest, highest, within, between, used, meetsRules, isPageOf, torn};
 ghost use Rattle.page.specs.Steps.{framed};
-ghost use Rattle.page.specs.Answers.{inBounds, byKind, tested, packs, imageOf, valueIn};
+ghost use Rattle.page.specs.Answers.{inBounds, byKind, tested, isBlankPage, isOpeningPage, packs, imageOf, valueIn};
 
 // The fields of a page (a log record), kind to start. The 32 bytes of the value stay beside it.
 pub struct Page {
@@ -349,6 +349,51 @@ impl Page {
         p.by_kind()
     }
 
+    // Whether the page test finds a blank page.
+    pub fn is_blank(part: &[u8], place: u64, files: u64) -> bool
+        ensures { λ r. ⌜ r ≡ isBlankPage (tested (now (part .entry)) place files) ⌝ }
+    {
+        if !is_in_bounds(part.len(), place, files) {
+            return false;
+        }
+        is_zero(part)
+    }
+
+    // The check word of the opening at a place: of its 60 bytes only the kind and the place, which stands there twice, are not 0.
+    fn opening_word(place: u64) -> u64
+        requires { ⌜ place ≤ mostPlaces ⌝ }
+        ensures { λ r. ⌜ r ≡ check (front (opening place) (replicate valueSize 0) place) ⌝ }
+        ensures fits { λ r. ⌜ r < 65521 ⌝ }
+    {
+        let low = (15964 + 4654) * (place % 256);
+        let middle = (38049 + 528) * (place / 256 % 256);
+        let high = (14425 + 257) * (place / 65536);
+        (48406 + 48628 + low + middle + high) % 65521
+    }
+
+    // Whether 64 bytes are the opening at a place, eight bytes at a time.
+    fn is_packed_opening(part: &[u8], place: u64) -> bool
+        requires { ⌜ (length (now part) ≡ pageSize) × (place ≤ mostPlaces) ⌝ }
+        ensures { λ r. ⌜ r ≡ same (now (part .entry)) (packed (opening place) (replicate valueSize 0) place) ⌝ }
+    {
+        let end = place + 4294967296 * (Page::opening_word(place) + 16777216 * Page::END_MARK);
+        (field(part, Page::KIND, Page::ACTION) == 1)
+            & (field(part, Page::ACTION, Page::START) == place)
+            & (field(part, Page::START, Page::VALUE) == 0)
+            & is_zero_from(&part[Page::VALUE..Page::PLACE], 0)
+            & (field(part, Page::PLACE, Page::SIZE) == end)
+    }
+
+    // Whether the page test finds an opening. It has no free field: its place gives all its bytes.
+    pub fn is_opening(part: &[u8], place: u64, files: u64) -> bool
+        ensures { λ r. ⌜ r ≡ isOpeningPage (tested (now (part .entry)) place files) ⌝ }
+    {
+        if !is_in_bounds(part.len(), place, files) {
+            return false;
+        }
+        Page::is_packed_opening(part, place)
+    }
+
     // The quick look: the image of this file in a part, by its kind and file before anything else.
     pub fn seek(part: &[u8], place: u64, files: u64, file: u64) -> Sought
         ensures { λ r. ⌜ r ≡ imageOf file (tested (now (part .entry)) place files) ⌝ }
@@ -362,10 +407,11 @@ impl Page {
         if field(part, Page::FILE, Page::ACTION) != file {
             return Sought::Other;
         }
-        let Unpacked::Image(p) = Page::test(part, place, files) else {
+        let Unpacked::Image(_) = Page::test(part, place, files) else {
             return Sought::Other;
         };
-        Sought::Image(p)
+        // Read again from the part: a copy of the answer would wait for its stores.
+        Sought::Image(Page::fields(part))
     }
 
     // Writes the page of these fields and this value into the 64 bytes lent, or leaves them as they are.

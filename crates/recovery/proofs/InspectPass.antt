@@ -12,7 +12,7 @@ use Rattle.encoding.proofs.Logic.{and-true, refused, passed}
 use Rattle.page.specs.declared.Unpacked.{Unpacked}
 use Rattle.page.specs.declared.Unpacked.the-variants.{Refused, Blank, Torn, Opening, Image, Outcome, Unfit}
 use Rattle.page.specs.Layout.{pageSize, mostPlaces}
-use Rattle.page.specs.Answers.{tested}
+use Rattle.page.specs.Answers.{tested, isBlankPage}
 use Rattle.page.proofs.Found.{found, image-is, outcome-is}
 use Rattle.recovery.specs.Places.{nth}
 use Rattle.recovery.specs.Log.{Entry, blank, torn, bad, opening, image, outcome, fateOf}
@@ -21,7 +21,7 @@ use Rattle.recovery.specs.Lawful.{fitsBelow, lowestUnlawful}
 use Rattle.recovery.specs.World.{down, isBlank, endOf, fateNumber}
 use Rattle.recovery.specs.Lent.{pagesOf, inspectable, inspected}
 use Rattle.recovery.specs.declared.Inspected as inspection
-use Rattle.recovery.specs.Kept.{Kept, Fresh, keptFits, keepPage, Told, isBlankPage}
+use Rattle.recovery.specs.Kept.{Kept, Fresh, keptFits, keepPage, Told}
 use Rattle.recovery.proofs.Pages.{page-here, page-at-place, length-down, sealed-is}
 use Rattle.recovery.proofs.InspectLaw.{lowest-none, lowest-here, lowest-stays, lowest-cut, lowest-out, lowest-in}
 use Rattle.recovery.proofs.InspectFates.{fate-place, fate-opens}
@@ -61,7 +61,7 @@ opening-sealed r (outcome a v) = go (isOpening (r a))
     go true = refl
     go false = refl
 
-blank-sealed : (r : ℕ → Entry) (b : List ℕ) (u : Unpacked) → isBlank (seal r (entryOf b u)) ≡ isBlankPage u
+pub blank-sealed : (r : ℕ → Entry) (b : List ℕ) (u : Unpacked) → isBlank (seal r (entryOf b u)) ≡ isBlankPage u
 blank-sealed r b Refused = refl
 blank-sealed r b Blank = refl
 blank-sealed r b Torn = refl

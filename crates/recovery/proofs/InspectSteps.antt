@@ -14,7 +14,7 @@ use Rattle.page.specs.declared.Page.{Page}
 use Rattle.page.specs.declared.Unpacked.{Unpacked}
 use Rattle.page.specs.declared.Unpacked.the-variants.{Refused, Blank, Torn, Opening, Image, Outcome, Unfit}
 use Rattle.recovery.specs.declared.inspection.Slot.{Slot}
-use Rattle.recovery.specs.Kept.{Kept, keeps, slotAt, putSlot, newestFate, keptVersion, keptImageFits, keptFits, keepImage, keepPage, Filed, Told, isBlankPage}
+use Rattle.recovery.specs.Kept.{Kept, keeps, slotAt, putSlot, newestFate, keptVersion, keptImageFits, keptFits, keepImage, keepPage, Filed, Told}
 
 module _ (k : Kept) (f : ℕ) (last : Slot) (hl : last ≡ slotAt (k .newest) f) (w : ℕ) (hw : w ≡ getD (k .fates) (last .action) 0) where
   fate-last : newestFate k f ≡ w
@@ -80,18 +80,6 @@ never-fits k (Opening p) h = absurd (miss unfit-tags 3 tt h)
 never-fits k (Image p) h = absurd (miss unfit-tags 4 tt h)
 never-fits k (Outcome p) h = absurd (miss unfit-tags 5 tt h)
 never-fits k Unfit h = refl
-
-abbrev used-tags : List ℕ
-used-tags = 0 ∷ 2 ∷ 3 ∷ 4 ∷ 5 ∷ 6 ∷ []
-
-pub not-blank : (u : Unpacked) → OneOf used-tags (tagOf the-type u) → false ≡ isBlankPage u
-not-blank Refused h = refl
-not-blank Blank h = absurd (miss used-tags 1 tt h)
-not-blank Torn h = refl
-not-blank (Opening p) h = refl
-not-blank (Image p) h = refl
-not-blank (Outcome p) h = refl
-not-blank Unfit h = refl
 
 -- ---- what is kept
 

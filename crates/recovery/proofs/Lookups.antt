@@ -2,20 +2,17 @@
 use Prim.Native.Nat.{ℕ, zero, suc, pred, _+_, _-_, _*_, _/_, _≤_, _<_}
 use mathlib.Core.Path.{_≡_, refl, sym, ap, _∙_}
 use mathlib.Core.Bool.{Bool, true, false, _&&_}
-use mathlib.Core.List.{List, [], _∷_}
+use mathlib.Core.List.{List}
 use native.Mathlib.Omega.{arith}
 use native.Mathlib.Numerals.{sub-one}
-use types.Run.{OneOf, miss}
-use denote.Enum.Declared.{tagOf}
 use borrow.Author.Tests.{leb-true, leb-false}
 use lib.Dec.{leb}
 use lib.ListN.{length, getD, List·getD-eq-default}
 use Rattle.encoding.proofs.Logic.{and-true}
-use Rattle.page.specs.declared.Page.{Page}
 use Rattle.page.specs.declared.Unpacked.{Unpacked}
 use Rattle.page.specs.declared.Unpacked.the-variants.{Refused, Blank, Torn, Opening, Image, Outcome, Unfit}
-use Rattle.page.proofs.Unpacked.{the-type}
-use Rattle.page.specs.Answers.{tested}
+use Rattle.page.specs.Layout.{pageSize}
+use Rattle.page.specs.Answers.{tested, isBlankPage, isOpeningPage}
 use Rattle.recovery.specs.Places.{nth}
 use Rattle.recovery.specs.Sheet.{pageBytes, entryOf, isOpening, decoded}
 use Rattle.recovery.specs.World.{cold, isFile}
@@ -23,29 +20,35 @@ use Rattle.recovery.specs.Lent.{rowLength, rowFrom, rowsOf, putRow}
 use Rattle.recovery.specs.Steps.{rowOf, withRowOf}
 use Rattle.recovery.specs.declared.Row.{Row}
 use Rattle.recovery.proofs.Places.{getD-tabulate-out}
-use Rattle.recovery.proofs.Pages.{decoded-is}
+use Rattle.recovery.proofs.Pages.{test-out}
 use Rattle.recovery.proofs.FlatRows.{row-at}
 
 -- ---- an opening at a place
 
-abbrev not-opening-tags : List ℕ
-not-opening-tags = 0 ∷ 1 ∷ 2 ∷ 4 ∷ 5 ∷ 6 ∷ []
+opening-entry : (b : List ℕ) (u : Unpacked) → isOpeningPage u ≡ isOpening (entryOf b u)
+unfolding isOpeningPage
+opening-entry b Refused = refl
+opening-entry b Blank = refl
+opening-entry b Torn = refl
+opening-entry b (Opening x) = refl
+opening-entry b (Image x) = refl
+opening-entry b (Outcome x) = refl
+opening-entry b Unfit = refl
 
-not-opening : (b : List ℕ) (u : Unpacked) → OneOf not-opening-tags (tagOf the-type u) → false ≡ isOpening (entryOf b u)
-not-opening b Refused k = refl
-not-opening b Blank k = refl
-not-opening b Torn k = refl
-not-opening b (Opening x) k = absurd (miss not-opening-tags 3 tt k)
-not-opening b (Image x) k = refl
-not-opening b (Outcome x) k = refl
-not-opening b Unfit k = refl
+module _ (s : List ℕ) (p files : ℕ) where
+  pub opening-decoded : isOpeningPage (tested (pageBytes s p) p files) ≡ isOpening (decoded files s p)
+  unfolding decoded
+  opening-decoded = opening-entry (pageBytes s p) (tested (pageBytes s p) p files)
 
-module _ (s : List ℕ) (p files : ℕ) (u : Unpacked) (e : u ≡ tested (pageBytes s p) p files) where
-  pub opening-yes : (x : Page) → u ≡ Opening x → true ≡ isOpening (decoded files s p)
-  opening-yes x i = rw i at (ap isOpening (decoded-is s p files u e))
+  -- a place that the sheet does not have
+  pub opening-out : (1 ≤ p → pageSize * p ≤ length s → ⊥) → false ≡ isOpening (decoded files s p)
+  unfolding isOpeningPage
+  opening-out h = ap isOpeningPage (test-out s p files h) ∙ opening-decoded
 
-  pub opening-no : OneOf not-opening-tags (tagOf the-type u) → false ≡ isOpening (decoded files s p)
-  opening-no k = not-opening (pageBytes s p) u k ∙ ap isOpening (decoded-is s p files u e)
+-- ---- a blank page at a place
+
+pub blank-out : (s : List ℕ) (p files : ℕ) → (1 ≤ p → pageSize * p ≤ length s → ⊥) → false ≡ isBlankPage (tested (pageBytes s p) p files)
+blank-out s p files h = ap isBlankPage (test-out s p files h)
 
 -- ---- an element at a place
 

@@ -102,12 +102,3 @@ Told place (Opening p) = Unit {0}
 Told place (Image p) = p .file ≤ mostFiles
 Told place (Outcome p) = (p .action < place) × (1 ≤ p .small) × (p .small ≤ 2)
 Told place Unfit = Unit {0}
-
-abbrev pub isBlankPage : Unpacked → Bool
-isBlankPage Refused = false
-isBlankPage Blank = true
-isBlankPage Torn = false
-isBlankPage (Opening p) = false
-isBlankPage (Image p) = false
-isBlankPage (Outcome p) = false
-isBlankPage Unfit = false

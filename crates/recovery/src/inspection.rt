@@ -1,6 +1,7 @@
 // Inspection: whether a sheet is lawful, in one pass upward. What the pass keeps lies in local arrays, which the climb takes as
 // slices, so that a small sheet has small ones: clearing 64 KiB takes long beside a pass over a few hundred pages.
 use crate::Inspected;
+use crate::is_blank_at;
 use crate::is_inspectable;
 use crate::page_at;
 use page::Page;
@@ -13,7 +14,7 @@ ghost use Rattle.page.specs.Layout.{pageSize, mostPlaces, mostFiles};
 ghost use Rattle.recovery.specs.Lawful.{lowestUnlawful};
 ghost use Rattle.recovery.specs.World.{down, endOf};
 ghost use Rattle.recovery.specs.Lent.{pagesOf, inspected};
-ghost use Rattle.recovery.specs.Kept.{slotNumbers, keeps, Long, Fresh, slotAt, putSlot, keptVersion, keptImageFits, keptFits, keepImage, keepPage, Filed, Told, isBlankPage};
+ghost use Rattle.recovery.specs.Kept.{slotNumbers, keeps, Long, Fresh, slotAt, putSlot, keptVersion, keptImageFits, keptFits, keepImage, keepPage, Filed, Told};
 
 // An image: its place, its action and its start. Place 0 is none.
 struct Slot {
@@ -206,16 +207,6 @@ fn climb_sheet(sheet: &[u8], files: u64, pages: u64) -> u64
     climb_large(sheet, files, pages)
 }
 
-// Blank, of what the page test says.
-fn is_blank(found: Unpacked) -> bool
-    ensures { λ r. ⌜ r ≡ isBlankPage found ⌝ }
-{
-    match found {
-        Unpacked::Blank => true,
-        _ => false,
-    }
-}
-
 // Whether a page from a place up to a number of pages is not blank.
 fn is_used_from(sheet: &[u8], files: u64, from: u64, pages: u64) -> bool
     requires { ⌜ (1 ≤ from) × (pages ≤ mostPlaces) × (pages ≡ length (now sheet) / pageSize) ⌝ }
@@ -223,7 +214,7 @@ fn is_used_from(sheet: &[u8], files: u64, from: u64, pages: u64) -> bool
 {
     let mut place = from;
     while place <= pages {
-        if !is_blank(page_at(sheet, place, files)) {
+        if !is_blank_at(sheet, place, files) {
             return true;
         }
         place += 1;

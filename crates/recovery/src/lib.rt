@@ -11,6 +11,7 @@ pub use inspection::inspect;
 pub use lookup::counted_fate;
 pub use lookup::fate_at;
 pub use lookup::image_at;
+pub use lookup::is_blank_at;
 pub use lookup::is_opening_at;
 pub use lookup::page_at;
 pub use opening::open;

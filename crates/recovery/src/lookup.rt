@@ -5,7 +5,7 @@ use page::Unpacked;
 ghost use mathlib.Core.Bool.{_||_};
 ghost use mathlib.Core.Path.{_≡_};
 ghost use lib.Dec.{eqb};
-ghost use Rattle.page.specs.Answers.{tested, imageOf};
+ghost use Rattle.page.specs.Answers.{tested, isBlankPage, imageOf};
 ghost use Rattle.recovery.specs.Places.{nth};
 ghost use Rattle.recovery.specs.Sheet.{pageBytes, isOpening, decoded};
 ghost use Rattle.recovery.specs.Steps.{countedFate, sealedImage};
@@ -41,15 +41,34 @@ fn seek_at(sheet: &[u8], place: u64, files: u64, file: u64) -> Sought
     Page::seek(&sheet[a..e], place, files, file)
 }
 
+// Whether the page at a place is blank.
+pub fn is_blank_at(sheet: &[u8], place: u64, files: u64) -> bool
+    ensures { λ r. ⌜ r ≡ isBlankPage (tested (pageBytes (now (sheet .entry)) place) place files) ⌝ }
+{
+    if place < 1 {
+        return false;
+    }
+    if ((sheet.len() / Page::SIZE) as u64) < place {
+        return false;
+    }
+    let a = Page::SIZE * (place as usize - 1);
+    let e = a + Page::SIZE;
+    Page::is_blank(&sheet[a..e], place, files)
+}
+
 // Whether the page at a place is an opening.
 pub fn is_opening_at(sheet: &[u8], place: u64, files: u64) -> bool
     ensures { λ r. ⌜ r ≡ isOpening (decoded files (now (sheet .entry)) place) ⌝ }
 {
-    let page = page_at(sheet, place, files);
-    match page {
-        Unpacked::Opening(_) => true,
-        _ => false,
+    if place < 1 {
+        return false;
     }
+    if ((sheet.len() / Page::SIZE) as u64) < place {
+        return false;
+    }
+    let a = Page::SIZE * (place as usize - 1);
+    let e = a + Page::SIZE;
+    Page::is_opening(&sheet[a..e], place, files)
 }
 
 // The fields of a sealed image of a file at a place.
@@ -63,7 +82,7 @@ pub fn image_at(sheet: &[u8], files: u64, file: u64, place: u64) -> Sought
     if !is_opening_at(sheet, image.action, files) {
         return Sought::Other;
     }
-    Sought::Image(image)
+    found
 }
 
 // The lent fate of an action, 0 for no place.

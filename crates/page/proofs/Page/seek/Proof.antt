@@ -40,8 +40,8 @@ returns-3 c =
 test-requires : tie.Need-test-requires
 test-requires c κs = search needs
 
-enum-known-p : tie.Need-enum-known-p
-enum-known-p c = search needs
+enum-told : tie.Need-enum-told
+enum-told c = search needs
 
 returns-4 : tie.Need-returns-4
 unfolding imageOf
@@ -50,11 +50,15 @@ returns-4 c =
     off-image (c .before .test .result) (λ (p : Page). cond (eqb (p .file) (a .file)) (Sought.Image p) Sought.Other) Sought.Other (c .match .keys2)
     ∙ ap (imageOf (a .file)) (c .before .test .ensures)
 
+fields-requires : tie.Need-fields-requires
+fields-requires c κs = search needs
+
 returns-5 : tie.Need-returns-5
 unfolding fieldsOf
 returns-5 c =
+    let t = c .before .before .before .test in
     let a = c .before .before .before .before .before .before .before .before .before .before .args in
-    this-image (now (a .part)) (a .place) (a .files) (a .file) _ (sym (c .before .p .given .1) ∙ c .before .before .before .test .ensures) (sym (c .before .before .before .before .before .field .ensures) ∙ c .before .before .before .before .if3 .left)
+    this-image (now (a .part)) (a .place) (a .files) (a .file) _ _ (sym (c .before .enum-told .given .1) ∙ t .ensures) (c .fields .ensures) (sym (c .before .before .before .before .before .field .ensures) ∙ c .before .before .before .before .if3 .left)
 
 pub seek-spec : {M : Type 1} → statement M
 seek-spec =
@@ -66,6 +70,7 @@ seek-spec =
     field-requires
     returns-3
     test-requires
-    enum-known-p
+    enum-told
     returns-4
+    fields-requires
     returns-5)

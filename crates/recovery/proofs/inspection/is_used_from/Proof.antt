@@ -20,16 +20,13 @@ abbrev μ-loop : tie.MeasureT-loop
 loop-holds : tie.Need-loop-holds Inv-loop μ-loop
 loop-holds c = (search needs, refl)
 
-page-at-requires : tie.Need-page-at-requires Inv-loop μ-loop
-page-at-requires c κs = search needs
-
-is-blank-requires : tie.Need-is-blank-requires Inv-loop μ-loop
-is-blank-requires c κs = search needs
+is-blank-at-requires : tie.Need-is-blank-at-requires Inv-loop μ-loop
+is-blank-at-requires c κs = search needs
 
 returns : tie.Need-returns Inv-loop μ-loop
 returns c =
-    let turn = c .before .before .before in
-    up-hit _ _ _ _ _ _ (turn .before .before .before .pre .2) (omega arith) (turn .loop-test .taken) (c .before .before .page-at .ensures) (c .before .is-blank .ensures) (c .if1 .taken) ∙ turn .before .loop .inv .1
+    let turn = c .before .before in
+    up-hit _ _ _ _ _ _ (turn .before .before .before .pre .2) (omega arith) (turn .loop-test .taken) refl (c .before .is-blank-at .ensures) (c .if1 .taken) ∙ turn .before .loop .inv .1
 
 add-place : tie.Need-add-place Inv-loop μ-loop
 add-place c = search needs
@@ -39,9 +36,9 @@ loop-less c = search needs
 
 loop-again : tie.Need-loop-again Inv-loop μ-loop
 loop-again c =
-    let turn = c .before .before .before in (
+    let turn = c .before .before in (
       omega arith,
-      up-miss _ _ _ _ _ _ (turn .before .before .before .pre .2) (omega arith) (turn .loop-test .taken) (c .before .before .page-at .ensures) (c .before .is-blank .ensures) (c .if1 .left) ∙ turn .before .loop .inv .1,
+      up-miss _ _ _ _ _ _ (turn .before .before .before .pre .2) (omega arith) (turn .loop-test .taken) refl (c .before .is-blank-at .ensures) (c .if1 .left) ∙ turn .before .loop .inv .1,
     )
 
 returns-2 : tie.Need-returns-2 Inv-loop μ-loop
@@ -54,8 +51,7 @@ is-used-from-spec =
     Inv-loop
     μ-loop
     loop-holds
-    page-at-requires
-    is-blank-requires
+    is-blank-at-requires
     returns
     add-place
     loop-less
