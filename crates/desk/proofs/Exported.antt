@@ -1,0 +1,67 @@
+-- What the functions for C leave, in the shape of their contracts.
+use Prim.Native.Nat.{ℕ}
+use mathlib.Core.Path.{_≡_, refl, sym, ap, _∙_}
+use mathlib.Core.List.{List, [], _∷_}
+use mathlib.Core.Bool.{cond}
+use native.Mathlib.Omega.{arith}
+use lib.ListN.{length, set}
+use lib.Dec.{eqb}
+use borrow.Author.Tests.{eq-eqb, ne-eqb}
+use Rattle.page.specs.declared.Page.{Page}
+use Rattle.page.specs.declared.Packing.{Packing}
+use Rattle.page.specs.declared.Unpacked.{Unpacked}
+use Rattle.page.specs.Layout.{valueSize}
+use Rattle.page.specs.Answers.{packs, packNumber, tested, testNumber, testValues}
+use Rattle.recovery.specs.declared.Inspected.{Inspected}
+use Rattle.recovery.specs.Lent.{inspected}
+use Rattle.desk.specs.Exports.{fieldCount, numbered, packedFor, fieldsGiven, testedFor, placeOrRefusal, inspectedFor}
+
+-- six stores fill six numbers
+pub six-stores : (xs : List ℕ) (a b c d e f : ℕ) → length xs ≡ fieldCount
+    → set (set (set (set (set (set xs 0 a) 1 b) 2 c) 3 d) 4 e) 5 f ≡ a ∷ b ∷ c ∷ d ∷ e ∷ f ∷ []
+six-stores [] a b c d e f h = absurd (omega arith)
+six-stores (u ∷ []) a b c d e f h = absurd (omega arith)
+six-stores (u ∷ v ∷ []) a b c d e f h = absurd (omega arith)
+six-stores (u ∷ v ∷ w ∷ []) a b c d e f h = absurd (omega arith)
+six-stores (u ∷ v ∷ w ∷ x ∷ []) a b c d e f h = absurd (omega arith)
+six-stores (u ∷ v ∷ w ∷ x ∷ y ∷ []) a b c d e f h = absurd (omega arith)
+six-stores (u ∷ v ∷ w ∷ x ∷ y ∷ z ∷ []) a b c d e f h = refl
+six-stores (u ∷ v ∷ w ∷ x ∷ y ∷ z ∷ t ∷ l) a b c d e f h = absurd (omega arith)
+
+-- ---- the page test
+
+-- an answer, and the fields of a page that fits
+pub answer-given : (u v : Unpacked) (fields left : List ℕ) → u ≡ v → left ≡ cond (eqb (testNumber v) 0) (testValues v) fields
+    → _≡_ {A = ℕ × List ℕ} (testNumber v, left) (fieldsGiven u fields)
+unfolding fieldsGiven
+answer-given u v fields left e h = rw (e, h)
+
+pub test-refused : (part : List ℕ) (place files : ℕ) (fields : List ℕ) → (length fields ≡ fieldCount → ⊥) → _≡_ {A = ℕ × List ℕ} (1, fields) (testedFor part place files fields)
+unfolding testedFor
+test-refused part place files fields h = rw (ne-eqb (length fields) fieldCount h)
+
+pub test-given : (part : List ℕ) (place files : ℕ) (fields left : List ℕ) (r : ℕ) (u : Unpacked) → length fields ≡ fieldCount → u ≡ tested part place files
+    → _≡_ {A = ℕ × List ℕ} (r, left) (fieldsGiven u fields) → _≡_ {A = ℕ × List ℕ} (r, left) (testedFor part place files fields)
+unfolding testedFor
+test-given part place files fields left r u l e h = rw (eq-eqb (length fields) fieldCount l) (h ∙ ap (λ x. fieldsGiven x fields) e)
+
+-- ---- pack
+
+pub pack-refused : (p : Page) (value : List ℕ) (place files : ℕ) (out : List ℕ) → (length value ≡ valueSize → ⊥) → _≡_ {A = ℕ × List ℕ} (1, out) (packedFor p value place files out)
+unfolding packedFor
+pack-refused p value place files out h = rw (ne-eqb (length value) valueSize h)
+
+pub pack-left : (p : Page) (value bytes zeros : List ℕ) (place files : ℕ) (out left : List ℕ) (a : Packing) (r : ℕ) → length value ≡ valueSize → length zeros ≡ valueSize
+    → bytes ≡ cond (eqb (length zeros) (length value)) value zeros → _≡_ {A = Packing × List ℕ} (a, left) (packs p bytes place files out) → r ≡ packNumber a
+    → _≡_ {A = ℕ × List ℕ} (r, left) (packedFor p value place files out)
+unfolding packedFor
+pack-left p value bytes zeros place files out left a r l z b h n =
+    let c : bytes ≡ value = b ∙ ap (λ t. cond t value zeros) (eq-eqb (length zeros) (length value) (z ∙ sym l)) in
+    let k : _≡_ {A = Packing × List ℕ} (a, left) (packs p value place files out) = h ∙ ap (λ v. packs p v place files out) c in
+    rw (eq-eqb (length value) valueSize l) (ap (λ x. (x, left)) n ∙ ap numbered k)
+
+-- ---- inspection
+
+pub inspect-told : (s : List ℕ) (files : ℕ) (a v : Inspected) → a ≡ inspected s files → a ≡ v → placeOrRefusal v ≡ inspectedFor s files
+unfolding inspectedFor
+inspect-told s files a v e h = ap placeOrRefusal (sym h ∙ e)

@@ -1,0 +1,118 @@
+// For the desk in C: packing, the page test and inspection. A slice is a pointer and a count there; any count is taken.
+use page::Packing;
+use page::Page;
+use page::Unpacked;
+use recovery::Inspected;
+ghost use mathlib.Core.Path.{_≡_};
+ghost use lib.ListN.{length};
+ghost use Rattle.page.specs.Answers.{packNumber, fieldList};
+ghost use Rattle.desk.specs.Exports.{fieldCount, fieldsGiven, packedFor, testedFor, inspectedFor};
+
+// What inspection answers for a sheet or a file count that it refuses: above every place.
+const REFUSED: u64 = 0xffff_ffff_ffff_ffff;
+
+fn pack_number(answer: Packing) -> u64
+    ensures { λ r. ⌜ r ≡ packNumber answer ⌝ }
+{
+    match answer {
+        Packing::Packed => 0,
+        Packing::Refused => 1,
+        Packing::Unfit => 2,
+    }
+}
+
+// Packs a page into the 64 bytes lent. 0: done; 1: a length, the place or the file count is wrong; 2: no such page.
+#[no_mangle]
+pub extern "C" fn desk_pack(
+    kind: u64,
+    small: u64,
+    file: u64,
+    action: u64,
+    link: u64,
+    start: u64,
+    value: &[u8],
+    place: u64,
+    files: u64,
+    out: &mut [u8],
+) -> u64
+    ensures { λ r. ⌜ (r, now (out .exit)) ≡ packedFor (record { kind = kind; small = small; file = file; action = action; link = link; start = start }) (now (value .entry)) place files (now (out .entry)) ⌝ }
+{
+    if value.len() != 32 {
+        return 1;
+    }
+    let mut bytes = [0u8; 32];
+    encoding::copy(&mut bytes, value);
+    let page = Page {
+        kind,
+        small,
+        file,
+        action,
+        link,
+        start,
+    };
+    let answer = page.pack(&bytes, place, files, out);
+    pack_number(answer)
+}
+
+// The six fields, kind to start.
+fn give(fields: &mut [u64], page: Page)
+    requires { ⌜ length (now fields) ≡ fieldCount ⌝ }
+    ensures { λ _. ⌜ now (fields .exit) ≡ fieldList page ⌝ }
+{
+    fields[0] = page.kind;
+    fields[1] = page.small;
+    fields[2] = page.file;
+    fields[3] = page.action;
+    fields[4] = page.link;
+    fields[5] = page.start;
+}
+
+// The number of an answer; the fields of a page that fits.
+fn give_found(fields: &mut [u64], found: Unpacked) -> u64
+    requires { ⌜ length (now fields) ≡ fieldCount ⌝ }
+    ensures { λ r. ⌜ (r, now (fields .exit)) ≡ fieldsGiven found (now (fields .entry)) ⌝ }
+{
+    match found {
+        Unpacked::Refused => 1,
+        Unpacked::Blank => 3,
+        Unpacked::Torn => 4,
+        Unpacked::Opening(page) => {
+            give(fields, page);
+            0
+        }
+        Unpacked::Image(page) => {
+            give(fields, page);
+            0
+        }
+        Unpacked::Outcome(page) => {
+            give(fields, page);
+            0
+        }
+        Unpacked::Unfit => 2,
+    }
+}
+
+// Tests a page. 0: it fits, and its six fields are given; 1: a length, the place or the file count is wrong; 2: unfit; 3: blank;
+// 4: torn.
+#[no_mangle]
+pub extern "C" fn desk_test(part: &[u8], place: u64, files: u64, fields: &mut [u64]) -> u64
+    ensures { λ r. ⌜ (r, now (fields .exit)) ≡ testedFor (now (part .entry)) place files (now (fields .entry)) ⌝ }
+{
+    if fields.len() != 6 {
+        return 1;
+    }
+    let found = Page::test(part, place, files);
+    give_found(fields, found)
+}
+
+// Inspects a sheet: 0 if it is lawful, the lowest place that is bad or does not fit, or REFUSED.
+#[no_mangle]
+pub extern "C" fn desk_inspect(sheet: &[u8], files: u64) -> u64
+    ensures { λ r. ⌜ r ≡ inspectedFor (now (sheet .entry)) files ⌝ }
+{
+    let answer = recovery::inspect(sheet, files);
+    match answer {
+        Inspected::Refused => REFUSED,
+        Inspected::Lowest(place) => place,
+    }
+}

@@ -1,0 +1,2 @@
+// The desk: what people and programs touch.
+mod exports;
