@@ -2,10 +2,25 @@
 use Prim.Native.Nat.{ℕ, zero, suc, _+_, _-_, _*_, min, _≤_, _<_}
 use mathlib.Core.Path.{_≡_, refl, sym, ap, _∙_}
 use mathlib.Core.List.{List, [], _∷_, _++_}
-use mathlib.Core.Bool.{Bool, true, false, cond}
+use mathlib.Core.Bool.{Bool, true, false, cond, not, _&&_}
 use native.Mathlib.Omega.{arith}
 use lib.ListN.{length, take, drop, length-drop, drop-of-length-le}
 use lib.Seq.{take-all}
+use lib.Dec.{eqb, leb}
+use borrow.Author.Tests.{eq-eqb, ne-eqb, leb-true, leb-false, le-leb, lt-leb}
+use borrow.Rule.Slice.PartMut.{putMid, same-len-mid}
+use Rattle.encoding.specs.Bytes.{part}
+use Rattle.encoding.proofs.Logic.{and-both, and-false}
+use Rattle.encoding.proofs.Parts.{length-part, put-part}
+use Rattle.page.specs.Layout.{pageSize}
+use Rattle.recovery.specs.declared.Done.{Done}
+use Rattle.recovery.specs.Lent.{Left, leftBy}
+use Rattle.calls.specs.Effect.{callLeaves}
+use Rattle.desk.specs.declared.parsing.Command.{Command}
+use Rattle.desk.specs.declared.conversation.Desk.{Desk}
+use Rattle.desk.specs.declared.conversation.Turn.{Turn}
+use Rattle.desk.specs.Conversation.{sheetSize, callOf, answered, lost, actedBy, acted}
+use Rattle.desk.specs.Turns.{leftAfter, answeredTurn, lostTurn}
 
 -- the rest of a line from an index on, as the code cuts it
 pub rest-is : (s : List ℕ) (from at n : ℕ) → n ≡ length s → at ≡ min from n → take (n - at) (drop at s) ≡ drop from s
@@ -16,3 +31,60 @@ rest-is s from at n l e = take-all (n - at) (drop at s) (omega (arith, length-dr
     go (b ∷ s) zero at e = let z : at ≡ 0 = omega arith in rw z
     go (b ∷ s) (suc from) zero e = absurd (omega arith)
     go (b ∷ s) (suc from) (suc at) e = go s from at (omega arith)
+
+-- the bytes from an index on put back
+pub back-is : (s ys old : List ℕ) (at n : ℕ) → at ≤ length s → length old ≡ length s → n ≡ length s → length ys ≡ length (part at n s)
+    → ys ≡ cond (eqb (length (part at n s)) (length (part at n old))) (part at n old) (part at n s) → putMid at (n - at) s ys ≡ take at s ++ drop at old
+back-is s ys old at n h l e k q =
+    let a = length-part at n s (omega arith) in
+    let b = length-part at n old (omega arith) in
+    let same : length (part at n s) ≡ length (part at n old) = a ∙ sym b in
+    let whole : part at n old ≡ drop at old = take-all (n - at) (drop at old) (omega (arith, length-drop at old)) in
+    let y : ys ≡ drop at old = q ∙ ap (λ c. cond c (part at n old) (part at n s)) (eq-eqb _ _ same) ∙ whole in
+    sym (take-all n (putMid at (n - at) s ys) (omega (arith, mid-long))) ∙ put-part at n s ys (drop at old) (omega arith) (omega arith) k y
+  where
+    mid-long : length (putMid at (n - at) s ys) ≡ length s
+    mid-long = same-len-mid at (n - at) s ys k
+
+-- storing up to an index past the end is storing all
+stored-min : (new old : List ℕ) (j n : ℕ) → length new ≡ n → length old ≡ n → take (min j n) new ++ drop (min j n) old ≡ take j new ++ drop j old
+stored-min new old j n a b = go (leb j n) refl
+  where
+    go : (c : Bool) → leb j n ≡ c → take (min j n) new ++ drop (min j n) old ≡ take j new ++ drop j old
+    go true e = let m : min j n ≡ j = omega (arith, leb-true j n e) in rw m
+    go false e =
+        let h : n < j = leb-false j n e in
+        let m : min j n ≡ n = omega arith in
+        rw (m, take-all n new (omega arith), take-all j new (omega arith), drop-of-length-le old {i = n} (omega arith), drop-of-length-le old {i = j} (omega arith))
+
+module _ (d : Desk) (s fates rows : List ℕ) (c : Command) (line : List ℕ) (done : Done) (s′ fates′ rows′ : List ℕ)
+    (h : leftBy done s′ fates′ rows′ ≡ callLeaves s fates rows (d .state) (callOf c line)) where
+  abbrev left : Left
+  left = leftBy done s′ fates′ rows′
+
+  abbrev isLost : Bool
+  isLost = leb (d .cut) pageSize && not (eqb (done .state .end) (d .state .end))
+
+  -- a call that was answered: no cut is waiting, or it appended nothing
+  answered-as : (t : Turn) → isLost ≡ false → t ≡ answeredTurn d c done → leftAfter t s′ fates′ rows′ ≡ acted d s fates rows c line
+  unfolding acted
+  answered-as t e q =
+      ap (λ u. leftAfter u s′ fates′ rows′) q ∙ sym (ap (λ b. cond b (lost d s left) (answered d c left)) e) ∙ ap (actedBy d s c) h
+
+  pub answered-uncut : (t : Turn) → pageSize < d .cut → t ≡ answeredTurn d c done → leftAfter t s′ fates′ rows′ ≡ acted d s fates rows c line
+  answered-uncut t k q = answered-as t (ap (λ b. b && not (eqb (done .state .end) (d .state .end))) (lt-leb (d .cut) pageSize k)) q
+
+  pub answered-idle : (t : Turn) → done .state .end ≡ d .state .end → t ≡ answeredTurn d c done → leftAfter t s′ fates′ rows′ ≡ acted d s fates rows c line
+  answered-idle t k q = answered-as t (and-false (leb (d .cut) pageSize) (not (eqb (done .state .end) (d .state .end))) (ap not (eq-eqb (done .state .end) (d .state .end) k))) q
+
+  -- an append that was cut
+  pub lost-as : (t : Turn) (old s″ : List ℕ) (at : ℕ) → d .cut ≤ pageSize → (done .state .end ≡ d .state .end → ⊥) → t ≡ lostTurn (d .files) → old ≡ s → length s ≡ sheetSize
+      → length s′ ≡ sheetSize → at ≡ min (pageSize * d .state .end + d .cut) sheetSize → s″ ≡ take at s′ ++ drop at old → leftAfter t s″ fates′ rows′ ≡ acted d s fates rows c line
+  unfolding acted
+  lost-as t old s″ at k n q o l l′ a b =
+      let z : s″ ≡ take (pageSize * d .state .end + d .cut) s′ ++ drop (pageSize * d .state .end + d .cut) s =
+      b ∙ ap (λ i. take i s′ ++ drop i old) a ∙ ap (λ x. take (min (pageSize * d .state .end + d .cut) sheetSize) s′ ++ drop (min (pageSize * d .state .end + d .cut) sheetSize) x) o
+      ∙ stored-min s′ s (pageSize * d .state .end + d .cut) sheetSize l′ l in
+      let e : isLost ≡ true = and-both (leb (d .cut) pageSize) (not (eqb (done .state .end) (d .state .end))) (le-leb (d .cut) pageSize k) (ap not (ne-eqb (done .state .end) (d .state .end) n)) in
+      ap (λ u. leftAfter u s″ fates′ rows′) q ∙ ap (λ x. leftAfter (lostTurn (d .files)) x fates′ rows′) z
+      ∙ sym (ap (λ b. cond b (lost d s left) (answered d c left)) e) ∙ ap (actedBy d s c) h

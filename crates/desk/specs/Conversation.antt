@@ -20,6 +20,10 @@ use Rattle.desk.specs.declared.printing.Reply.{Reply}
 use Rattle.desk.specs.declared.conversation.Desk.{Desk}
 use Rattle.desk.specs.declared.conversation.Turn.{Turn}
 
+-- 256 pages
+abbrev pub sheetSize : ℕ
+sheetSize = 16384
+
 -- all that a command leaves
 pub record After : Type 0 where
   pub turn : Turn
@@ -115,3 +119,35 @@ openedBy d files x = record {
 
 unfoldable pub openedFor : Desk → List ℕ → List ℕ → List ℕ → ℕ → ℕ → After
 openedFor d s fates rows files floor = openedBy d files (openLeaves s fates rows floor)
+
+-- ---- a command, with all the rows there are: those of the files in use are lent
+
+abbrev pub lending : List ℕ → ℕ → After → After
+lending rows n x = record { turn = x .turn; sheet = x .sheet; fates = x .fates; rows = x .rows ++ drop n rows }
+
+abbrev pub replied : Reply → Desk → List ℕ → List ℕ → List ℕ → After
+replied r d s fates rows = record { turn = record { reply = r; size = 0; desk = d }; sheet = s; fates = fates; rows = rows }
+
+-- without a state a call is not made
+unfoldable pub calledFor : Desk → List ℕ → List ℕ → List ℕ → Command → List ℕ → After
+calledFor d s fates rows c line =
+    cond (d .on) (lending rows (rowLength * d .files) (acted d s fates (take (rowLength * d .files) rows) c line)) (replied reply.Reply.Closed d s fates rows)
+
+-- line 1 of an opening, where there could be no rows to lend
+unfoldable pub startedFor : Desk → List ℕ → List ℕ → List ℕ → ℕ → ℕ → After
+startedFor d s fates rows files floor =
+    cond (leb 1 files && leb files mostFiles)
+    (lending rows (rowLength * files) (openedFor d s fates (take (rowLength * files) rows) files floor))
+    (replied (reply.Reply.No 1 0) (record { on = false; files = d .files; state = closed; cut = d .cut }) s fates rows)
+
+abbrev pub conversed : Desk → List ℕ → List ℕ → List ℕ → Command → List ℕ → After
+conversed d s fates rows command.Command.What line = replied reply.Reply.What d s fates rows
+conversed d s fates rows (command.Command.Open files floor) line = startedFor d s fates rows files floor
+conversed d s fates rows command.Command.Begin line = calledFor d s fates rows command.Command.Begin line
+conversed d s fates rows (command.Command.Write file start action from) line = calledFor d s fates rows (command.Command.Write file start action from) line
+conversed d s fates rows (command.Command.Read file time action) line = calledFor d s fates rows (command.Command.Read file time action) line
+conversed d s fates rows (command.Command.Test action) line = calledFor d s fates rows (command.Command.Test action) line
+conversed d s fates rows (command.Command.Commit action) line = calledFor d s fates rows (command.Command.Commit action) line
+conversed d s fates rows (command.Command.Abort action) line = calledFor d s fates rows (command.Command.Abort action) line
+conversed d s fates rows (command.Command.Cut n) line =
+    replied (reply.Reply.Cut n) (record { on = d .on; files = d .files; state = d .state; cut = n }) s fates rows

@@ -2,7 +2,19 @@
 use Prim.Native.Nat.{ℕ}
 use mathlib.Core.List.{List}
 use Rattle.desk.specs.declared.conversation.Turn.{Turn}
-use Rattle.desk.specs.Conversation.{After}
+use mathlib.Core.Bool.{true, false}
+use Rattle.recovery.specs.Lent.{closed}
+use Rattle.desk.specs.declared.printing.Reply as reply
+use Rattle.recovery.specs.declared.Done.{Done}
+use Rattle.desk.specs.declared.parsing.Command.{Command}
+use Rattle.desk.specs.declared.conversation.Desk.{Desk}
+use Rattle.desk.specs.Conversation.{After, replyOf, sizeOf, noCut}
 
 abbrev pub leftAfter : Turn → List ℕ → List ℕ → List ℕ → After
 leftAfter t s fates rows = record { turn = t; sheet = s; fates = fates; rows = rows }
+
+abbrev pub answeredTurn : Desk → Command → Done → Turn
+answeredTurn d c r = record { reply = replyOf c (r .answer); size = sizeOf (r .answer); desk = record { on = true; files = d .files; state = r .state; cut = d .cut } }
+
+abbrev pub lostTurn : ℕ → Turn
+lostTurn files = record { reply = reply.Reply.Lost; size = 0; desk = record { on = false; files = files; state = closed; cut = noCut } }

@@ -10,10 +10,10 @@ ghost use mathlib.Core.List.{_++_};
 ghost use Prim.Native.Nat.{_+_, _*_, _≤_, min};
 ghost use lib.ListN.{length, take, drop};
 ghost use Rattle.page.specs.Layout.{pageSize};
-ghost use Rattle.recovery.specs.Lent.{leftBy};
+ghost use Rattle.recovery.specs.Lent.{leftBy, closed};
 ghost use Rattle.calls.specs.Effect.{callLeaves};
-ghost use Rattle.desk.specs.Conversation.{After, callOf, storedBy, replyOf, sizeOf, acted, openedFor};
-ghost use Rattle.desk.specs.Turns.{leftAfter};
+ghost use Rattle.desk.specs.Conversation.{sheetSize, callOf, storedBy, replyOf, sizeOf, acted, openedFor};
+ghost use Rattle.desk.specs.Turns.{leftAfter, answeredTurn, lostTurn};
 
 // What the desk keeps from line to line, beside sheet, fates and rows: whether it has a state, for how many files, and after how many
 // bytes the next append is cut; 65 if it is not.
@@ -29,6 +29,21 @@ pub struct Turn {
     pub reply: Reply,
     pub size: u64,
     pub desk: Desk,
+}
+
+// The sheet's bytes, no state, and no cut.
+const SHEET: usize = 16384;
+
+const NO_CUT: u64 = 65;
+
+fn no_state() -> State
+    ensures { λ r. ⌜ r ≡ closed ⌝ }
+{
+    State {
+        end: 0,
+        floor: 0,
+        undecided: 0,
+    }
 }
 
 fn least(a: usize, b: usize) -> usize
@@ -130,4 +145,103 @@ fn size_of(answer: Answer) -> u64
         Answer::Nothing => 0,
         Answer::Told(_) => 0,
     }
+}
+
+// A call that was answered.
+fn answered(desk: Desk, command: Command, done: Done) -> Turn
+    ensures { λ r. ⌜ r ≡ answeredTurn desk command done ⌝ }
+{
+    let answer = done.answer;
+    let state = done.state;
+    let reply = reply_of(command, answer);
+    let size = size_of(answer);
+    let desk = Desk {
+        on: true,
+        files: desk.files,
+        state,
+        cut: desk.cut,
+    };
+    Turn { reply, size, desk }
+}
+
+// Where the storing of the page above the end is cut, no further than the sheet goes.
+fn cut_index(end: u64, cut: u64) -> usize
+    requires { ⌜ cut ≤ pageSize ⌝ }
+    ensures { λ r. ⌜ r ≡ min (pageSize * end + cut) sheetSize ⌝ }
+{
+    if 256 <= end {
+        return SHEET;
+    }
+    least(Page::SIZE * (end as usize) + cut as usize, SHEET)
+}
+
+// The bytes from an index on as they were.
+fn put_back(sheet: &mut [u8], old: &[u8], at: usize)
+    requires { ⌜ (at ≤ length (now sheet)) × (length (now old) ≡ length (now sheet)) ⌝ }
+    ensures { λ _. ⌜ now (sheet .exit) ≡ take at (now (sheet .entry)) ++ drop at (now (old .entry)) ⌝ }
+{
+    let n = sheet.len();
+    encoding::copy(&mut sheet[at..n], &old[at..n]);
+}
+
+// The cut is used up, and the state is gone.
+fn lost(files: u64) -> Turn
+    ensures { λ r. ⌜ r ≡ lostTurn files ⌝ }
+{
+    let desk = Desk {
+        on: false,
+        files,
+        state: no_state(),
+        cut: NO_CUT,
+    };
+    Turn {
+        reply: Reply::Lost,
+        size: 0,
+        desk,
+    }
+}
+
+// A call while a cut is waiting. The sheet is kept aside, so that what was not stored can be put back.
+fn act_cut(
+    sheet: &mut [u8],
+    fates: &mut [u8],
+    rows: &mut [u64],
+    desk: Desk,
+    command: Command,
+    line: &[u8],
+) -> Turn
+    requires { ⌜ (length (now sheet) ≡ sheetSize) × (desk .cut ≤ pageSize) ⌝ }
+    ensures { λ r. ⌜ leftAfter r (now (sheet .exit)) (now (fates .exit)) (now (rows .exit)) ≡ acted desk (now (sheet .entry)) (now (fates .entry)) (now (rows .entry)) command (now (line .entry)) ⌝ }
+{
+    let mut old = [0u8; 16384];
+    encoding::copy(&mut old, &sheet[..]);
+    let state = desk.state;
+    let done = make_call(sheet, fates, rows, state, command, line);
+    let left = done.state;
+    if left.end == state.end {
+        return answered(desk, command, done);
+    }
+    let at = cut_index(state.end, desk.cut);
+    put_back(sheet, &old, at);
+    lost(desk.files)
+}
+
+// A call on a desk that has a state.
+fn act(
+    sheet: &mut [u8],
+    fates: &mut [u8],
+    rows: &mut [u64],
+    desk: Desk,
+    command: Command,
+    line: &[u8],
+) -> Turn
+    requires { ⌜ length (now sheet) ≡ sheetSize ⌝ }
+    ensures { λ r. ⌜ leftAfter r (now (sheet .exit)) (now (fates .exit)) (now (rows .exit)) ≡ acted desk (now (sheet .entry)) (now (fates .entry)) (now (rows .entry)) command (now (line .entry)) ⌝ }
+{
+    if desk.cut <= Page::SIZE as u64 {
+        return act_cut(sheet, fates, rows, desk, command, line);
+    }
+    let state = desk.state;
+    let done = make_call(sheet, fates, rows, state, command, line);
+    answered(desk, command, done)
 }
