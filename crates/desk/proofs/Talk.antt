@@ -8,18 +8,24 @@ use lib.ListN.{length, take, drop, length-drop, drop-of-length-le}
 use lib.Seq.{take-all}
 use lib.Dec.{eqb, leb}
 use borrow.Author.Tests.{eq-eqb, ne-eqb, leb-true, leb-false, le-leb, lt-leb}
-use borrow.Rule.Slice.PartMut.{putMid, same-len-mid}
+use borrow.Rule.Slice.PartMut.{putMid, same-len-mid, post-is}
 use Rattle.encoding.specs.Bytes.{part}
 use Rattle.encoding.proofs.Logic.{and-both, and-false}
 use Rattle.encoding.proofs.Parts.{length-part, put-part}
-use Rattle.page.specs.Layout.{pageSize}
+use Rattle.page.specs.Layout.{pageSize, mostFiles}
 use Rattle.recovery.specs.declared.Done.{Done}
-use Rattle.recovery.specs.Lent.{Left, leftBy}
+use Rattle.recovery.specs.Lent.{Left, leftBy, rowLength, closed, openLeaves}
+use Rattle.recovery.specs.World.{isFile}
+use Rattle.recovery.specs.Numbers.{isRefused}
+use Rattle.recovery.specs.declared.State.{State}
+use Rattle.desk.specs.declared.printing.Reply as reply
+use Rattle.desk.specs.declared.printing.Reply.{Reply}
+use Rattle.desk.specs.declared.parsing.Command as command
 use Rattle.calls.specs.Effect.{callLeaves}
 use Rattle.desk.specs.declared.parsing.Command.{Command}
 use Rattle.desk.specs.declared.conversation.Desk.{Desk}
 use Rattle.desk.specs.declared.conversation.Turn.{Turn}
-use Rattle.desk.specs.Conversation.{sheetSize, callOf, answered, lost, actedBy, acted}
+use Rattle.desk.specs.Conversation.{sheetSize, callOf, replyOf, answered, lost, actedBy, acted, openedBy, openedFor, lending, replied, calledFor, startedFor}
 use Rattle.desk.specs.Turns.{leftAfter, answeredTurn, lostTurn}
 
 -- the rest of a line from an index on, as the code cuts it
@@ -88,3 +94,50 @@ module _ (d : Desk) (s fates rows : List ℕ) (c : Command) (line : List ℕ) (d
       let e : isLost ≡ true = and-both (leb (d .cut) pageSize) (not (eqb (done .state .end) (d .state .end))) (le-leb (d .cut) pageSize k) (ap not (ne-eqb (done .state .end) (d .state .end) n)) in
       ap (λ u. leftAfter u s″ fates′ rows′) q ∙ ap (λ x. leftAfter (lostTurn (d .files)) x fates′ rows′) z
       ∙ sym (ap (λ b. cond b (lost d s left) (answered d c left)) e) ∙ ap (actedBy d s c) h
+
+-- ---- rows lent from the front of all there are
+
+lent-front : (rows ys : List ℕ) (n : ℕ) → putMid 0 (n - 0) rows ys ≡ ys ++ drop n rows
+lent-front rows ys n = ap (λ z. ys ++ z) (post-is 0 n rows (omega arith))
+
+front-part : (rows : List ℕ) (n : ℕ) → take (n - 0) (drop 0 rows) ≡ take n rows
+front-part rows n = let z : n - 0 ≡ n = omega arith in rw z
+
+-- an opening
+pub open-left : (d : Desk) (s fates rows s′ fates′ rows′ : List ℕ) (done : Done) (files floor : ℕ) (reply : Reply) (b : Bool) → leftBy done s′ fates′ rows′ ≡ openLeaves s fates rows floor
+    → reply ≡ replyOf command.Command.What (done .answer) → b ≡ isRefused (done .answer)
+    → leftAfter (record { reply = reply; size = 0; desk = record { on = not b; files = files; state = done .state; cut = d .cut } }) s′ fates′ rows′ ≡ openedFor d s fates rows files floor
+unfolding openedFor
+open-left d s fates rows s′ fates′ rows′ done files floor reply b h r q = rw (r, q) (ap (openedBy d files) h)
+
+module _ (d : Desk) (s fates rows : List ℕ) (t : Turn) where
+  pub start-refused : (files floor : ℕ) (state : State) → isFile mostFiles files ≡ false → state ≡ closed
+      → t ≡ record { reply = reply.Reply.No 1 0; size = 0; desk = record { on = false; files = d .files; state = state; cut = d .cut } } → leftAfter t s fates rows ≡ startedFor d s fates rows files floor
+  unfolding startedFor
+  start-refused files floor state e q h = rw (e, h, q)
+
+  pub start-opened : (files floor n : ℕ) (fates′ rows″ : List ℕ) → isFile mostFiles files ≡ true → n ≡ rowLength * files
+      → leftAfter t s fates′ rows″ ≡ openedFor d s fates (take (n - 0) (drop 0 rows)) files floor → leftAfter t s fates′ (putMid 0 (n - 0) rows rows″) ≡ startedFor d s fates rows files floor
+  unfolding startedFor
+  start-opened files floor n fates′ rows″ e q h =
+      let k : leftAfter t s fates′ rows″ ≡ openedFor d s fates (take n rows) files floor = h ∙ ap (λ x. openedFor d s fates x files floor) (front-part rows n) in
+      ap (leftAfter t s fates′) (lent-front rows rows″ n) ∙ ap (lending rows n) k
+      ∙ ap (λ m. lending rows m (openedFor d s fates (take m rows) files floor)) q
+      ∙ sym (ap (λ b. cond b (lending rows (rowLength * files) (openedFor d s fates (take (rowLength * files) rows) files floor))
+      (replied (reply.Reply.No 1 0) (record { on = false; files = d .files; state = closed; cut = d .cut }) s fates rows)) e)
+
+  -- a call
+  module _ (c : Command) (line : List ℕ) where
+    pub call-closed : d .on ≡ false → t ≡ record { reply = reply.Reply.Closed; size = 0; desk = d } → leftAfter t s fates rows ≡ calledFor d s fates rows c line
+    unfolding calledFor
+    call-closed e h =
+        ap (λ u. leftAfter u s fates rows) h
+        ∙ sym (ap (λ b. cond b (lending rows (rowLength * d .files) (acted d s fates (take (rowLength * d .files) rows) c line)) (replied reply.Reply.Closed d s fates rows)) e)
+
+    pub call-made : (n : ℕ) (s′ fates′ rows″ : List ℕ) → d .on ≡ true → n ≡ rowLength * d .files
+        → leftAfter t s′ fates′ rows″ ≡ acted d s fates (take (n - 0) (drop 0 rows)) c line → leftAfter t s′ fates′ (putMid 0 (n - 0) rows rows″) ≡ calledFor d s fates rows c line
+    unfolding calledFor
+    call-made n s′ fates′ rows″ e q h =
+        let k : leftAfter t s′ fates′ rows″ ≡ acted d s fates (take n rows) c line = h ∙ ap (λ x. acted d s fates x c line) (front-part rows n) in
+        ap (leftAfter t s′ fates′) (lent-front rows rows″ n) ∙ ap (lending rows n) k ∙ ap (λ m. lending rows m (acted d s fates (take m rows) c line)) q
+        ∙ sym (ap (λ b. cond b (lending rows (rowLength * d .files) (acted d s fates (take (rowLength * d .files) rows) c line)) (replied reply.Reply.Closed d s fates rows)) e)

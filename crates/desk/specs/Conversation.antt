@@ -9,6 +9,7 @@ use Rattle.recovery.specs.declared.State.{State}
 use Rattle.recovery.specs.declared.Answer as answer
 use Rattle.recovery.specs.declared.Answer.{Answer}
 use Rattle.recovery.specs.Numbers.{isRefused}
+use Rattle.recovery.specs.World.{isFile}
 use Rattle.recovery.specs.Lent.{Left, rowLength, closed, openLeaves}
 use Rattle.calls.specs.Calls as call
 use Rattle.calls.specs.Calls.{Call}
@@ -111,7 +112,7 @@ acted d s fates rows c line = actedBy d s c (callLeaves s fates rows (d .state) 
 
 abbrev pub openedBy : Desk → ℕ → Left → After
 openedBy d files x = record {
-  turn = record { reply = replyOf (command.Command.Open files 0) (x .answer); size = 0; desk = record { on = not (isRefused (x .answer)); files = files; state = x .state; cut = d .cut } };
+  turn = record { reply = replyOf command.Command.What (x .answer); size = 0; desk = record { on = not (isRefused (x .answer)); files = files; state = x .state; cut = d .cut } };
   sheet = x .sheet;
   fates = x .fates;
   rows = x .rows;
@@ -136,7 +137,7 @@ calledFor d s fates rows c line =
 -- line 1 of an opening, where there could be no rows to lend
 unfoldable pub startedFor : Desk → List ℕ → List ℕ → List ℕ → ℕ → ℕ → After
 startedFor d s fates rows files floor =
-    cond (leb 1 files && leb files mostFiles)
+    cond (isFile mostFiles files)
     (lending rows (rowLength * files) (openedFor d s fates (take (rowLength * files) rows) files floor))
     (replied (reply.Reply.No 1 0) (record { on = false; files = d .files; state = closed; cut = d .cut }) s fates rows)
 

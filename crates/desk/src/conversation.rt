@@ -4,15 +4,17 @@ use crate::printing::Reply;
 use page::Page;
 use recovery::Answer;
 use recovery::Done;
+use recovery::ROW_LENGTH;
 use recovery::State;
 ghost use mathlib.Core.Path.{_≡_};
 ghost use mathlib.Core.List.{_++_};
 ghost use Prim.Native.Nat.{_+_, _*_, _≤_, min};
 ghost use lib.ListN.{length, take, drop};
-ghost use Rattle.page.specs.Layout.{pageSize};
-ghost use Rattle.recovery.specs.Lent.{leftBy, closed};
+ghost use Rattle.page.specs.Layout.{pageSize, mostFiles};
+ghost use Rattle.recovery.specs.Numbers.{isRefused};
+ghost use Rattle.recovery.specs.Lent.{leftBy, closed, rowLength};
 ghost use Rattle.calls.specs.Effect.{callLeaves};
-ghost use Rattle.desk.specs.Conversation.{sheetSize, callOf, storedBy, replyOf, sizeOf, acted, openedFor};
+ghost use Rattle.desk.specs.Conversation.{sheetSize, callOf, storedBy, replyOf, sizeOf, acted, openedFor, startedFor, calledFor};
 ghost use Rattle.desk.specs.Turns.{leftAfter, answeredTurn, lostTurn};
 
 // What the desk keeps from line to line, beside sheet, fates and rows: whether it has a state, for how many files, and after how many
@@ -88,7 +90,17 @@ fn make_call(
     match command {
         Command::Begin => calls::begin(sheet, fates, &rows[..], state),
         Command::Write(file, start, action, from) => {
-            write_text(sheet, &fates[..], rows, state, file, start, action, line, from)
+            write_text(
+                sheet,
+                &fates[..],
+                rows,
+                state,
+                file,
+                start,
+                action,
+                line,
+                from,
+            )
         }
         Command::Read(file, time, action) => {
             calls::read(&sheet[..], &fates[..], rows, state, file, time, action)
@@ -244,4 +256,110 @@ fn act(
     let state = desk.state;
     let done = make_call(sheet, fates, rows, state, command, line);
     answered(desk, command, done)
+}
+
+fn is_refused(answer: Answer) -> bool
+    ensures { λ r. ⌜ r ≡ isRefused answer ⌝ }
+{
+    match answer {
+        Answer::Refused(_, _) => true,
+        Answer::Opened(_, _) => false,
+        Answer::Rebuilt(_, _, _, _) => false,
+        Answer::Stored(_) => false,
+        Answer::Value(_, _, _) => false,
+        Answer::Nothing => false,
+        Answer::Told(_) => false,
+    }
+}
+
+// An opening for so many files, lent their rows. A refused one leaves no state.
+fn open_desk(
+    sheet: &[u8],
+    fates: &mut [u8],
+    rows: &mut [u64],
+    desk: Desk,
+    files: u64,
+    floor: u64,
+) -> Turn
+    ensures { λ r. ⌜ leftAfter r (now (sheet .entry)) (now (fates .exit)) (now (rows .exit)) ≡ openedFor desk (now (sheet .entry)) (now (fates .entry)) (now (rows .entry)) files floor ⌝ }
+{
+    let done = recovery::open(sheet, fates, rows, floor);
+    let answer = done.answer;
+    let state = done.state;
+    let reply = reply_of(Command::What, answer);
+    let on = !is_refused(answer);
+    let desk = Desk {
+        on,
+        files,
+        state,
+        cut: desk.cut,
+    };
+    Turn {
+        reply,
+        size: 0,
+        desk,
+    }
+}
+
+// A reply that leaves sheet, fates and rows as they are.
+fn only(reply: Reply, desk: Desk) -> Turn
+    ensures { λ r. ⌜ r ≡ record { reply = reply; size = 0; desk = desk } ⌝ }
+{
+    Turn {
+        reply,
+        size: 0,
+        desk,
+    }
+}
+
+// The numbers of the rows of so many files.
+fn row_numbers(files: u64) -> usize
+    requires { ⌜ files ≤ mostFiles ⌝ }
+    ensures { λ r. ⌜ r ≡ rowLength * files ⌝ }
+{
+    ROW_LENGTH * (files as usize)
+}
+
+// `open`: line 1 where there could be no rows to lend.
+fn start(
+    sheet: &[u8],
+    fates: &mut [u8],
+    rows: &mut [u64],
+    desk: Desk,
+    files: u64,
+    floor: u64,
+) -> Turn
+    requires { ⌜ length (now rows) ≡ rowLength * mostFiles ⌝ }
+    ensures { λ r. ⌜ leftAfter r (now (sheet .entry)) (now (fates .exit)) (now (rows .exit)) ≡ startedFor desk (now (sheet .entry)) (now (fates .entry)) (now (rows .entry)) files floor ⌝ }
+{
+    if !recovery::is_file(Page::MOST_FILES, files) {
+        let off = Desk {
+            on: false,
+            files: desk.files,
+            state: no_state(),
+            cut: desk.cut,
+        };
+        return only(Reply::No(1, 0), off);
+    }
+    let n = row_numbers(files);
+    open_desk(sheet, fates, &mut rows[0..n], desk, files, floor)
+}
+
+// A call, if there is a state.
+fn call_now(
+    sheet: &mut [u8],
+    fates: &mut [u8],
+    rows: &mut [u64],
+    desk: Desk,
+    command: Command,
+    line: &[u8],
+) -> Turn
+    requires { ⌜ (length (now sheet) ≡ sheetSize) × (length (now rows) ≡ rowLength * mostFiles) × (desk .files ≤ mostFiles) ⌝ }
+    ensures { λ r. ⌜ leftAfter r (now (sheet .exit)) (now (fates .exit)) (now (rows .exit)) ≡ calledFor desk (now (sheet .entry)) (now (fates .entry)) (now (rows .entry)) command (now (line .entry)) ⌝ }
+{
+    if !desk.on {
+        return only(Reply::Closed, desk);
+    }
+    let n = row_numbers(desk.files);
+    act(sheet, fates, &mut rows[0..n], desk, command, line)
 }

@@ -51,7 +51,7 @@ same-length-6 c = search needs
 
 -- src/conversation.rt:230:1
 returns-2 : tie.Need-returns-2
-returns-2 c = 
+returns-2 c =
     let a = c .before .before .before .before .before .before .before .before .before .before .before .before .before .before .before .before .before .before .args in
     answered-uncut (a .desk) (now (a .sheet)) (now (a .fates)) (now (a .rows)) (a .command) (now (a .line)) _ _ _ _ (c .before .before .before .before .before .before .before .make-call .ensures) _ (c .before .before .before .before .before .before .before .before .before .before .before .before .if1 .left) (c .answered .ensures)
 

@@ -45,7 +45,7 @@ same-length-3 c = search needs
 
 -- src/conversation.rt:222:9
 returns : tie.Need-returns
-returns c = 
+returns c =
     let a = c .before .before .before .before .before .before .before .before .before .before .before .before .before .before .before .before .before .before .before .before .before .before .before .before .args in
     answered-idle (a .desk) (now (a .sheet)) (now (a .fates)) (now (a .rows)) (a .command) (now (a .line)) _ _ _ _ (c .before .before .before .before .before .before .before .before .before .before .before .make-call .ensures) _ (c .before .if1 .taken) (c .answered .ensures)
 
@@ -79,7 +79,7 @@ same-length-6 c = search needs
 
 -- src/conversation.rt:205:1
 returns-2 : tie.Need-returns-2
-returns-2 c = 
+returns-2 c =
     let a = c .before .before .before .before .before .before .before .before .before .before .before .before .before .before .before .before .before .before .before .before .before .before .before .before .before .before .before .before .before .before .args in
     let k = c .before .before .before .before .before .before .before .before .before .before .before .before .before .before .before .before .before .before .before .before .before .before .before .before .before .before .before .before .before .before .pre in
     let l = c .before .before .before .before .before .before .before .before .before .before .before .before .before .before .before .before .before .before .before .before .before .before .before .copy in

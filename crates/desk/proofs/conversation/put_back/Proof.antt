@@ -42,7 +42,7 @@ same-length c = search needs
 
 -- src/conversation.rt:168:1
 returns : tie.Need-returns
-returns c = 
+returns c =
     let a = c .before .before .before .before .before .before .before .args in
     let p = c .before .before .copy in
     back-is (now (a .sheet)) _ (now (a .old)) (a .at) _ (c .before .before .before .before .before .before .before .pre .0) (c .before .before .before .before .before .before .before .pre .1) refl (p .kept .0) (p .ensures)

@@ -41,7 +41,7 @@ same-length-2 c = search needs
 
 -- src/conversation.rt:44:1
 returns : tie.Need-returns
-returns c = 
+returns c =
     let a = c .before .before .before .before .before .before .before .before .before .before .before .before .before .args in
     c .before .before .before .before .write .ensures
     ∙ ap (λ v. callLeaves (now (a .sheet)) (now (a .fates)) (now (a .rows)) (a .state) (write (a .file) (a .start) (a .action) v))
