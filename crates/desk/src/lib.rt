@@ -1,0 +1,4 @@
+// The command program: lines to commands, and replies to lines.
+mod parsing;
+
+pub use parsing::Command;
