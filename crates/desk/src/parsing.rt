@@ -1,11 +1,11 @@
 // A line of input to a command, as `specs/Commands.antt` says it.
 use encoding::byte_at;
 ghost use mathlib.Core.Path.{_≡_};
-ghost use Prim.Native.Nat.{_+_, _≤_, _-_};
+ghost use Prim.Native.Nat.{suc, _+_, _≤_};
 ghost use mathlib.Core.List.{[]};
 ghost use lib.ListN.{length, take, drop, getD};
 ghost use Rattle.encoding.specs.Bytes.{same};
-ghost use Rattle.desk.specs.Commands.{words, spaceAt, numberOf, addDigit};
+ghost use Rattle.desk.specs.Commands.{words, spaceAt, numberOf, addDigit, three, isText, alone, withOne, withTwo, withThree, withText, parsed};
 
 // What a line asks for. Write ends with the index in the line at which the text begins; the text runs to the line's end.
 pub enum Command {
@@ -24,6 +24,12 @@ pub enum Command {
 pub enum Number {
     Is(u64),
     Not,
+}
+
+// Three words read as numbers.
+pub enum Numbers {
+    Are(u64, u64, u64),
+    Unread,
 }
 
 // Where the first space from an index on stands, or the line's length.
@@ -96,4 +102,141 @@ fn number_of(w: &[u8]) -> Number
         i += 1;
     }
     Number::Is(n)
+}
+
+fn count_words(line: &[u8]) -> usize
+    ensures { λ r. ⌜ r ≡ length (words (now (line .entry))) ⌝ }
+{
+    let mut n: usize = 0;
+    let mut i = 0;
+    while i < line.len() {
+        if line[i] == 32 {
+            n += 1;
+        }
+        i += 1;
+    }
+    n + 1
+}
+
+// Where the word after the one at an index begins, or the line's length.
+fn next_word(line: &[u8], from: usize) -> usize
+    requires { ⌜ from ≤ length (now line) ⌝ }
+    ensures { λ r. ⌜ drop r (now (line .entry)) ≡ drop (suc (spaceAt (drop from (now (line .entry))))) (drop from (now (line .entry))) ⌝ }
+    ensures within { λ r. ⌜ r ≤ length (now (line .entry)) ⌝ }
+{
+    let space = space_from(line, from);
+    if space < line.len() {
+        return space + 1;
+    }
+    space
+}
+
+// Where word k begins, the first being word 0, or the line's length.
+fn word_start(line: &[u8], k: usize) -> usize
+    ensures { λ r. ⌜ getD (words (now (line .entry))) k [] ≡ getD (words (drop r (now (line .entry)))) 0 [] ⌝ }
+    ensures within { λ r. ⌜ r ≤ length (now (line .entry)) ⌝ }
+{
+    let mut at = 0;
+    let mut n: usize = 0;
+    while n < k {
+        at = next_word(line, at);
+        n += 1;
+    }
+    at
+}
+
+// Word k, empty past the last.
+fn word(line: &[u8], k: usize) -> &[u8]
+    ensures { λ r. ⌜ now r ≡ getD (words (now (line .entry))) k [] ⌝ }
+    ensures within { λ r. ⌜ length (now r) ≤ length (now (line .entry)) ⌝ }
+{
+    let from = word_start(line, k);
+    let to = space_from(line, from);
+    &line[from..to]
+}
+
+fn is_text(w: &[u8]) -> bool
+    ensures { λ r. ⌜ r ≡ isText (now (w .entry)) ⌝ }
+{
+    if w.len() == 0 {
+        return false;
+    }
+    let mut i = 0;
+    while i < w.len() {
+        let b = byte_at(w, i);
+        if b < 33 {
+            return false;
+        }
+        if 126 < b {
+            return false;
+        }
+        i += 1;
+    }
+    true
+}
+
+fn alone(w: &[u8]) -> Command
+    ensures { λ r. ⌜ r ≡ alone (now (w .entry)) ⌝ }
+{
+    if is_same(w, b"open") {
+        return Command::Open(8, 0);
+    }
+    if is_same(w, b"begin") {
+        return Command::Begin;
+    }
+    Command::What
+}
+
+fn with_one(w: &[u8], number: Number) -> Command
+    ensures { λ r. ⌜ r ≡ withOne (now (w .entry)) number ⌝ }
+{
+    let Number::Is(n) = number else {
+        return Command::What;
+    };
+    if is_same(w, b"test") {
+        return Command::Test(n);
+    }
+    if is_same(w, b"commit") {
+        return Command::Commit(n);
+    }
+    if is_same(w, b"abort") {
+        return Command::Abort(n);
+    }
+    if !is_same(w, b"cut") {
+        return Command::What;
+    }
+    if 64 < n {
+        return Command::What;
+    }
+    Command::Cut(n)
+}
+
+fn with_two(w: &[u8], first: Number, second: Number) -> Command
+    ensures { λ r. ⌜ r ≡ withTwo (now (w .entry)) first second ⌝ }
+{
+    let Number::Is(a) = first else {
+        return Command::What;
+    };
+    let Number::Is(b) = second else {
+        return Command::What;
+    };
+    if is_same(w, b"open") {
+        return Command::Open(a, b);
+    }
+    Command::What
+}
+
+fn three(first: Number, second: Number, third: Number) -> Numbers
+    ensures { λ r. ⌜ r ≡ three first second third ⌝ }
+{
+    let Number::Is(a) = first else {
+        return Numbers::Unread;
+    };
+    let Number::Is(b) = second else {
+        return Numbers::Unread;
+    };
+    let Number::Is(c) = third else {
+        return Numbers::Unread;
+    };
+    Numbers::Are(a, b, c)
 }

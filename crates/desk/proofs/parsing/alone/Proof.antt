@@ -1,0 +1,46 @@
+use borrow.Author.Needs.{needs}
+use Rattle.desk.proofs.parsing.alone.Statement.{statement}
+use Rattle.desk.proofs.parsing.alone.Tie as tie
+use Rattle.desk.proofs.parsing.alone.Reads as reads
+use Rattle.desk.proofs.parsing.alone.Lts as lts
+use Rattle.desk.proofs.parsing.is_same.Reads as is-same-reads
+
+-- src/parsing.rt:181:19
+slice-aggregate-is-same : tie.Need-slice-aggregate-is-same
+slice-aggregate-is-same c = search needs
+
+-- src/parsing.rt:181:8
+is-same-requires : tie.Need-is-same-requires
+is-same-requires c κs = search needs
+
+-- src/parsing.rt:182:9
+returns : tie.Need-returns
+returns c = ?
+
+-- src/parsing.rt:184:19
+slice-aggregate-is-same-2 : tie.Need-slice-aggregate-is-same-2
+slice-aggregate-is-same-2 c = search needs
+
+-- src/parsing.rt:184:8
+is-same-requires-2 : tie.Need-is-same-requires-2
+is-same-requires-2 c κs = search needs
+
+-- src/parsing.rt:185:9
+returns-2 : tie.Need-returns-2
+returns-2 c = ?
+
+-- src/parsing.rt:178:1
+returns-3 : tie.Need-returns-3
+returns-3 c = ?
+
+pub alone-spec : {M : Type 1} → statement M
+alone-spec =
+    tie.close
+    (tie.spec
+    slice-aggregate-is-same
+    is-same-requires
+    returns
+    slice-aggregate-is-same-2
+    is-same-requires-2
+    returns-2
+    returns-3)

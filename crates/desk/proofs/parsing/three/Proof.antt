@@ -1,0 +1,60 @@
+use borrow.Author.Needs.{needs}
+use Rattle.desk.proofs.parsing.three.Statement.{statement}
+use Rattle.desk.proofs.parsing.three.Tie as tie
+use Rattle.desk.proofs.parsing.three.Reads as reads
+use Rattle.desk.proofs.parsing.three.Lts as lts
+
+-- src/parsing.rt:232:20
+enum-known-first : tie.Need-enum-known-first
+enum-known-first c = search needs
+
+-- src/parsing.rt:233:9
+enum-told : tie.Need-enum-told
+enum-told c = search needs
+
+-- src/parsing.rt:233:9
+returns : tie.Need-returns
+returns c = ?
+
+-- src/parsing.rt:235:20
+enum-known-second : tie.Need-enum-known-second
+enum-known-second c = search needs
+
+-- src/parsing.rt:236:9
+enum-told-2 : tie.Need-enum-told-2
+enum-told-2 c = search needs
+
+-- src/parsing.rt:236:9
+returns-2 : tie.Need-returns-2
+returns-2 c = ?
+
+-- src/parsing.rt:238:20
+enum-known-third : tie.Need-enum-known-third
+enum-known-third c = search needs
+
+-- src/parsing.rt:239:9
+enum-told-3 : tie.Need-enum-told-3
+enum-told-3 c = search needs
+
+-- src/parsing.rt:239:9
+returns-3 : tie.Need-returns-3
+returns-3 c = ?
+
+-- src/parsing.rt:229:1
+returns-4 : tie.Need-returns-4
+returns-4 c = ?
+
+pub three-spec : {M : Type 1} → statement M
+three-spec =
+    tie.close
+    (tie.spec
+    enum-known-first
+    enum-told
+    returns
+    enum-known-second
+    enum-told-2
+    returns-2
+    enum-known-third
+    enum-told-3
+    returns-3
+    returns-4)
