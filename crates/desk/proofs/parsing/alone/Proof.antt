@@ -1,3 +1,6 @@
+use Rattle.desk.specs.Names.{openName, beginName}
+use Rattle.desk.specs.Commands.{alone}
+use mathlib.Core.Path.{sym, _∙_}
 use borrow.Author.Needs.{needs}
 use Rattle.desk.proofs.parsing.alone.Statement.{statement}
 use Rattle.desk.proofs.parsing.alone.Tie as tie
@@ -15,7 +18,8 @@ is-same-requires c κs = search needs
 
 -- src/parsing.rt:182:9
 returns : tie.Need-returns
-returns c = ?
+unfolding alone openName beginName
+returns c = rw (sym (c .before .is-same .ensures) ∙ c .if1 .taken)
 
 -- src/parsing.rt:184:19
 slice-aggregate-is-same-2 : tie.Need-slice-aggregate-is-same-2
@@ -27,11 +31,13 @@ is-same-requires-2 c κs = search needs
 
 -- src/parsing.rt:185:9
 returns-2 : tie.Need-returns-2
-returns-2 c = ?
+unfolding alone openName beginName
+returns-2 c = rw (sym (c .before .before .before .before .is-same .ensures) ∙ c .before .before .before .if1 .left, sym (c .before .is-same2 .ensures) ∙ c .if2 .taken)
 
 -- src/parsing.rt:178:1
 returns-3 : tie.Need-returns-3
-returns-3 c = ?
+unfolding alone openName beginName
+returns-3 c = rw (sym (c .before .before .before .before .is-same .ensures) ∙ c .before .before .before .if1 .left, sym (c .before .is-same2 .ensures) ∙ c .if2 .left)
 
 pub alone-spec : {M : Type 1} → statement M
 alone-spec =

@@ -1,3 +1,4 @@
+use Rattle.desk.specs.Commands.{three}
 use borrow.Author.Needs.{needs}
 use Rattle.desk.proofs.parsing.three.Statement.{statement}
 use Rattle.desk.proofs.parsing.three.Tie as tie
@@ -14,7 +15,8 @@ enum-told c = search needs
 
 -- src/parsing.rt:233:9
 returns : tie.Need-returns
-returns c = ?
+unfolding three
+returns c = rw (c .enum-told .given .1)
 
 -- src/parsing.rt:235:20
 enum-known-second : tie.Need-enum-known-second
@@ -26,7 +28,8 @@ enum-told-2 c = search needs
 
 -- src/parsing.rt:236:9
 returns-2 : tie.Need-returns-2
-returns-2 c = ?
+unfolding three
+returns-2 c = rw (c .before .before .before .first .given .1, c .enum-told2 .given .1)
 
 -- src/parsing.rt:238:20
 enum-known-third : tie.Need-enum-known-third
@@ -38,11 +41,13 @@ enum-told-3 c = search needs
 
 -- src/parsing.rt:239:9
 returns-3 : tie.Need-returns-3
-returns-3 c = ?
+unfolding three
+returns-3 c = rw (c .before .before .before .before .before .before .first .given .1, c .before .before .before .second .given .1, c .enum-told3 .given .1)
 
 -- src/parsing.rt:229:1
 returns-4 : tie.Need-returns-4
-returns-4 c = ?
+unfolding three
+returns-4 c = rw (c .before .before .before .before .before .before .before .first .given .1, c .before .before .before .before .second .given .1, c .before .third .given .1)
 
 pub three-spec : {M : Type 1} → statement M
 three-spec =

@@ -1,3 +1,8 @@
+use Rattle.desk.specs.Names.{testName, commitName, abortName, cutName}
+use Rattle.desk.specs.Commands.{withOne}
+use Rattle.encoding.proofs.Logic.{refused, passed}
+use borrow.Author.Tests.{le-leb, lt-leb}
+use mathlib.Core.Path.{sym, _∙_}
 use borrow.Author.Needs.{needs}
 use Rattle.desk.proofs.parsing.with_one.Statement.{statement}
 use Rattle.desk.proofs.parsing.with_one.Tie as tie
@@ -15,7 +20,8 @@ enum-told c = search needs
 
 -- src/parsing.rt:194:9
 returns : tie.Need-returns
-returns c = ?
+unfolding withOne
+returns c = rw (c .enum-told .given .1)
 
 -- src/parsing.rt:196:19
 slice-aggregate-is-same : tie.Need-slice-aggregate-is-same
@@ -27,7 +33,8 @@ is-same-requires c κs = search needs
 
 -- src/parsing.rt:197:9
 returns-2 : tie.Need-returns-2
-returns-2 c = ?
+unfolding withOne testName commitName abortName cutName
+returns-2 c = rw (c .before .before .before .before .number .given .1, sym (c .before .is-same .ensures) ∙ c .if1 .taken)
 
 -- src/parsing.rt:199:19
 slice-aggregate-is-same-2 : tie.Need-slice-aggregate-is-same-2
@@ -39,7 +46,8 @@ is-same-requires-2 c κs = search needs
 
 -- src/parsing.rt:200:9
 returns-3 : tie.Need-returns-3
-returns-3 c = ?
+unfolding withOne testName commitName abortName cutName
+returns-3 c = rw (c .before .before .before .before .before .before .before .number .given .1, sym (c .before .before .before .before .is-same .ensures) ∙ c .before .before .before .if1 .left, sym (c .before .is-same2 .ensures) ∙ c .if2 .taken)
 
 -- src/parsing.rt:202:19
 slice-aggregate-is-same-3 : tie.Need-slice-aggregate-is-same-3
@@ -51,7 +59,8 @@ is-same-requires-3 c κs = search needs
 
 -- src/parsing.rt:203:9
 returns-4 : tie.Need-returns-4
-returns-4 c = ?
+unfolding withOne testName commitName abortName cutName
+returns-4 c = rw (c .before .before .before .before .before .before .before .before .before .before .number .given .1, sym (c .before .before .before .before .before .before .before .is-same .ensures) ∙ c .before .before .before .before .before .before .if1 .left, sym (c .before .before .before .before .is-same2 .ensures) ∙ c .before .before .before .if2 .left, sym (c .before .is-same3 .ensures) ∙ c .if3 .taken)
 
 -- src/parsing.rt:205:20
 slice-aggregate-is-same-4 : tie.Need-slice-aggregate-is-same-4
@@ -63,15 +72,18 @@ is-same-requires-4 c κs = search needs
 
 -- src/parsing.rt:206:9
 returns-5 : tie.Need-returns-5
-returns-5 c = ?
+unfolding withOne testName commitName abortName cutName
+returns-5 c = rw (c .before .before .before .before .before .before .before .before .before .before .before .before .before .number .given .1, sym (c .before .before .before .before .before .before .before .before .before .before .is-same .ensures) ∙ c .before .before .before .before .before .before .before .before .before .if1 .left, sym (c .before .before .before .before .before .before .before .is-same2 .ensures) ∙ c .before .before .before .before .before .before .if2 .left, sym (c .before .before .before .before .is-same3 .ensures) ∙ c .before .before .before .if3 .left, refused (c .before .is-same4 .ensures) (c .if4 .taken))
 
 -- src/parsing.rt:209:9
 returns-6 : tie.Need-returns-6
-returns-6 c = ?
+unfolding withOne testName commitName abortName cutName
+returns-6 c = rw (c .before .before .before .before .before .before .before .before .before .before .before .before .before .before .number .given .1, sym (c .before .before .before .before .before .before .before .before .before .before .before .is-same .ensures) ∙ c .before .before .before .before .before .before .before .before .before .before .if1 .left, sym (c .before .before .before .before .before .before .before .before .is-same2 .ensures) ∙ c .before .before .before .before .before .before .before .if2 .left, sym (c .before .before .before .before .before .is-same3 .ensures) ∙ c .before .before .before .before .if3 .left, passed (c .before .before .is-same4 .ensures) (c .before .if4 .left), lt-leb _ _ (c .if5 .taken))
 
 -- src/parsing.rt:190:1
 returns-7 : tie.Need-returns-7
-returns-7 c = ?
+unfolding withOne testName commitName abortName cutName
+returns-7 c = rw (c .before .before .before .before .before .before .before .before .before .before .before .before .before .before .number .given .1, sym (c .before .before .before .before .before .before .before .before .before .before .before .is-same .ensures) ∙ c .before .before .before .before .before .before .before .before .before .before .if1 .left, sym (c .before .before .before .before .before .before .before .before .is-same2 .ensures) ∙ c .before .before .before .before .before .before .before .if2 .left, sym (c .before .before .before .before .before .is-same3 .ensures) ∙ c .before .before .before .before .if3 .left, passed (c .before .before .is-same4 .ensures) (c .before .if4 .left), le-leb _ _ (c .if5 .left))
 
 pub with-one-spec : {M : Type 1} → statement M
 with-one-spec =

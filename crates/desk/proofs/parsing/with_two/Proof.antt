@@ -1,3 +1,6 @@
+use Rattle.desk.specs.Names.{openName}
+use Rattle.desk.specs.Commands.{withTwo}
+use mathlib.Core.Path.{sym, _∙_}
 use borrow.Author.Needs.{needs}
 use Rattle.desk.proofs.parsing.with_two.Statement.{statement}
 use Rattle.desk.proofs.parsing.with_two.Tie as tie
@@ -15,7 +18,8 @@ enum-told c = search needs
 
 -- src/parsing.rt:218:9
 returns : tie.Need-returns
-returns c = ?
+unfolding withTwo
+returns c = rw (c .enum-told .given .1)
 
 -- src/parsing.rt:220:20
 enum-known-second : tie.Need-enum-known-second
@@ -27,7 +31,8 @@ enum-told-2 c = search needs
 
 -- src/parsing.rt:221:9
 returns-2 : tie.Need-returns-2
-returns-2 c = ?
+unfolding withTwo
+returns-2 c = rw (c .before .before .before .first .given .1, c .enum-told2 .given .1)
 
 -- src/parsing.rt:223:19
 slice-aggregate-is-same : tie.Need-slice-aggregate-is-same
@@ -39,11 +44,13 @@ is-same-requires c κs = search needs
 
 -- src/parsing.rt:224:9
 returns-3 : tie.Need-returns-3
-returns-3 c = ?
+unfolding withTwo openName
+returns-3 c = rw (c .before .before .before .before .before .before .before .first .given .1, c .before .before .before .before .second .given .1, sym (c .before .is-same .ensures) ∙ c .if1 .taken)
 
 -- src/parsing.rt:214:1
 returns-4 : tie.Need-returns-4
-returns-4 c = ?
+unfolding withTwo openName
+returns-4 c = rw (c .before .before .before .before .before .before .before .first .given .1, c .before .before .before .before .second .given .1, sym (c .before .is-same .ensures) ∙ c .if1 .left)
 
 pub with-two-spec : {M : Type 1} → statement M
 with-two-spec =
