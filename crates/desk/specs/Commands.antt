@@ -2,7 +2,7 @@
 use Prim.Native.Nat.{ℕ, zero, suc, _+_, _*_, _-_, _^_}
 use mathlib.Core.List.{List, [], _∷_}
 use mathlib.Core.Bool.{Bool, true, false, _&&_, cond}
-use lib.ListN.{length}
+use lib.ListN.{length, getD}
 use lib.Dec.{eqb, ltb, leb}
 use Rattle.encoding.specs.Bytes.{same}
 use Rattle.desk.specs.declared.parsing.Command.{Command}
@@ -46,12 +46,20 @@ valueFrom n (b ∷ s) = valueFrom (10 * n + (b - 48)) s
 unfoldable pub numberOf : List ℕ → Number
 numberOf w = cond (ltb 0 (length w) && digits w && ltb (valueFrom 0 w) (2 ^ 64)) (Is (valueFrom 0 w)) Not
 
+-- word k of a line as a number
+unfoldable pub numberAt : List ℕ → ℕ → Number
+numberAt line k = numberOf (getD (words line) k [])
+
 -- three words as numbers
 unfoldable pub three : Number → Number → Number → Numbers
 three (Is a) (Is b) (Is c) = Are a b c
 three (Is a) (Is b) Not = Unread
 three (Is a) Not c = Unread
 three Not b c = Unread
+
+-- words 1 to 3 of a line as numbers
+unfoldable pub numbersIn : List ℕ → Numbers
+numbersIn line = three (numberAt line 1) (numberAt line 2) (numberAt line 3)
 
 -- the bytes of a text lie between 0x21 and 0x7E
 abbrev pub printable : List ℕ → Bool

@@ -2,3 +2,5 @@
 mod parsing;
 
 pub use parsing::Command;
+pub use parsing::MOST;
+pub use parsing::parse;

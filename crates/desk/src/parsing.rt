@@ -5,7 +5,7 @@ ghost use Prim.Native.Nat.{suc, _+_, _≤_};
 ghost use mathlib.Core.List.{[]};
 ghost use lib.ListN.{length, take, drop, getD};
 ghost use Rattle.encoding.specs.Bytes.{same};
-ghost use Rattle.desk.specs.Commands.{words, spaceAt, numberOf, addDigit, three, isText, alone, withOne, withTwo, withThree, withText, parsed};
+ghost use Rattle.desk.specs.Commands.{words, spaceAt, numberOf, numberAt, numbersIn, addDigit, three, isText, alone, withOne, withTwo, withThree, withText, parsed};
 
 // What a line asks for. Write ends with the index in the line at which the text begins; the text runs to the line's end.
 pub enum Command {
@@ -239,4 +239,76 @@ fn three(first: Number, second: Number, third: Number) -> Numbers
         return Numbers::Unread;
     };
     Numbers::Are(a, b, c)
+}
+
+fn with_three(w: &[u8], numbers: Numbers) -> Command
+    ensures { λ r. ⌜ r ≡ withThree (now (w .entry)) numbers ⌝ }
+{
+    let Numbers::Are(a, b, c) = numbers else {
+        return Command::What;
+    };
+    if is_same(w, b"read") {
+        return Command::Read(a, b, c);
+    }
+    Command::What
+}
+
+fn with_text(size: usize, w: &[u8], numbers: Numbers, text: &[u8]) -> Command
+    requires { ⌜ length (now text) ≤ size ⌝ }
+    ensures { λ r. ⌜ r ≡ withText size (now (w .entry)) numbers (now (text .entry)) ⌝ }
+{
+    let Numbers::Are(a, b, c) = numbers else {
+        return Command::What;
+    };
+    if !is_same(w, b"write") {
+        return Command::What;
+    }
+    if !is_text(text) {
+        return Command::What;
+    }
+    Command::Write(a, b, c, size - text.len())
+}
+
+// Word k as a number.
+fn number_at(line: &[u8], k: usize) -> Number
+    ensures { λ r. ⌜ r ≡ numberAt (now (line .entry)) k ⌝ }
+{
+    number_of(word(line, k))
+}
+
+// Words 1 to 3 as numbers.
+fn numbers_in(line: &[u8]) -> Numbers
+    ensures { λ r. ⌜ r ≡ numbersIn (now (line .entry)) ⌝ }
+{
+    three(number_at(line, 1), number_at(line, 2), number_at(line, 3))
+}
+
+// The longest line that is taken.
+pub const MOST: usize = 255;
+
+// The command that a line, without its newline, is.
+pub fn parse(line: &[u8]) -> Command
+    ensures { λ r. ⌜ r ≡ parsed (now (line .entry)) ⌝ }
+{
+    let size = line.len();
+    if MOST < size {
+        return Command::What;
+    }
+    let n = count_words(line);
+    if n == 1 {
+        return alone(word(line, 0));
+    }
+    if n == 2 {
+        return with_one(word(line, 0), number_at(line, 1));
+    }
+    if n == 3 {
+        return with_two(word(line, 0), number_at(line, 1), number_at(line, 2));
+    }
+    if n == 4 {
+        return with_three(word(line, 0), numbers_in(line));
+    }
+    if n == 5 {
+        return with_text(size, word(line, 0), numbers_in(line), word(line, 4));
+    }
+    Command::What
 }
