@@ -9,7 +9,8 @@ use Rattle.desk.specs.declared.parsing.Command.{Command}
 use Rattle.desk.specs.declared.parsing.Number.{Number}
 use Rattle.desk.specs.declared.parsing.Numbers.{Numbers}
 use Rattle.desk.specs.declared.parsing.Command.the-variants.{What}
-use Rattle.desk.specs.Commands.{words, numberOf, numberAt, three, numbersIn, alone, withOne, withTwo, withThree, withText, commandOf, parsed}
+use Rattle.desk.specs.Commands.{words, numberOf, three, alone, withOne, withTwo, withThree, withText, commandOf, parsed}
+use Rattle.desk.specs.ParseSteps.{numberAt, numbersIn}
 
 module _ (size : ℕ) where
   one : (ws : List (List ℕ)) → length ws ≡ 1 → commandOf size ws ≡ alone (getD ws 0 [])

@@ -12,7 +12,8 @@ use lib.Seq.{drop-cons, drop-drop}
 use Rattle.encoding.specs.Bytes.{same}
 use Rattle.encoding.proofs.Logic.{is-false, and-false}
 use Rattle.encoding.proofs.Numbers.{same-true}
-use Rattle.desk.specs.Commands.{spaceAt, words, longer, printable, isText}
+use Rattle.desk.specs.Commands.{words, longer, printable, isText}
+use Rattle.desk.specs.ParseSteps.{spaceAt}
 
 -- ---- the next space
 

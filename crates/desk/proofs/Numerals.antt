@@ -12,7 +12,8 @@ use lib.Seq.{drop-cons}
 use Rattle.encoding.proofs.Logic.{and-true, and-both, is-false}
 use Rattle.desk.specs.declared.parsing.Number.{Number}
 use Rattle.desk.specs.declared.parsing.Number.the-variants.{Is, Not}
-use Rattle.desk.specs.Commands.{digits, valueFrom, addDigit, numberOf}
+use Rattle.desk.specs.Commands.{digits, valueFrom, numberOf}
+use Rattle.desk.specs.ParseSteps.{addDigit}
 
 abbrev isDigit : ℕ → Bool
 isDigit b = leb 48 b && leb b 57

@@ -1,8 +1,8 @@
 -- The lines that the command program takes, and the command that each one is.
-use Prim.Native.Nat.{ℕ, zero, suc, _+_, _*_, _-_, _^_}
+use Prim.Native.Nat.{ℕ, _+_, _*_, _-_, _^_}
 use mathlib.Core.List.{List, [], _∷_}
 use mathlib.Core.Bool.{Bool, true, false, _&&_, cond}
-use lib.ListN.{length, getD}
+use lib.ListN.{length}
 use lib.Dec.{eqb, ltb, leb}
 use Rattle.encoding.specs.Bytes.{same}
 use Rattle.desk.specs.declared.parsing.Command.{Command}
@@ -13,11 +13,6 @@ use Rattle.desk.specs.declared.parsing.Numbers.{Numbers}
 use Rattle.desk.specs.declared.parsing.Numbers.the-variants.{Are, Unread}
 use Rattle.desk.specs.Names.{openName, beginName, writeName, readName, testName, commitName, abortName, cutName}
 
--- where the first space stands, or the length
-unfoldable pub spaceAt : List ℕ → ℕ
-spaceAt [] = 0
-spaceAt (b ∷ s) = cond (eqb b 32) 0 (suc (spaceAt s))
-
 -- a byte put in front of the first word
 abbrev pub longer : ℕ → List (List ℕ) → List (List ℕ)
 longer b [] = []
@@ -27,10 +22,6 @@ longer b (w ∷ ws) = (b ∷ w) ∷ ws
 unfoldable pub words : List ℕ → List (List ℕ)
 words [] = [] ∷ []
 words (b ∷ s) = cond (eqb b 32) ([] ∷ words s) (longer b (words s))
-
--- a number with one digit more, if the byte is a digit and the number stays below 2^64
-unfoldable pub addDigit : ℕ → ℕ → Number
-addDigit n b = cond (leb 48 b && leb b 57 && ltb (10 * n + (b - 48)) (2 ^ 64)) (Is (10 * n + (b - 48))) Not
 
 -- every byte is a digit
 abbrev pub digits : List ℕ → Bool
@@ -46,20 +37,12 @@ valueFrom n (b ∷ s) = valueFrom (10 * n + (b - 48)) s
 unfoldable pub numberOf : List ℕ → Number
 numberOf w = cond (ltb 0 (length w) && digits w && ltb (valueFrom 0 w) (2 ^ 64)) (Is (valueFrom 0 w)) Not
 
--- word k of a line as a number
-unfoldable pub numberAt : List ℕ → ℕ → Number
-numberAt line k = numberOf (getD (words line) k [])
-
 -- three words as numbers
 unfoldable pub three : Number → Number → Number → Numbers
 three (Is a) (Is b) (Is c) = Are a b c
 three (Is a) (Is b) Not = Unread
 three (Is a) Not c = Unread
 three Not b c = Unread
-
--- words 1 to 3 of a line as numbers
-unfoldable pub numbersIn : List ℕ → Numbers
-numbersIn line = three (numberAt line 1) (numberAt line 2) (numberAt line 3)
 
 -- the bytes of a text lie between 0x21 and 0x7E
 abbrev pub printable : List ℕ → Bool

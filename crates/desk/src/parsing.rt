@@ -5,7 +5,8 @@ ghost use Prim.Native.Nat.{suc, _+_, _≤_};
 ghost use mathlib.Core.List.{[]};
 ghost use lib.ListN.{length, take, drop, getD};
 ghost use Rattle.encoding.specs.Bytes.{same};
-ghost use Rattle.desk.specs.Commands.{words, spaceAt, numberOf, numberAt, numbersIn, addDigit, three, isText, alone, withOne, withTwo, withThree, withText, parsed};
+ghost use Rattle.desk.specs.Commands.{words, numberOf, three, isText, alone, withOne, withTwo, withThree, withText, parsed};
+ghost use Rattle.desk.specs.ParseSteps.{spaceAt, numberAt, numbersIn, addDigit};
 
 // What a line asks for. Write ends with the index in the line at which the text begins; the text runs to the line's end.
 pub enum Command {
@@ -21,13 +22,13 @@ pub enum Command {
 }
 
 // A word read as a number.
-pub enum Number {
+enum Number {
     Is(u64),
     Not,
 }
 
 // Three words read as numbers.
-pub enum Numbers {
+enum Numbers {
     Are(u64, u64, u64),
     Unread,
 }

@@ -1,4 +1,4 @@
-use Rattle.desk.specs.Commands.{addDigit}
+use Rattle.desk.specs.ParseSteps.{addDigit}
 use Prim.Native.Nat.{_+_, _*_, _-_, _^_}
 use native.Mathlib.Omega.{arith}
 use borrow.Author.Tests.{le-leb, lt-leb, lt-ltb, le-ltb}

@@ -1,4 +1,5 @@
-use Rattle.desk.specs.Commands.{numberOf, numberAt}
+use Rattle.desk.specs.Commands.{numberOf}
+use Rattle.desk.specs.ParseSteps.{numberAt}
 use mathlib.Core.Path.{ap, _∙_}
 use borrow.Author.Needs.{needs}
 use Rattle.desk.proofs.parsing.number_at.Statement.{statement}

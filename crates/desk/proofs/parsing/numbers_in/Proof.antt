@@ -1,4 +1,4 @@
-use Rattle.desk.specs.Commands.{numbersIn}
+use Rattle.desk.specs.ParseSteps.{numbersIn}
 use borrow.Author.Needs.{needs}
 use Rattle.desk.proofs.parsing.numbers_in.Statement.{statement}
 use Rattle.desk.proofs.parsing.numbers_in.Tie as tie

@@ -1,5 +1,5 @@
 use Rattle.desk.proofs.Lines.{space-here, space-later, space-none}
-use Rattle.desk.specs.Commands.{spaceAt}
+use Rattle.desk.specs.ParseSteps.{spaceAt}
 use lib.ListN.{length, drop}
 use denote.Ref.{now}
 use Prim.Native.Nat.{_≤_, _+_, _-_}
