@@ -1,3 +1,5 @@
 pub mod Numerals
 pub mod Lines
 pub mod Counted
+pub mod Decimal
+pub mod Putting

@@ -33,3 +33,23 @@ abortName = 97 ∷ 98 ∷ 111 ∷ 114 ∷ 116 ∷ []
 -- `cut`
 unfoldable pub cutName : List ℕ
 cutName = 99 ∷ 117 ∷ 116 ∷ []
+
+-- `what`
+unfoldable pub whatName : List ℕ
+whatName = 119 ∷ 104 ∷ 97 ∷ 116 ∷ []
+
+-- `closed`
+unfoldable pub closedName : List ℕ
+closedName = 99 ∷ 108 ∷ 111 ∷ 115 ∷ 101 ∷ 100 ∷ []
+
+-- `lost`
+unfoldable pub lostName : List ℕ
+lostName = 108 ∷ 111 ∷ 115 ∷ 116 ∷ []
+
+-- `none`
+unfoldable pub noneName : List ℕ
+noneName = 110 ∷ 111 ∷ 110 ∷ 101 ∷ []
+
+-- `no`
+unfoldable pub noName : List ℕ
+noName = 110 ∷ 111 ∷ []

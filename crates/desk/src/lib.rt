@@ -1,6 +1,8 @@
 // The command program: lines to commands, and replies to lines.
 mod parsing;
+mod printing;
 
 pub use parsing::Command;
 pub use parsing::MOST;
 pub use parsing::parse;
+pub use printing::Reply;
