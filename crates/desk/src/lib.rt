@@ -6,3 +6,4 @@ pub use parsing::Command;
 pub use parsing::MOST;
 pub use parsing::parse;
 pub use printing::Reply;
+pub use printing::print;
