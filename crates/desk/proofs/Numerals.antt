@@ -1,16 +1,15 @@
 -- A word read as a number, digit by digit. Assumes nothing.
 use Prim.Native.Nat.{ℕ, suc, _+_, _*_, _-_, _^_, _≤_, _<_}
-use mathlib.Core.Path.{_≡_, refl, sym, ap, _∙_}
+use mathlib.Core.Path.{_≡_, refl, sym, _∙_}
 use mathlib.Core.Bool.{Bool, true, false, _&&_, cond}
 use mathlib.Core.List.{List, [], _∷_}
 use native.Mathlib.Omega.{arith}
 use native.Mathlib.Numerals.{add-one}
-use borrow.Author.Tests.{lt-ltb, le-ltb, ltb-true, ltb-false}
+use borrow.Author.Tests.{lt-ltb, ltb-true, ltb-false}
 use lib.Dec.{ltb, leb}
 use lib.ListN.{length, drop, getD}
 use lib.Seq.{drop-cons}
-use Rattle.encoding.proofs.Logic.{and-true, and-both, is-false}
-use Rattle.desk.specs.declared.parsing.Number.{Number}
+use Rattle.encoding.proofs.Logic.{and-true, is-false}
 use Rattle.desk.specs.declared.parsing.Number.the-variants.{Is, Not}
 use Rattle.desk.specs.Commands.{digits, valueFrom, numberOf}
 use Rattle.desk.specs.ParseSteps.{addDigit}
@@ -71,8 +70,10 @@ reading-stop w i n b h e f r = rw (go (isDigit b) refl)
   where
     step : digits w ≡ (isDigit b && digits (drop (suc i) w))
     step = r .ahead ∙ rw (drop-cons w i 0 h, e)
+
     value : valueFrom 0 w ≡ valueFrom (10 * n + (b - 48)) (drop (suc i) w)
     value = r .value ∙ rw (drop-cons w i 0 h, e)
+
     go : (t : Bool) → isDigit b ≡ t → (ltb 0 (length w) && digits w && ltb (valueFrom 0 w) (2 ^ 64)) ≡ false
     go true t =
         let big : ltb (10 * n + (b - 48)) (2 ^ 64) ≡ false = simp t at (no-digit n b f) in

@@ -5,8 +5,8 @@ use mathlib.Core.List.{List, [], _∷_, _++_, append-assoc}
 use native.Mathlib.Omega.{arith}
 use native.Mathlib.Numerals.{add-one}
 use borrow.Rule.Slice.PartMut.{putMid, drop-put}
-use lib.ListN.{length, take, drop, set, length-append, length-take, take-append-drop}
-use lib.Seq.{take-suc-set, drop-set-lt, drop-drop, drop-at, length-take-le}
+use lib.ListN.{length, take, drop, set, length-append, take-append-drop}
+use lib.Seq.{take-suc-set, drop-set-lt, drop-drop}
 use Rattle.encoding.specs.Bytes.{part}
 use Rattle.encoding.proofs.Parts.{put-part, length-part}
 use Rattle.desk.specs.PrintSteps.{Put}

@@ -135,6 +135,7 @@ fn put_reply(reply: Reply, value: &[u8], out: &mut [u8]) -> usize
 
 // Room for the longest line, and the longest value.
 const ROOM: usize = 128;
+
 const VALUE: usize = 32;
 
 // Puts the line of a reply, with its newline, at the beginning of a run, and answers its length.

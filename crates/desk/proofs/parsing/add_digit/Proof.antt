@@ -1,3 +1,4 @@
+-- `desk::parsing::add_digit`, by its ways out. Assumes nothing.
 use Rattle.desk.specs.ParseSteps.{addDigit}
 use Prim.Native.Nat.{_+_, _*_, _-_, _^_}
 use native.Mathlib.Omega.{arith}
@@ -5,50 +6,39 @@ use borrow.Author.Tests.{le-leb, lt-leb, lt-ltb, le-ltb}
 use borrow.Author.Needs.{needs}
 use Rattle.desk.proofs.parsing.add_digit.Statement.{statement}
 use Rattle.desk.proofs.parsing.add_digit.Tie as tie
-use Rattle.desk.proofs.parsing.add_digit.Reads as reads
-use Rattle.desk.proofs.parsing.add_digit.Lts as lts
 
--- src/parsing.rt:67:9
 returns : tie.Need-returns
 unfolding addDigit
 returns c = simp (lt-leb 48 (c .before .args .b) (c .if1 .taken))
 
--- src/parsing.rt:70:9
 returns-2 : tie.Need-returns-2
 unfolding addDigit
 returns-2 c = simp (le-leb 48 (c .before .before .args .b) (c .before .if1 .left), lt-leb (c .before .before .args .b) 57 (c .if2 .taken))
 
--- src/parsing.rt:73:9
 returns-3 : tie.Need-returns-3
 unfolding addDigit
 returns-3 c =
     let a = c .before .before .before .args in
     simp (le-leb 48 (a .b) (omega arith), le-leb (a .b) 57 (omega arith), le-ltb (10 * a .n + (a .b - 48)) (2 ^ 64) (omega arith))
 
--- src/parsing.rt:76:8
 sub-if4 : tie.Need-sub-if4
 sub-if4 c = search needs
 
--- src/parsing.rt:76:35
 mul-if4 : tie.Need-mul-if4
 mul-if4 c = search needs
 
--- src/parsing.rt:77:9
 returns-4 : tie.Need-returns-4
 unfolding addDigit
 returns-4 c =
     let a = c .before .before .before .before .args in
     simp (le-leb 48 (a .b) (omega arith), le-leb (a .b) 57 (omega arith), le-ltb (10 * a .n + (a .b - 48)) (2 ^ 64) (omega arith))
 
--- src/parsing.rt:79:16
 mul-t5 : tie.Need-mul-t5
 mul-t5 c = search needs
 
--- src/parsing.rt:79:16
 add-t6 : tie.Need-add-t6
 add-t6 c = search needs
 
--- src/parsing.rt:63:1
 returns-5 : tie.Need-returns-5
 unfolding addDigit
 returns-5 c =

@@ -1,3 +1,4 @@
+-- `desk::parsing::count_words`. The invariant: the spaces passed, and the words that are left. Assumes nothing.
 use Rattle.desk.proofs.Lines.{more-words, same-words, one-word}
 use Rattle.desk.specs.Commands.{words}
 use lib.ListN.{length, drop}
@@ -9,8 +10,6 @@ use native.Mathlib.Omega.{arith}
 use borrow.Author.Needs.{needs}
 use Rattle.desk.proofs.parsing.count_words.Statement.{statement}
 use Rattle.desk.proofs.parsing.count_words.Tie as tie
-use Rattle.desk.proofs.parsing.count_words.Reads as reads
-use Rattle.desk.proofs.parsing.count_words.Lts as lts
 
 abbrev Inv-loop : tie.InvT-loop
 Inv-loop line n₀ i₀ n i = (length (words line) ≡ n + length (words (drop i line))) × (n ≤ i) × (i ≤ length line)
@@ -18,27 +17,21 @@ Inv-loop line n₀ i₀ n i = (length (words line) ≡ n + length (words (drop i
 abbrev μ-loop : tie.MeasureT-loop
 μ-loop line n₀ i₀ n i = length line - i
 
--- src/parsing.rt:112:5
 loop-holds : tie.Need-loop-holds Inv-loop μ-loop
 loop-holds c = search needs
 
--- src/parsing.rt:113:12
 shared-slice-read-if1 : tie.Need-shared-slice-read-if1 Inv-loop μ-loop
 shared-slice-read-if1 c = search needs
 
--- src/parsing.rt:114:13
 add-n : tie.Need-add-n Inv-loop μ-loop
 add-n c = search needs
 
--- src/parsing.rt:116:9
 add-i : tie.Need-add-i Inv-loop μ-loop
 add-i c = search needs
 
--- src/parsing.rt:112:5
 loop-less : tie.Need-loop-less Inv-loop μ-loop
 loop-less c = search needs
 
--- src/parsing.rt:112:5
 loop-again : tie.Need-loop-again Inv-loop μ-loop
 loop-again c =
     let l = c .before .before .before in
@@ -48,11 +41,9 @@ loop-again c =
     (λ w. (omega (arith, same-words s (l .loop .i) (omega arith) (w .0 .left)), omega arith, omega arith))
     (c .if1 .came)
 
--- src/parsing.rt:118:5
 add-result : tie.Need-add-result Inv-loop μ-loop
 add-result c = search needs
 
--- src/parsing.rt:107:1
 returns : tie.Need-returns Inv-loop μ-loop
 returns c = let l = c .before in omega (arith, one-word (now (l .before .args .line)) (l .loop .i) (omega arith))
 

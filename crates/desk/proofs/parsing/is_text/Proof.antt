@@ -1,3 +1,4 @@
+-- `desk::parsing::is_text`. The invariant: the bytes before i are those of a text. Assumes nothing.
 use Rattle.desk.proofs.Lines.{text-turn, text-low, text-high, text-end, no-text}
 use Rattle.desk.specs.Commands.{printable}
 use lib.ListN.{length, drop}
@@ -8,9 +9,6 @@ use native.Mathlib.Omega.{arith}
 use borrow.Author.Needs.{needs}
 use Rattle.desk.proofs.parsing.is_text.Statement.{statement}
 use Rattle.desk.proofs.parsing.is_text.Tie as tie
-use Rattle.desk.proofs.parsing.is_text.Reads as reads
-use Rattle.desk.proofs.parsing.is_text.Lts as lts
-use Rattle.encoding.proofs.byte_at.Reads as byte-at-reads
 
 abbrev Inv-loop : tie.InvT-loop
 Inv-loop w i₀ i = (printable w ≡ printable (drop i w)) × (i ≤ length w)
@@ -18,45 +16,36 @@ Inv-loop w i₀ i = (printable w ≡ printable (drop i w)) × (i ≤ length w)
 abbrev μ-loop : tie.MeasureT-loop
 μ-loop w i₀ i = length w - i
 
--- src/parsing.rt:162:9
 returns : tie.Need-returns Inv-loop μ-loop
 returns c = sym (no-text (now (c .before .before .args .w)) (c .if1 .taken))
 
--- src/parsing.rt:165:5
 loop-holds : tie.Need-loop-holds Inv-loop μ-loop
 loop-holds c = (refl, omega arith)
 
--- src/parsing.rt:166:13
 byte-at-requires : tie.Need-byte-at-requires Inv-loop μ-loop
 byte-at-requires c κs = search needs
 
--- src/parsing.rt:168:13
 returns-2 : tie.Need-returns-2 Inv-loop μ-loop
 returns-2 c =
     let l = c .before .before .before in
     sym (text-low (now (l .before .before .before .args .w)) (l .loop .i) _ (omega arith) (c .before .byte-at .ensures .0) (c .if2 .taken) (l .loop .inv .0))
 
--- src/parsing.rt:171:13
 returns-3 : tie.Need-returns-3 Inv-loop μ-loop
 returns-3 c =
     let l = c .before .before .before .before in
     sym (text-high (now (l .before .before .before .args .w)) (l .loop .i) _ (omega arith) (c .before .before .byte-at .ensures .0) (c .before .if2 .left) (c .if3 .taken) (l .loop .inv .0))
 
--- src/parsing.rt:173:9
 add-i : tie.Need-add-i Inv-loop μ-loop
 add-i c = search needs
 
--- src/parsing.rt:165:5
 loop-less : tie.Need-loop-less Inv-loop μ-loop
 loop-less c = search needs
 
--- src/parsing.rt:165:5
 loop-again : tie.Need-loop-again Inv-loop μ-loop
 loop-again c =
     let l = c .before .before .before .before in
     (l .loop .inv .0 ∙ text-turn (now (l .before .before .before .args .w)) (l .loop .i) _ (omega arith) (c .before .before .byte-at .ensures .0) (c .before .if2 .left) (c .if3 .left), omega arith)
 
--- src/parsing.rt:158:1
 returns-4 : tie.Need-returns-4 Inv-loop μ-loop
 returns-4 c =
     let l = c .before in

@@ -1,29 +1,21 @@
+-- `desk::parsing::numbers_in`. Assumes nothing.
 use Rattle.desk.specs.ParseSteps.{numbersIn}
 use borrow.Author.Needs.{needs}
 use Rattle.desk.proofs.parsing.numbers_in.Statement.{statement}
 use Rattle.desk.proofs.parsing.numbers_in.Tie as tie
-use Rattle.desk.proofs.parsing.numbers_in.Reads as reads
-use Rattle.desk.proofs.parsing.numbers_in.Lts as lts
-use Rattle.desk.proofs.parsing.number_at.Reads as number-at-reads
-use Rattle.desk.proofs.parsing.three.Reads as three-reads
 
--- src/parsing.rt:283:11
 number-at-requires : tie.Need-number-at-requires
 number-at-requires c κs = search needs
 
--- src/parsing.rt:283:31
 number-at-requires-2 : tie.Need-number-at-requires-2
 number-at-requires-2 c κs = search needs
 
--- src/parsing.rt:283:51
 number-at-requires-3 : tie.Need-number-at-requires-3
 number-at-requires-3 c κs = search needs
 
--- src/parsing.rt:283:5
 three-requires : tie.Need-three-requires
 three-requires c κs = search needs
 
--- src/parsing.rt:280:1
 returns : tie.Need-returns
 unfolding numbersIn
 returns c = rw (← c .before .number-at3 .ensures, ← c .before .before .number-at2 .ensures, ← c .before .before .before .number-at .ensures) (c .three .ensures)

@@ -1,3 +1,4 @@
+-- `desk::parsing::parse`, by how many words the line has. Assumes nothing.
 use Rattle.desk.proofs.Counted.{one-word, two-words, open-words, read-words, write-words, other-words, too-long}
 use denote.Ref.{now}
 use mathlib.Core.Path.{refl}
@@ -5,121 +6,86 @@ use native.Mathlib.Omega.{arith}
 use borrow.Author.Needs.{needs}
 use Rattle.desk.proofs.parsing.parse.Statement.{statement}
 use Rattle.desk.proofs.parsing.parse.Tie as tie
-use Rattle.desk.proofs.parsing.parse.Reads as reads
-use Rattle.desk.proofs.parsing.parse.Lts as lts
-use Rattle.desk.proofs.parsing.alone.Reads as alone-reads
-use Rattle.desk.proofs.parsing.count_words.Reads as count-words-reads
-use Rattle.desk.proofs.parsing.number_at.Reads as number-at-reads
-use Rattle.desk.proofs.parsing.numbers_in.Reads as numbers-in-reads
-use Rattle.desk.proofs.parsing.with_one.Reads as with-one-reads
-use Rattle.desk.proofs.parsing.with_text.Reads as with-text-reads
-use Rattle.desk.proofs.parsing.with_three.Reads as with-three-reads
-use Rattle.desk.proofs.parsing.with_two.Reads as with-two-reads
-use Rattle.desk.proofs.parsing.word.Reads as word-reads
 
--- src/parsing.rt:295:9
 returns : tie.Need-returns
 returns c = too-long (now (c .before .before .args .line)) (c .if1 .taken)
 
--- src/parsing.rt:297:9
 count-words-requires : tie.Need-count-words-requires
 count-words-requires c κs = search needs
 
--- src/parsing.rt:299:22
 word-requires : tie.Need-word-requires
 word-requires c κs = search needs
 
--- src/parsing.rt:299:9
 alone-requires : tie.Need-alone-requires
 alone-requires c κs = search needs
 
--- src/parsing.rt:299:9
 returns-2 : tie.Need-returns-2
 returns-2 c =
     let n = c .before .before .before .count-words in
     one-word (now (c .before .before .before .before .before .before .args .line)) (n .result) _ (omega arith) (n .ensures) _ (c .before .before .if2 .taken) (c .before .word .ensures .0) (c .alone .ensures)
 
--- src/parsing.rt:302:25
 word-requires-2 : tie.Need-word-requires-2
 word-requires-2 c κs = search needs
 
--- src/parsing.rt:302:40
 number-at-requires : tie.Need-number-at-requires
 number-at-requires c κs = search needs
 
--- src/parsing.rt:302:9
 with-one-requires : tie.Need-with-one-requires
 with-one-requires c κs = search needs
 
--- src/parsing.rt:302:9
 returns-3 : tie.Need-returns-3
 returns-3 c =
     let n = c .before .before .before .before .before .count-words in
     two-words (now (c .before .before .before .before .before .before .before .before .args .line)) (n .result) _ (omega arith) (n .ensures) _ _ (c .before .before .before .if3 .taken) (c .before .before .word2 .ensures .0) (c .before .number-at .ensures) (c .with-one .ensures)
 
--- src/parsing.rt:305:25
 word-requires-3 : tie.Need-word-requires-3
 word-requires-3 c κs = search needs
 
--- src/parsing.rt:305:40
 number-at-requires-2 : tie.Need-number-at-requires-2
 number-at-requires-2 c κs = search needs
 
--- src/parsing.rt:305:60
 number-at-requires-3 : tie.Need-number-at-requires-3
 number-at-requires-3 c κs = search needs
 
--- src/parsing.rt:305:9
 with-two-requires : tie.Need-with-two-requires
 with-two-requires c κs = search needs
 
--- src/parsing.rt:305:9
 returns-4 : tie.Need-returns-4
 returns-4 c =
     let n = c .before .before .before .before .before .before .before .count-words in
     open-words (now (c .before .before .before .before .before .before .before .before .before .before .args .line)) (n .result) _ (omega arith) (n .ensures) _ _ _ (c .before .before .before .before .if4 .taken) (c .before .before .before .word3 .ensures .0) (c .before .before .number-at2 .ensures) (c .before .number-at3 .ensures) (c .with-two .ensures)
 
--- src/parsing.rt:308:27
 word-requires-4 : tie.Need-word-requires-4
 word-requires-4 c κs = search needs
 
--- src/parsing.rt:308:42
 numbers-in-requires : tie.Need-numbers-in-requires
 numbers-in-requires c κs = search needs
 
--- src/parsing.rt:308:9
 with-three-requires : tie.Need-with-three-requires
 with-three-requires c κs = search needs
 
--- src/parsing.rt:308:9
 returns-5 : tie.Need-returns-5
 returns-5 c =
     let n = c .before .before .before .before .before .before .before .count-words in
     read-words (now (c .before .before .before .before .before .before .before .before .before .before .args .line)) (n .result) _ (omega arith) (n .ensures) _ _ (c .before .before .before .if5 .taken) (c .before .before .word4 .ensures .0) (c .before .numbers-in .ensures) (c .with-three .ensures)
 
--- src/parsing.rt:311:32
 word-requires-5 : tie.Need-word-requires-5
 word-requires-5 c κs = search needs
 
--- src/parsing.rt:311:47
 numbers-in-requires-2 : tie.Need-numbers-in-requires-2
 numbers-in-requires-2 c κs = search needs
 
--- src/parsing.rt:311:65
 word-requires-6 : tie.Need-word-requires-6
 word-requires-6 c κs = search needs
 
--- src/parsing.rt:311:9
 with-text-requires : tie.Need-with-text-requires
 with-text-requires c κs = search needs
 
--- src/parsing.rt:311:9
 returns-6 : tie.Need-returns-6
 returns-6 c =
     let n = c .before .before .before .before .before .before .before .before .before .count-words in
     write-words (now (c .before .before .before .before .before .before .before .before .before .before .before .before .args .line)) (n .result) _ (omega arith) (n .ensures) _ _ _ (c .before .before .before .before .if6 .taken) (c .before .before .before .word5 .ensures .0) (c .before .before .numbers-in2 .ensures) (c .before .word6 .ensures .0) (c .with-text .ensures)
 
--- src/parsing.rt:290:1
 returns-7 : tie.Need-returns-7
 returns-7 c =
     let n = c .before .before .before .before .before .count-words in

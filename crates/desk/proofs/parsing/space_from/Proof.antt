@@ -1,3 +1,4 @@
+-- `desk::parsing::space_from`. The invariant: the next space is the same from i on. Assumes nothing.
 use Rattle.desk.proofs.Lines.{space-here, space-later, space-none}
 use Rattle.desk.specs.ParseSteps.{spaceAt}
 use lib.ListN.{length, drop}
@@ -8,8 +9,6 @@ use native.Mathlib.Omega.{arith}
 use borrow.Author.Needs.{needs}
 use Rattle.desk.proofs.parsing.space_from.Statement.{statement}
 use Rattle.desk.proofs.parsing.space_from.Tie as tie
-use Rattle.desk.proofs.parsing.space_from.Reads as reads
-use Rattle.desk.proofs.parsing.space_from.Lts as lts
 
 abbrev Inv-loop : tie.InvT-loop
 Inv-loop line from i₀ i = (from + spaceAt (drop from line) ≡ i + spaceAt (drop i line)) × (i ≤ length line)
@@ -17,35 +16,28 @@ Inv-loop line from i₀ i = (from + spaceAt (drop from line) ≡ i + spaceAt (dr
 abbrev μ-loop : tie.MeasureT-loop
 μ-loop line from i₀ i = length line - i
 
--- src/parsing.rt:36:5
 loop-holds : tie.Need-loop-holds Inv-loop μ-loop
 loop-holds c = (refl, omega arith)
 
--- src/parsing.rt:37:12
 shared-slice-read-if1 : tie.Need-shared-slice-read-if1 Inv-loop μ-loop
 shared-slice-read-if1 c = search needs
 
--- src/parsing.rt:38:13
 returns : tie.Need-returns Inv-loop μ-loop
 returns c =
     let l = c .before .before .before in
     (omega (arith, l .loop .inv .0, space-here (now (l .before .args .line)) (l .loop .i) (omega arith) (c .if1 .taken)), omega arith)
 
--- src/parsing.rt:40:9
 add-i : tie.Need-add-i Inv-loop μ-loop
 add-i c = search needs
 
--- src/parsing.rt:36:5
 loop-less : tie.Need-loop-less Inv-loop μ-loop
 loop-less c = search needs
 
--- src/parsing.rt:36:5
 loop-again : tie.Need-loop-again Inv-loop μ-loop
 loop-again c =
     let l = c .before .before .before in
     (l .loop .inv .0 ∙ space-later (now (l .before .args .line)) (l .loop .i) (omega arith) (c .if1 .left), omega arith)
 
--- src/parsing.rt:30:1
 returns-2 : tie.Need-returns-2 Inv-loop μ-loop
 returns-2 c =
     let l = c .before in

@@ -1,50 +1,39 @@
+-- `desk::parsing::three`, by its ways out. Assumes nothing.
 use Rattle.desk.specs.Commands.{three}
 use borrow.Author.Needs.{needs}
 use Rattle.desk.proofs.parsing.three.Statement.{statement}
 use Rattle.desk.proofs.parsing.three.Tie as tie
-use Rattle.desk.proofs.parsing.three.Reads as reads
-use Rattle.desk.proofs.parsing.three.Lts as lts
 
--- src/parsing.rt:232:20
 enum-known-first : tie.Need-enum-known-first
 enum-known-first c = search needs
 
--- src/parsing.rt:233:9
 enum-told : tie.Need-enum-told
 enum-told c = search needs
 
--- src/parsing.rt:233:9
 returns : tie.Need-returns
 unfolding three
 returns c = rw (c .enum-told .given .1)
 
--- src/parsing.rt:235:20
 enum-known-second : tie.Need-enum-known-second
 enum-known-second c = search needs
 
--- src/parsing.rt:236:9
 enum-told-2 : tie.Need-enum-told-2
 enum-told-2 c = search needs
 
--- src/parsing.rt:236:9
 returns-2 : tie.Need-returns-2
 unfolding three
 returns-2 c = rw (c .before .before .before .first .given .1, c .enum-told2 .given .1)
 
--- src/parsing.rt:238:20
 enum-known-third : tie.Need-enum-known-third
 enum-known-third c = search needs
 
--- src/parsing.rt:239:9
 enum-told-3 : tie.Need-enum-told-3
 enum-told-3 c = search needs
 
--- src/parsing.rt:239:9
 returns-3 : tie.Need-returns-3
 unfolding three
 returns-3 c = rw (c .before .before .before .before .before .before .first .given .1, c .before .before .before .second .given .1, c .enum-told3 .given .1)
 
--- src/parsing.rt:229:1
 returns-4 : tie.Need-returns-4
 unfolding three
 returns-4 c = rw (c .before .before .before .before .before .before .before .first .given .1, c .before .before .before .before .second .given .1, c .before .third .given .1)

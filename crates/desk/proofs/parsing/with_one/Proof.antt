@@ -1,3 +1,4 @@
+-- `desk::parsing::with_one`, by its ways out. Assumes nothing.
 use Rattle.desk.specs.Names.{testName, commitName, abortName, cutName}
 use Rattle.desk.specs.Commands.{withOne}
 use Rattle.encoding.proofs.Logic.{refused, passed}
@@ -6,81 +7,61 @@ use mathlib.Core.Path.{sym, _∙_}
 use borrow.Author.Needs.{needs}
 use Rattle.desk.proofs.parsing.with_one.Statement.{statement}
 use Rattle.desk.proofs.parsing.with_one.Tie as tie
-use Rattle.desk.proofs.parsing.with_one.Reads as reads
-use Rattle.desk.proofs.parsing.with_one.Lts as lts
-use Rattle.desk.proofs.parsing.is_same.Reads as is-same-reads
 
--- src/parsing.rt:193:20
 enum-known-number : tie.Need-enum-known-number
 enum-known-number c = search needs
 
--- src/parsing.rt:194:9
 enum-told : tie.Need-enum-told
 enum-told c = search needs
 
--- src/parsing.rt:194:9
 returns : tie.Need-returns
 unfolding withOne
 returns c = rw (c .enum-told .given .1)
 
--- src/parsing.rt:196:19
 slice-aggregate-is-same : tie.Need-slice-aggregate-is-same
 slice-aggregate-is-same c = search needs
 
--- src/parsing.rt:196:8
 is-same-requires : tie.Need-is-same-requires
 is-same-requires c κs = search needs
 
--- src/parsing.rt:197:9
 returns-2 : tie.Need-returns-2
 unfolding withOne testName commitName abortName cutName
 returns-2 c = rw (c .before .before .before .before .number .given .1, sym (c .before .is-same .ensures) ∙ c .if1 .taken)
 
--- src/parsing.rt:199:19
 slice-aggregate-is-same-2 : tie.Need-slice-aggregate-is-same-2
 slice-aggregate-is-same-2 c = search needs
 
--- src/parsing.rt:199:8
 is-same-requires-2 : tie.Need-is-same-requires-2
 is-same-requires-2 c κs = search needs
 
--- src/parsing.rt:200:9
 returns-3 : tie.Need-returns-3
 unfolding withOne testName commitName abortName cutName
 returns-3 c = rw (c .before .before .before .before .before .before .before .number .given .1, sym (c .before .before .before .before .is-same .ensures) ∙ c .before .before .before .if1 .left, sym (c .before .is-same2 .ensures) ∙ c .if2 .taken)
 
--- src/parsing.rt:202:19
 slice-aggregate-is-same-3 : tie.Need-slice-aggregate-is-same-3
 slice-aggregate-is-same-3 c = search needs
 
--- src/parsing.rt:202:8
 is-same-requires-3 : tie.Need-is-same-requires-3
 is-same-requires-3 c κs = search needs
 
--- src/parsing.rt:203:9
 returns-4 : tie.Need-returns-4
 unfolding withOne testName commitName abortName cutName
 returns-4 c = rw (c .before .before .before .before .before .before .before .before .before .before .number .given .1, sym (c .before .before .before .before .before .before .before .is-same .ensures) ∙ c .before .before .before .before .before .before .if1 .left, sym (c .before .before .before .before .is-same2 .ensures) ∙ c .before .before .before .if2 .left, sym (c .before .is-same3 .ensures) ∙ c .if3 .taken)
 
--- src/parsing.rt:205:20
 slice-aggregate-is-same-4 : tie.Need-slice-aggregate-is-same-4
 slice-aggregate-is-same-4 c = search needs
 
--- src/parsing.rt:205:9
 is-same-requires-4 : tie.Need-is-same-requires-4
 is-same-requires-4 c κs = search needs
 
--- src/parsing.rt:206:9
 returns-5 : tie.Need-returns-5
 unfolding withOne testName commitName abortName cutName
 returns-5 c = rw (c .before .before .before .before .before .before .before .before .before .before .before .before .before .number .given .1, sym (c .before .before .before .before .before .before .before .before .before .before .is-same .ensures) ∙ c .before .before .before .before .before .before .before .before .before .if1 .left, sym (c .before .before .before .before .before .before .before .is-same2 .ensures) ∙ c .before .before .before .before .before .before .if2 .left, sym (c .before .before .before .before .is-same3 .ensures) ∙ c .before .before .before .if3 .left, refused (c .before .is-same4 .ensures) (c .if4 .taken))
 
--- src/parsing.rt:209:9
 returns-6 : tie.Need-returns-6
 unfolding withOne testName commitName abortName cutName
 returns-6 c = rw (c .before .before .before .before .before .before .before .before .before .before .before .before .before .before .number .given .1, sym (c .before .before .before .before .before .before .before .before .before .before .before .is-same .ensures) ∙ c .before .before .before .before .before .before .before .before .before .before .if1 .left, sym (c .before .before .before .before .before .before .before .before .is-same2 .ensures) ∙ c .before .before .before .before .before .before .before .if2 .left, sym (c .before .before .before .before .before .is-same3 .ensures) ∙ c .before .before .before .before .if3 .left, passed (c .before .before .is-same4 .ensures) (c .before .if4 .left), lt-leb _ _ (c .if5 .taken))
 
--- src/parsing.rt:190:1
 returns-7 : tie.Need-returns-7
 unfolding withOne testName commitName abortName cutName
 returns-7 c = rw (c .before .before .before .before .before .before .before .before .before .before .before .before .before .before .number .given .1, sym (c .before .before .before .before .before .before .before .before .before .before .before .is-same .ensures) ∙ c .before .before .before .before .before .before .before .before .before .before .if1 .left, sym (c .before .before .before .before .before .before .before .before .is-same2 .ensures) ∙ c .before .before .before .before .before .before .before .if2 .left, sym (c .before .before .before .before .before .is-same3 .ensures) ∙ c .before .before .before .before .if3 .left, passed (c .before .before .is-same4 .ensures) (c .before .if4 .left), le-leb _ _ (c .if5 .left))

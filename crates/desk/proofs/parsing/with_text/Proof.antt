@@ -1,54 +1,41 @@
+-- `desk::parsing::with_text`, by its ways out. Assumes nothing.
 use Rattle.desk.specs.Names.{writeName}
 use Rattle.desk.specs.Commands.{withText}
 use Rattle.encoding.proofs.Logic.{refused, passed}
 use borrow.Author.Needs.{needs}
 use Rattle.desk.proofs.parsing.with_text.Statement.{statement}
 use Rattle.desk.proofs.parsing.with_text.Tie as tie
-use Rattle.desk.proofs.parsing.with_text.Reads as reads
-use Rattle.desk.proofs.parsing.with_text.Lts as lts
-use Rattle.desk.proofs.parsing.is_same.Reads as is-same-reads
-use Rattle.desk.proofs.parsing.is_text.Reads as is-text-reads
 
--- src/parsing.rt:260:22
 enum-known-numbers : tie.Need-enum-known-numbers
 enum-known-numbers c = search needs
 
--- src/parsing.rt:261:9
 enum-told : tie.Need-enum-told
 enum-told c = search needs
 
--- src/parsing.rt:261:9
 returns : tie.Need-returns
 unfolding withText
 returns c = rw (c .enum-told .given .1)
 
--- src/parsing.rt:263:20
 slice-aggregate-is-same : tie.Need-slice-aggregate-is-same
 slice-aggregate-is-same c = search needs
 
--- src/parsing.rt:263:9
 is-same-requires : tie.Need-is-same-requires
 is-same-requires c κs = search needs
 
--- src/parsing.rt:264:9
 returns-2 : tie.Need-returns-2
 unfolding withText writeName
 returns-2 c = rw (c .before .before .before .before .numbers .given .1, refused (c .before .is-same .ensures) (c .if1 .taken))
 
--- src/parsing.rt:266:9
 is-text-requires : tie.Need-is-text-requires
 is-text-requires c κs = search needs
 
--- src/parsing.rt:267:9
 returns-3 : tie.Need-returns-3
 unfolding withText writeName
 returns-3 c = rw (c .before .before .before .before .before .before .numbers .given .1, passed (c .before .before .before .is-same .ensures) (c .before .before .if1 .left), refused (c .before .is-text .ensures) (c .if2 .taken))
 
--- src/parsing.rt:269:29
 sub-t14 : tie.Need-sub-t14
 sub-t14 c = search needs
 
--- src/parsing.rt:256:1
 returns-4 : tie.Need-returns-4
 unfolding withText writeName
 returns-4 c = rw (c .before .before .before .before .before .before .numbers .given .1, passed (c .before .before .before .is-same .ensures) (c .before .before .if1 .left), passed (c .before .is-text .ensures) (c .if2 .left))

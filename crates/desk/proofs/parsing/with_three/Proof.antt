@@ -1,40 +1,31 @@
+-- `desk::parsing::with_three`, by its ways out. Assumes nothing.
 use Rattle.desk.specs.Names.{readName}
 use Rattle.desk.specs.Commands.{withThree}
 use mathlib.Core.Path.{sym, _∙_}
 use borrow.Author.Needs.{needs}
 use Rattle.desk.proofs.parsing.with_three.Statement.{statement}
 use Rattle.desk.proofs.parsing.with_three.Tie as tie
-use Rattle.desk.proofs.parsing.with_three.Reads as reads
-use Rattle.desk.proofs.parsing.with_three.Lts as lts
-use Rattle.desk.proofs.parsing.is_same.Reads as is-same-reads
 
--- src/parsing.rt:247:22
 enum-known-numbers : tie.Need-enum-known-numbers
 enum-known-numbers c = search needs
 
--- src/parsing.rt:248:9
 enum-told : tie.Need-enum-told
 enum-told c = search needs
 
--- src/parsing.rt:248:9
 returns : tie.Need-returns
 unfolding withThree
 returns c = rw (c .enum-told .given .1)
 
--- src/parsing.rt:250:19
 slice-aggregate-is-same : tie.Need-slice-aggregate-is-same
 slice-aggregate-is-same c = search needs
 
--- src/parsing.rt:250:8
 is-same-requires : tie.Need-is-same-requires
 is-same-requires c κs = search needs
 
--- src/parsing.rt:251:9
 returns-2 : tie.Need-returns-2
 unfolding withThree readName
 returns-2 c = rw (c .before .before .before .before .numbers .given .1, sym (c .before .is-same .ensures) ∙ c .if1 .taken)
 
--- src/parsing.rt:244:1
 returns-3 : tie.Need-returns-3
 unfolding withThree readName
 returns-3 c = rw (c .before .before .before .before .numbers .given .1, sym (c .before .is-same .ensures) ∙ c .if1 .left)

@@ -1,3 +1,4 @@
+-- `desk::parsing::word`: from where it begins to the next space. Assumes nothing.
 use Rattle.desk.proofs.Lines.{word-part}
 use lib.ListN.{length-take, length-drop}
 use denote.Ref.{now}
@@ -5,32 +6,22 @@ use native.Mathlib.Omega.{arith}
 use borrow.Author.Needs.{needs}
 use Rattle.desk.proofs.parsing.word.Statement.{statement}
 use Rattle.desk.proofs.parsing.word.Tie as tie
-use Rattle.desk.proofs.parsing.word.Reads as reads
-use Rattle.desk.proofs.parsing.word.Lts as lts
-use Rattle.desk.proofs.parsing.space_from.Reads as space-from-reads
-use Rattle.desk.proofs.parsing.word_start.Reads as word-start-reads
 
--- src/parsing.rt:153:9
 word-start-requires : tie.Need-word-start-requires
 word-start-requires c κs = search needs
 
--- src/parsing.rt:154:9
 space-from-requires : tie.Need-space-from-requires
 space-from-requires c κs = search needs
 
--- src/parsing.rt:155:5
 sub-result : tie.Need-sub-result
 sub-result c = search needs
 
--- src/parsing.rt:155:5
 part-result-start : tie.Need-part-result-start
 part-result-start c = search needs
 
--- src/parsing.rt:155:5
 part-result-end : tie.Need-part-result-end
 part-result-end c = search needs
 
--- src/parsing.rt:149:1
 returns : tie.Need-returns
 returns c =
     let a = c .before .before .before .before .args in

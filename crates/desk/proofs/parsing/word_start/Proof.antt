@@ -1,3 +1,4 @@
+-- `desk::parsing::word_start`. The invariant: word k of the line is word k - n from `at` on. Assumes nothing.
 use Rattle.desk.proofs.Lines.{word-turn}
 use Rattle.desk.specs.Commands.{words}
 use lib.ListN.{length, drop, getD}
@@ -9,9 +10,6 @@ use native.Mathlib.Omega.{arith}
 use borrow.Author.Needs.{needs}
 use Rattle.desk.proofs.parsing.word_start.Statement.{statement}
 use Rattle.desk.proofs.parsing.word_start.Tie as tie
-use Rattle.desk.proofs.parsing.word_start.Reads as reads
-use Rattle.desk.proofs.parsing.word_start.Lts as lts
-use Rattle.desk.proofs.parsing.next_word.Reads as next-word-reads
 
 abbrev Inv-loop : tie.InvT-loop
 Inv-loop line k at₀ n₀ at n = (getD (words line) k [] ≡ getD (words (drop at line)) (k - n) []) × (n ≤ k) × (at ≤ length line)
@@ -19,30 +17,24 @@ Inv-loop line k at₀ n₀ at n = (getD (words line) k [] ≡ getD (words (drop 
 abbrev μ-loop : tie.MeasureT-loop
 μ-loop line k at₀ n₀ at n = k - n
 
--- src/parsing.rt:141:5
 loop-holds : tie.Need-loop-holds Inv-loop μ-loop
 loop-holds c = let e : c .before .args .k - 0 ≡ c .before .args .k = omega arith in (rw e, omega arith, omega arith)
 
--- src/parsing.rt:142:9
 next-word-requires : tie.Need-next-word-requires Inv-loop μ-loop
 next-word-requires c κs = search needs
 
--- src/parsing.rt:143:9
 add-n : tie.Need-add-n Inv-loop μ-loop
 add-n c = search needs
 
--- src/parsing.rt:141:5
 loop-less : tie.Need-loop-less Inv-loop μ-loop
 loop-less c = search needs
 
--- src/parsing.rt:141:5
 loop-again : tie.Need-loop-again Inv-loop μ-loop
 loop-again c =
     let l = c .before .before in
     let s = now (l .before .before .args .line) in
     (word-turn s (drop (l .loop .at) s) _ (l .before .before .args .k) (l .loop .n) (omega arith) (c .next-word .ensures .0) (l .loop .inv .0), omega arith, omega arith)
 
--- src/parsing.rt:135:1
 returns : tie.Need-returns Inv-loop μ-loop
 returns c =
     let l = c .before in

@@ -1,3 +1,4 @@
+-- `desk::printing::print`, by its ways out. Assumes nothing.
 use Rattle.desk.proofs.Putting.{whole-line}
 use Rattle.desk.specs.Replies.{prints}
 use borrow.Author.Tests.{lt-ltb, le-ltb}
@@ -6,29 +7,21 @@ use denote.Ref.{now}
 use borrow.Author.Needs.{needs}
 use Rattle.desk.proofs.printing.print.Statement.{statement}
 use Rattle.desk.proofs.printing.print.Tie as tie
-use Rattle.desk.proofs.printing.print.Reads as reads
-use Rattle.desk.proofs.printing.print.Lts as lts
-use Rattle.desk.proofs.printing.put_reply.Reads as put-reply-reads
 
--- src/printing.rt:145:9
 returns : tie.Need-returns
 unfolding prints
 returns c = rw (lt-ltb (length (now (c .before .before .before .args .out))) 128 (c .if1 .taken))
 
--- src/printing.rt:148:9
 returns-2 : tie.Need-returns-2
 unfolding prints
 returns-2 c = rw (le-ltb (length (now (c .before .before .before .before .args .out))) 128 (c .before .if1 .left), lt-ltb 32 (length (now (c .before .before .before .before .args .value))) (c .if2 .taken))
 
--- src/printing.rt:150:5
 put-reply-requires : tie.Need-put-reply-requires
 put-reply-requires c κs = search needs
 
--- src/printing.rt:141:1
 same-length : tie.Need-same-length
 same-length c = search needs
 
--- src/printing.rt:141:1
 returns-3 : tie.Need-returns-3
 unfolding prints
 returns-3 c =

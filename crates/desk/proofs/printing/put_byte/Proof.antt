@@ -1,24 +1,19 @@
+-- `desk::printing::put_byte`. Assumes nothing.
 use Rattle.desk.proofs.Putting.{one-byte}
 use denote.Ref.{now}
 use borrow.Author.Needs.{needs}
 use Rattle.desk.proofs.printing.put_byte.Statement.{statement}
 use Rattle.desk.proofs.printing.put_byte.Tie as tie
-use Rattle.desk.proofs.printing.put_byte.Reads as reads
-use Rattle.desk.proofs.printing.put_byte.Lts as lts
 
--- src/printing.rt:32:5
 slice-write-out : tie.Need-slice-write-out
 slice-write-out c = search needs
 
--- src/printing.rt:33:5
 add-result : tie.Need-add-result
 add-result c = search needs
 
--- src/printing.rt:28:1
 same-length : tie.Need-same-length
 same-length c = search needs
 
--- src/printing.rt:28:1
 returns : tie.Need-returns
 returns c = one-byte (c .args .at) (c .args .b) (now (c .args .out)) (c .pre)
 

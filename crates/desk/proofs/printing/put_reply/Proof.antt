@@ -1,280 +1,211 @@
+-- `desk::printing::put_reply`, reply by reply. Assumes nothing.
 use Rattle.desk.specs.Names.{whatName, closedName, lostName, cutName, openName, beginName, writeName, noneName, testName, commitName, abortName, noName}
 use Rattle.desk.specs.Replies.{printed}
 use borrow.Author.Needs.{needs}
 use Rattle.desk.proofs.printing.put_reply.Statement.{statement}
 use Rattle.desk.proofs.printing.put_reply.Tie as tie
-use Rattle.desk.proofs.printing.put_reply.Reads as reads
-use Rattle.desk.proofs.printing.put_reply.Lts as lts
-use Rattle.desk.proofs.printing.put_one.Reads as put-one-reads
-use Rattle.desk.proofs.printing.put_shown.Reads as put-shown-reads
-use Rattle.desk.proofs.printing.put_two.Reads as put-two-reads
-use Rattle.desk.proofs.printing.put_word.Reads as put-word-reads
 
--- src/printing.rt:120:33
 enum-told : tie.Need-enum-told
 enum-told c = search needs
 
--- src/printing.rt:120:38
 slice-aggregate-put-word : tie.Need-slice-aggregate-put-word
 slice-aggregate-put-word c = search needs
 
--- src/printing.rt:120:24
 put-word-requires : tie.Need-put-word-requires
 put-word-requires c κs = search needs
 
--- src/printing.rt:121:35
 enum-told-2 : tie.Need-enum-told-2
 enum-told-2 c = search needs
 
--- src/printing.rt:121:40
 slice-aggregate-put-word-2 : tie.Need-slice-aggregate-put-word-2
 slice-aggregate-put-word-2 c = search needs
 
--- src/printing.rt:121:26
 put-word-requires-2 : tie.Need-put-word-requires-2
 put-word-requires-2 c κs = search needs
 
--- src/printing.rt:122:33
 enum-told-3 : tie.Need-enum-told-3
 enum-told-3 c = search needs
 
--- src/printing.rt:122:38
 slice-aggregate-put-word-3 : tie.Need-slice-aggregate-put-word-3
 slice-aggregate-put-word-3 c = search needs
 
--- src/printing.rt:122:24
 put-word-requires-3 : tie.Need-put-word-requires-3
 put-word-requires-3 c κs = search needs
 
--- src/printing.rt:123:20
 enum-known-reply : tie.Need-enum-known-reply
 enum-known-reply c = search needs
 
--- src/printing.rt:123:39
 slice-aggregate-put-one : tie.Need-slice-aggregate-put-one
 slice-aggregate-put-one c = search needs
 
--- src/printing.rt:123:26
 put-one-requires : tie.Need-put-one-requires
 put-one-requires c κs = search needs
 
--- src/printing.rt:124:23
 enum-known-reply-2 : tie.Need-enum-known-reply-2
 enum-known-reply-2 c = search needs
 
--- src/printing.rt:124:51
 slice-aggregate-put-two : tie.Need-slice-aggregate-put-two
 slice-aggregate-put-two c = search needs
 
--- src/printing.rt:124:38
 put-two-requires : tie.Need-put-two-requires
 put-two-requires c κs = search needs
 
--- src/printing.rt:125:22
 enum-known-reply-3 : tie.Need-enum-known-reply-3
 enum-known-reply-3 c = search needs
 
--- src/printing.rt:125:45
 slice-aggregate-put-one-2 : tie.Need-slice-aggregate-put-one-2
 slice-aggregate-put-one-2 c = search needs
 
--- src/printing.rt:125:32
 put-one-requires-2 : tie.Need-put-one-requires-2
 put-one-requires-2 c κs = search needs
 
--- src/printing.rt:126:24
 enum-known-reply-4 : tie.Need-enum-known-reply-4
 enum-known-reply-4 c = search needs
 
--- src/printing.rt:126:47
 slice-aggregate-put-one-3 : tie.Need-slice-aggregate-put-one-3
 slice-aggregate-put-one-3 c = search needs
 
--- src/printing.rt:126:34
 put-one-requires-3 : tie.Need-put-one-requires-3
 put-one-requires-3 c κs = search needs
 
--- src/printing.rt:127:22
 enum-known-reply-5 : tie.Need-enum-known-reply-5
 enum-known-reply-5 c = search needs
 
--- src/printing.rt:127:39
 put-shown-requires : tie.Need-put-shown-requires
 put-shown-requires c κs = search needs
 
--- src/printing.rt:128:36
 enum-told-4 : tie.Need-enum-told-4
 enum-told-4 c = search needs
 
--- src/printing.rt:128:41
 slice-aggregate-put-word-4 : tie.Need-slice-aggregate-put-word-4
 slice-aggregate-put-word-4 c = search needs
 
--- src/printing.rt:128:27
 put-word-requires-4 : tie.Need-put-word-requires-4
 put-word-requires-4 c κs = search needs
 
--- src/printing.rt:129:21
 enum-known-reply-6 : tie.Need-enum-known-reply-6
 enum-known-reply-6 c = search needs
 
--- src/printing.rt:129:43
 slice-aggregate-put-one-4 : tie.Need-slice-aggregate-put-one-4
 slice-aggregate-put-one-4 c = search needs
 
--- src/printing.rt:129:30
 put-one-requires-4 : tie.Need-put-one-requires-4
 put-one-requires-4 c κs = search needs
 
--- src/printing.rt:130:26
 enum-known-reply-7 : tie.Need-enum-known-reply-7
 enum-known-reply-7 c = search needs
 
--- src/printing.rt:130:49
 slice-aggregate-put-one-5 : tie.Need-slice-aggregate-put-one-5
 slice-aggregate-put-one-5 c = search needs
 
--- src/printing.rt:130:36
 put-one-requires-5 : tie.Need-put-one-requires-5
 put-one-requires-5 c κs = search needs
 
--- src/printing.rt:131:24
 enum-known-reply-8 : tie.Need-enum-known-reply-8
 enum-known-reply-8 c = search needs
 
--- src/printing.rt:131:47
 slice-aggregate-put-one-6 : tie.Need-slice-aggregate-put-one-6
 slice-aggregate-put-one-6 c = search needs
 
--- src/printing.rt:131:34
 put-one-requires-6 : tie.Need-put-one-requires-6
 put-one-requires-6 c κs = search needs
 
--- src/printing.rt:132:19
 enum-known-reply-9 : tie.Need-enum-known-reply-9
 enum-known-reply-9 c = search needs
 
--- src/printing.rt:132:50
 slice-aggregate-put-two-2 : tie.Need-slice-aggregate-put-two-2
 slice-aggregate-put-two-2 c = search needs
 
--- src/printing.rt:132:37
 put-two-requires-2 : tie.Need-put-two-requires-2
 put-two-requires-2 c κs = search needs
 
--- src/printing.rt:115:1
 same-length : tie.Need-same-length
 same-length c = search needs
 
--- src/printing.rt:115:1
 returns : tie.Need-returns
 unfolding printed whatName
 returns c = rw (c .before .before .before .before .before .enum-told .given .1) (c .before .before .put-word .ensures)
 
--- src/printing.rt:115:1
 same-length-2 : tie.Need-same-length-2
 same-length-2 c = search needs
 
--- src/printing.rt:115:1
 returns-2 : tie.Need-returns-2
 unfolding printed closedName
 returns-2 c = rw (c .before .before .before .before .before .enum-told2 .given .1) (c .before .before .put-word2 .ensures)
 
--- src/printing.rt:115:1
 same-length-3 : tie.Need-same-length-3
 same-length-3 c = search needs
 
--- src/printing.rt:115:1
 returns-3 : tie.Need-returns-3
 unfolding printed lostName
 returns-3 c = rw (c .before .before .before .before .before .enum-told3 .given .1) (c .before .before .put-word3 .ensures)
 
--- src/printing.rt:115:1
 same-length-4 : tie.Need-same-length-4
 same-length-4 c = search needs
 
--- src/printing.rt:115:1
 returns-4 : tie.Need-returns-4
 unfolding printed cutName
 returns-4 c = rw (c .before .before .before .before .before .before .reply .given .1) (c .before .before .put-one .ensures)
 
--- src/printing.rt:115:1
 same-length-5 : tie.Need-same-length-5
 same-length-5 c = search needs
 
--- src/printing.rt:115:1
 returns-5 : tie.Need-returns-5
 unfolding printed openName
 returns-5 c = rw (c .before .before .before .before .before .before .reply2 .given .1) (c .before .before .put-two .ensures)
 
--- src/printing.rt:115:1
 same-length-6 : tie.Need-same-length-6
 same-length-6 c = search needs
 
--- src/printing.rt:115:1
 returns-6 : tie.Need-returns-6
 unfolding printed beginName
 returns-6 c = rw (c .before .before .before .before .before .before .reply3 .given .1) (c .before .before .put-one2 .ensures)
 
--- src/printing.rt:115:1
 same-length-7 : tie.Need-same-length-7
 same-length-7 c = search needs
 
--- src/printing.rt:115:1
 returns-7 : tie.Need-returns-7
 unfolding printed writeName
 returns-7 c = rw (c .before .before .before .before .before .before .reply4 .given .1) (c .before .before .put-one3 .ensures)
 
--- src/printing.rt:115:1
 same-length-8 : tie.Need-same-length-8
 same-length-8 c = search needs
 
--- src/printing.rt:115:1
 returns-8 : tie.Need-returns-8
 unfolding printed
 returns-8 c = rw (c .before .before .before .before .before .reply5 .given .1) (c .before .before .put-shown .ensures)
 
--- src/printing.rt:115:1
 same-length-9 : tie.Need-same-length-9
 same-length-9 c = search needs
 
--- src/printing.rt:115:1
 returns-9 : tie.Need-returns-9
 unfolding printed noneName
 returns-9 c = rw (c .before .before .before .before .before .enum-told4 .given .1) (c .before .before .put-word4 .ensures)
 
--- src/printing.rt:115:1
 same-length-10 : tie.Need-same-length-10
 same-length-10 c = search needs
 
--- src/printing.rt:115:1
 returns-10 : tie.Need-returns-10
 unfolding printed testName
 returns-10 c = rw (c .before .before .before .before .before .before .reply6 .given .1) (c .before .before .put-one4 .ensures)
 
--- src/printing.rt:115:1
 same-length-11 : tie.Need-same-length-11
 same-length-11 c = search needs
 
--- src/printing.rt:115:1
 returns-11 : tie.Need-returns-11
 unfolding printed commitName
 returns-11 c = rw (c .before .before .before .before .before .before .reply7 .given .1) (c .before .before .put-one5 .ensures)
 
--- src/printing.rt:115:1
 same-length-12 : tie.Need-same-length-12
 same-length-12 c = search needs
 
--- src/printing.rt:115:1
 returns-12 : tie.Need-returns-12
 unfolding printed abortName
 returns-12 c = rw (c .before .before .before .before .before .before .reply8 .given .1) (c .before .before .put-one6 .ensures)
 
--- src/printing.rt:115:1
 same-length-13 : tie.Need-same-length-13
 same-length-13 c = search needs
 
--- src/printing.rt:115:1
 returns-13 : tie.Need-returns-13
 unfolding printed noName
 returns-13 c = rw (c .before .before .before .before .before .before .reply9 .given .1) (c .before .before .put-two2 .ensures)

@@ -1,3 +1,4 @@
+-- `desk::printing::put_run`: the part lies between what was there before it and what is past its end. Assumes nothing.
 use Rattle.desk.proofs.Putting.{a-run}
 use Rattle.encoding.proofs.Parts.{length-part}
 use Rattle.encoding.specs.Bytes.{part}
@@ -10,35 +11,25 @@ use mathlib.Core.Path.{_≡_}
 use borrow.Author.Needs.{needs}
 use Rattle.desk.proofs.printing.put_run.Statement.{statement}
 use Rattle.desk.proofs.printing.put_run.Tie as tie
-use Rattle.desk.proofs.printing.put_run.Reads as reads
-use Rattle.desk.proofs.printing.put_run.Lts as lts
-use Rattle.encoding.proofs.copy.Reads as copy-reads
 
--- src/printing.rt:40:15
 add-end : tie.Need-add-end
 add-end c = search needs
 
--- src/printing.rt:41:10
 sub-copy : tie.Need-sub-copy
 sub-copy c = search needs
 
--- src/printing.rt:41:10
 part-copy-start : tie.Need-part-copy-start
 part-copy-start c = search needs
 
--- src/printing.rt:41:10
 part-copy-end : tie.Need-part-copy-end
 part-copy-end c = search needs
 
--- src/printing.rt:41:5
 copy-requires : tie.Need-copy-requires
 copy-requires c κs = search needs
 
--- src/printing.rt:36:1
 same-length : tie.Need-same-length
 same-length c = search needs
 
--- src/printing.rt:36:1
 returns : tie.Need-returns
 returns c =
     let a = c .before .before .before .before .before .before .args in

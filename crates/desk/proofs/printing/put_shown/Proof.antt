@@ -1,47 +1,34 @@
+-- `desk::printing::put_shown`: each part is put after those before it. Assumes nothing.
 use Rattle.desk.proofs.Putting.{and-then}
 use Rattle.desk.specs.Names.{readName}
 use borrow.Author.Needs.{needs}
 use Rattle.desk.proofs.printing.put_shown.Statement.{statement}
 use Rattle.desk.proofs.printing.put_shown.Tie as tie
-use Rattle.desk.proofs.printing.put_shown.Reads as reads
-use Rattle.desk.proofs.printing.put_shown.Lts as lts
-use Rattle.desk.proofs.printing.put_byte.Reads as put-byte-reads
-use Rattle.desk.proofs.printing.put_run.Reads as put-run-reads
-use Rattle.desk.proofs.printing.put_spaced.Reads as put-spaced-reads
 
--- src/printing.rt:107:29
 slice-aggregate-put-run : tie.Need-slice-aggregate-put-run
 slice-aggregate-put-run c = search needs
 
--- src/printing.rt:107:9
 put-run-requires : tie.Need-put-run-requires
 put-run-requires c κs = search needs
 
--- src/printing.rt:108:9
 put-spaced-requires : tie.Need-put-spaced-requires
 put-spaced-requires c κs = search needs
 
--- src/printing.rt:109:9
 put-spaced-requires-2 : tie.Need-put-spaced-requires-2
 put-spaced-requires-2 c κs = search needs
 
--- src/printing.rt:110:9
 put-byte-requires : tie.Need-put-byte-requires
 put-byte-requires c κs = search needs
 
--- src/printing.rt:111:9
 put-run-requires-2 : tie.Need-put-run-requires-2
 put-run-requires-2 c κs = search needs
 
--- src/printing.rt:112:5
 put-byte-requires-2 : tie.Need-put-byte-requires-2
 put-byte-requires-2 c κs = search needs
 
--- src/printing.rt:103:1
 same-length : tie.Need-same-length
 same-length c = search needs
 
--- src/printing.rt:103:1
 returns : tie.Need-returns
 unfolding readName
 returns c =

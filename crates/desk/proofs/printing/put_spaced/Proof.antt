@@ -1,3 +1,4 @@
+-- `desk::printing::put_spaced`: a space, and at most 20 digits. Assumes nothing.
 use Rattle.desk.proofs.Putting.{and-then}
 use Rattle.desk.proofs.Decimal.{twenty}
 use Rattle.desk.specs.Replies.{spaced}
@@ -5,24 +6,16 @@ use native.Mathlib.Omega.{arith}
 use borrow.Author.Needs.{needs}
 use Rattle.desk.proofs.printing.put_spaced.Statement.{statement}
 use Rattle.desk.proofs.printing.put_spaced.Tie as tie
-use Rattle.desk.proofs.printing.put_spaced.Reads as reads
-use Rattle.desk.proofs.printing.put_spaced.Lts as lts
-use Rattle.desk.proofs.printing.put_byte.Reads as put-byte-reads
-use Rattle.desk.proofs.printing.put_decimal.Reads as put-decimal-reads
 
--- src/printing.rt:70:9
 put-byte-requires : tie.Need-put-byte-requires
 put-byte-requires c κs = search needs
 
--- src/printing.rt:71:5
 put-decimal-requires : tie.Need-put-decimal-requires
 put-decimal-requires c κs = omega (arith, twenty (c .before .before .before .before .before .before .args .x) (c .before .before .before .before .before .before .fits .x .fits))
 
--- src/printing.rt:65:1
 same-length : tie.Need-same-length
 same-length c = search needs
 
--- src/printing.rt:65:1
 returns : tie.Need-returns
 unfolding spaced
 returns c = (and-then (c .before .before .before .before .before .before .put-byte .ensures) (c .before .before .put-decimal .ensures), omega (arith, c .before .before .put-decimal .ensures .ends, c .before .before .before .before .before .before .put-byte .ensures .ends, twenty (c .before .before .before .before .before .before .before .before .before .args .x) (c .before .before .before .before .before .before .before .before .before .fits .x .fits)))
