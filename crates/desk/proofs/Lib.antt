@@ -3,3 +3,4 @@ pub mod Lines
 pub mod Counted
 pub mod Decimal
 pub mod Putting
+pub mod Text

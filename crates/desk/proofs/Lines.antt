@@ -59,7 +59,7 @@ pub more-words : (s : List ℕ) (i : ℕ) → i < length s → getD s i 0 ≡ 32
 unfolding words
 more-words s i h e = rw (add-one, drop-cons s i 0 h, e) (omega arith)
 
-longer-length : (b : ℕ) (ws : List (List ℕ)) → length (longer b ws) ≡ length ws
+pub longer-length : (b : ℕ) (ws : List (List ℕ)) → length (longer b ws) ≡ length ws
 longer-length b [] = refl
 longer-length b (w ∷ ws) = refl
 
@@ -71,15 +71,15 @@ pub one-word : (s : List ℕ) (i : ℕ) → length s ≤ i → length (words (dr
 unfolding words
 one-word s i h = rw (drop-of-length-le s {i = i} h)
 
-longer-some : (b : ℕ) (ws : List (List ℕ)) → 0 < length ws → getD (longer b ws) 0 [] ≡ b ∷ getD ws 0 []
+pub longer-some : (b : ℕ) (ws : List (List ℕ)) → 0 < length ws → getD (longer b ws) 0 [] ≡ b ∷ getD ws 0 []
 longer-some b [] h = absurd (omega arith)
 longer-some b (w ∷ ws) h = refl
 
-longer-rest : (b j : ℕ) (ws : List (List ℕ)) → getD (longer b ws) (suc j) [] ≡ getD ws (suc j) []
+pub longer-rest : (b j : ℕ) (ws : List (List ℕ)) → getD (longer b ws) (suc j) [] ≡ getD ws (suc j) []
 longer-rest b j [] = refl
 longer-rest b j (w ∷ ws) = refl
 
-words-some : (s : List ℕ) → 0 < length (words s)
+pub words-some : (s : List ℕ) → 0 < length (words s)
 unfolding words
 words-some [] = omega arith
 words-some (b ∷ s) = go (eqb b 32) (words-some s)

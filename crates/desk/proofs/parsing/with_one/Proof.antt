@@ -60,11 +60,11 @@ returns-5 c = rw (c .before .before .before .before .before .before .before .bef
 
 returns-6 : tie.Need-returns-6
 unfolding withOne testName commitName abortName cutName
-returns-6 c = rw (c .before .before .before .before .before .before .before .before .before .before .before .before .before .before .number .given .1, sym (c .before .before .before .before .before .before .before .before .before .before .before .is-same .ensures) ∙ c .before .before .before .before .before .before .before .before .before .before .if1 .left, sym (c .before .before .before .before .before .before .before .before .is-same2 .ensures) ∙ c .before .before .before .before .before .before .before .if2 .left, sym (c .before .before .before .before .before .is-same3 .ensures) ∙ c .before .before .before .before .if3 .left, passed (c .before .before .is-same4 .ensures) (c .before .if4 .left), lt-leb _ _ (c .if5 .taken))
+returns-6 c = rw (c .before .before .before .before .before .before .before .before .before .before .before .before .before .before .number .given .1, sym (c .before .before .before .before .before .before .before .before .before .before .before .is-same .ensures) ∙ c .before .before .before .before .before .before .before .before .before .before .if1 .left, sym (c .before .before .before .before .before .before .before .before .is-same2 .ensures) ∙ c .before .before .before .before .before .before .before .if2 .left, sym (c .before .before .before .before .before .is-same3 .ensures) ∙ c .before .before .before .before .if3 .left, passed (c .before .before .is-same4 .ensures) (c .before .if4 .left), lt-leb _ 64 (c .if5 .taken))
 
 returns-7 : tie.Need-returns-7
 unfolding withOne testName commitName abortName cutName
-returns-7 c = rw (c .before .before .before .before .before .before .before .before .before .before .before .before .before .before .number .given .1, sym (c .before .before .before .before .before .before .before .before .before .before .before .is-same .ensures) ∙ c .before .before .before .before .before .before .before .before .before .before .if1 .left, sym (c .before .before .before .before .before .before .before .before .is-same2 .ensures) ∙ c .before .before .before .before .before .before .before .if2 .left, sym (c .before .before .before .before .before .is-same3 .ensures) ∙ c .before .before .before .before .if3 .left, passed (c .before .before .is-same4 .ensures) (c .before .if4 .left), le-leb _ _ (c .if5 .left))
+returns-7 c = rw (c .before .before .before .before .before .before .before .before .before .before .before .before .before .before .number .given .1, sym (c .before .before .before .before .before .before .before .before .before .before .before .is-same .ensures) ∙ c .before .before .before .before .before .before .before .before .before .before .if1 .left, sym (c .before .before .before .before .before .before .before .before .is-same2 .ensures) ∙ c .before .before .before .before .before .before .before .if2 .left, sym (c .before .before .before .before .before .is-same3 .ensures) ∙ c .before .before .before .before .if3 .left, passed (c .before .before .is-same4 .ensures) (c .before .if4 .left), le-leb _ 64 (c .if5 .left))
 
 pub with-one-spec : {M : Type 1} → statement M
 with-one-spec =
