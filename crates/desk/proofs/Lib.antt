@@ -1,2 +1,8 @@
-pub mod Exported
+pub mod Numerals
+pub mod Lines
+pub mod Counted
+pub mod Decimal
+pub mod Putting
+pub mod Text
 pub mod Talk
+pub mod Exported

@@ -25,7 +25,7 @@ use Rattle.calls.specs.Effect.{callLeaves}
 use Rattle.desk.specs.declared.parsing.Command.{Command}
 use Rattle.desk.specs.declared.conversation.Desk.{Desk}
 use Rattle.desk.specs.declared.conversation.Turn.{Turn}
-use Rattle.desk.specs.Conversation.{sheetSize, callOf, replyOf, answered, lost, actedBy, acted, openedBy, openedFor, lending, replied, calledFor, startedFor}
+use Rattle.desk.specs.Conversation.{sheetSize, callOf, replyOf, answered, lost, actedBy, acted, openedBy, openedFor, lending, replied, isOpen, calledFor, startedFor}
 use Rattle.desk.specs.Turns.{leftAfter, answeredTurn, lostTurn}
 
 -- the rest of a line from an index on, as the code cuts it
@@ -128,13 +128,13 @@ module _ (d : Desk) (s fates rows : List ℕ) (t : Turn) where
 
   -- a call
   module _ (c : Command) (line : List ℕ) where
-    pub call-closed : d .on ≡ false → t ≡ record { reply = reply.Reply.Closed; size = 0; desk = d } → leftAfter t s fates rows ≡ calledFor d s fates rows c line
+    pub call-closed : isOpen d ≡ false → t ≡ record { reply = reply.Reply.Closed; size = 0; desk = d } → leftAfter t s fates rows ≡ calledFor d s fates rows c line
     unfolding calledFor
     call-closed e h =
         ap (λ u. leftAfter u s fates rows) h
         ∙ sym (ap (λ b. cond b (lending rows (rowLength * d .files) (acted d s fates (take (rowLength * d .files) rows) c line)) (replied reply.Reply.Closed d s fates rows)) e)
 
-    pub call-made : (n : ℕ) (s′ fates′ rows″ : List ℕ) → d .on ≡ true → n ≡ rowLength * d .files
+    pub call-made : (n : ℕ) (s′ fates′ rows″ : List ℕ) → isOpen d ≡ true → n ≡ rowLength * d .files
         → leftAfter t s′ fates′ rows″ ≡ acted d s fates (take (n - 0) (drop 0 rows)) c line → leftAfter t s′ fates′ (putMid 0 (n - 0) rows rows″) ≡ calledFor d s fates rows c line
     unfolding calledFor
     call-made n s′ fates′ rows″ e q h =

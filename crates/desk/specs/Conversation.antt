@@ -4,12 +4,14 @@ use mathlib.Core.List.{List, _++_}
 use mathlib.Core.Bool.{Bool, true, false, cond, not, _&&_}
 use lib.ListN.{length, take, drop}
 use lib.Dec.{eqb, leb}
+use Rattle.page.specs.Answers.{valueIn}
 use Rattle.page.specs.Layout.{pageSize, mostFiles}
 use Rattle.recovery.specs.declared.State.{State}
 use Rattle.recovery.specs.declared.Answer as answer
 use Rattle.recovery.specs.declared.Answer.{Answer}
 use Rattle.recovery.specs.Numbers.{isRefused}
 use Rattle.recovery.specs.World.{isFile}
+use Rattle.recovery.specs.Sheet.{pageBytes}
 use Rattle.recovery.specs.Lent.{Left, rowLength, closed, openLeaves}
 use Rattle.calls.specs.Calls as call
 use Rattle.calls.specs.Calls.{Call}
@@ -129,10 +131,14 @@ lending rows n x = record { turn = x .turn; sheet = x .sheet; fates = x .fates; 
 abbrev pub replied : Reply → Desk → List ℕ → List ℕ → List ℕ → After
 replied r d s fates rows = record { turn = record { reply = r; size = 0; desk = d }; sheet = s; fates = fates; rows = rows }
 
+-- there is a state, for files whose rows can be lent
+abbrev pub isOpen : Desk → Bool
+isOpen d = d .on && isFile mostFiles (d .files)
+
 -- without a state a call is not made
 unfoldable pub calledFor : Desk → List ℕ → List ℕ → List ℕ → Command → List ℕ → After
 calledFor d s fates rows c line =
-    cond (d .on) (lending rows (rowLength * d .files) (acted d s fates (take (rowLength * d .files) rows) c line)) (replied reply.Reply.Closed d s fates rows)
+    cond (isOpen d) (lending rows (rowLength * d .files) (acted d s fates (take (rowLength * d .files) rows) c line)) (replied reply.Reply.Closed d s fates rows)
 
 -- line 1 of an opening, where there could be no rows to lend
 unfoldable pub startedFor : Desk → List ℕ → List ℕ → List ℕ → ℕ → ℕ → After
@@ -152,3 +158,23 @@ conversed d s fates rows (command.Command.Commit action) line = calledFor d s fa
 conversed d s fates rows (command.Command.Abort action) line = calledFor d s fates rows (command.Command.Abort action) line
 conversed d s fates rows (command.Command.Cut n) line =
     replied (reply.Reply.Cut n) (record { on = d .on; files = d .files; state = d .state; cut = n }) s fates rows
+
+-- ---- the value that a reply shows
+
+abbrev pub shownPlace : Reply → ℕ
+shownPlace reply.Reply.What = 0
+shownPlace reply.Reply.Closed = 0
+shownPlace reply.Reply.Lost = 0
+shownPlace (reply.Reply.Cut n) = 0
+shownPlace (reply.Reply.Opened end undecided) = 0
+shownPlace (reply.Reply.Begun place) = 0
+shownPlace (reply.Reply.Written place) = 0
+shownPlace (reply.Reply.Shown place start) = place
+shownPlace reply.Reply.Nothing = 0
+shownPlace (reply.Reply.Told fate) = 0
+shownPlace (reply.Reply.Committed place) = 0
+shownPlace (reply.Reply.Aborted place) = 0
+shownPlace (reply.Reply.No number place) = 0
+
+unfoldable pub shown : Reply → ℕ → List ℕ → List ℕ
+shown r size s = take size (valueIn (pageBytes s (shownPlace r)))

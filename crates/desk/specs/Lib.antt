@@ -1,3 +1,8 @@
-pub mod Exports
+pub mod Names
+pub mod Commands
+pub mod ParseSteps
+pub mod Replies
+pub mod PrintSteps
 pub mod Conversation
 pub mod Turns
+pub mod Exports

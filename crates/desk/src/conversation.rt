@@ -1,6 +1,8 @@
 // A conversation: commands, one a line, on one sheet.
 use crate::parsing::Command;
+use crate::parsing::parse;
 use crate::printing::Reply;
+use crate::printing::print;
 use page::Page;
 use recovery::Answer;
 use recovery::Done;
@@ -10,11 +12,15 @@ ghost use mathlib.Core.Path.{_≡_};
 ghost use mathlib.Core.List.{_++_};
 ghost use Prim.Native.Nat.{_+_, _*_, _≤_, min};
 ghost use lib.ListN.{length, take, drop};
+ghost use Rattle.page.specs.Answers.{valueIn};
 ghost use Rattle.page.specs.Layout.{pageSize, mostFiles};
 ghost use Rattle.recovery.specs.Numbers.{isRefused};
+ghost use Rattle.recovery.specs.Sheet.{pageBytes};
 ghost use Rattle.recovery.specs.Lent.{leftBy, closed, rowLength};
 ghost use Rattle.calls.specs.Effect.{callLeaves};
-ghost use Rattle.desk.specs.Conversation.{sheetSize, callOf, storedBy, replyOf, sizeOf, acted, openedFor, startedFor, calledFor};
+ghost use Rattle.desk.specs.Conversation.{sheetSize, callOf, storedBy, replyOf, sizeOf, acted, openedFor, startedFor, isOpen, calledFor, conversed, shownPlace, shown};
+ghost use Rattle.desk.specs.Commands.{parsed};
+ghost use Rattle.desk.specs.Replies.{prints};
 ghost use Rattle.desk.specs.Turns.{leftAfter, answeredTurn, lostTurn};
 
 // What the desk keeps from line to line, beside sheet, fates and rows: whether it has a state, for how many files, and after how many
@@ -345,6 +351,13 @@ fn start(
     open_desk(sheet, fates, &mut rows[0..n], desk, files, floor)
 }
 
+// There is a state, for files whose rows can be lent.
+fn is_open(desk: Desk) -> bool
+    ensures { λ r. ⌜ r ≡ isOpen desk ⌝ }
+{
+    desk.on & recovery::is_file(Page::MOST_FILES, desk.files)
+}
+
 // A call, if there is a state.
 fn call_now(
     sheet: &mut [u8],
@@ -354,12 +367,97 @@ fn call_now(
     command: Command,
     line: &[u8],
 ) -> Turn
-    requires { ⌜ (length (now sheet) ≡ sheetSize) × (length (now rows) ≡ rowLength * mostFiles) × (desk .files ≤ mostFiles) ⌝ }
+    requires { ⌜ (length (now sheet) ≡ sheetSize) × (length (now rows) ≡ rowLength * mostFiles) ⌝ }
     ensures { λ r. ⌜ leftAfter r (now (sheet .exit)) (now (fates .exit)) (now (rows .exit)) ≡ calledFor desk (now (sheet .entry)) (now (fates .entry)) (now (rows .entry)) command (now (line .entry)) ⌝ }
 {
-    if !desk.on {
+    if !is_open(desk) {
         return only(Reply::Closed, desk);
     }
     let n = row_numbers(desk.files);
     act(sheet, fates, &mut rows[0..n], desk, command, line)
+}
+
+fn with_cut(desk: Desk, cut: u64) -> Desk
+    ensures { λ r. ⌜ r ≡ record { on = desk .on; files = desk .files; state = desk .state; cut = cut } ⌝ }
+{
+    let state = desk.state;
+    Desk {
+        on: desk.on,
+        files: desk.files,
+        state,
+        cut,
+    }
+}
+
+// A line of input.
+pub(crate) fn converse(
+    sheet: &mut [u8],
+    fates: &mut [u8],
+    rows: &mut [u64],
+    desk: Desk,
+    line: &[u8],
+) -> Turn
+    requires { ⌜ (length (now sheet) ≡ sheetSize) × (length (now rows) ≡ rowLength * mostFiles) ⌝ }
+    ensures { λ r. ⌜ leftAfter r (now (sheet .exit)) (now (fates .exit)) (now (rows .exit)) ≡ conversed desk (now (sheet .entry)) (now (fates .entry)) (now (rows .entry)) (parsed (now (line .entry))) (now (line .entry)) ⌝ }
+{
+    let command = parse(line);
+    match command {
+        Command::What => only(Reply::What, desk),
+        Command::Cut(n) => only(Reply::Cut(n), with_cut(desk, n)),
+        Command::Open(files, floor) => start(&sheet[..], fates, rows, desk, files, floor),
+        Command::Begin => call_now(sheet, fates, rows, desk, command, line),
+        Command::Write(_, _, _, _) => call_now(sheet, fates, rows, desk, command, line),
+        Command::Read(_, _, _) => call_now(sheet, fates, rows, desk, command, line),
+        Command::Test(_) => call_now(sheet, fates, rows, desk, command, line),
+        Command::Commit(_) => call_now(sheet, fates, rows, desk, command, line),
+        Command::Abort(_) => call_now(sheet, fates, rows, desk, command, line),
+    }
+}
+
+// The place that a reply shows a value of, 0 for another reply.
+fn shown_place(reply: Reply) -> u64
+    ensures { λ r. ⌜ r ≡ shownPlace reply ⌝ }
+{
+    match reply {
+        Reply::Shown(place, _) => place,
+        Reply::What => 0,
+        Reply::Closed => 0,
+        Reply::Lost => 0,
+        Reply::Cut(_) => 0,
+        Reply::Opened(_, _) => 0,
+        Reply::Begun(_) => 0,
+        Reply::Written(_) => 0,
+        Reply::Nothing => 0,
+        Reply::Told(_) => 0,
+        Reply::Committed(_) => 0,
+        Reply::Aborted(_) => 0,
+        Reply::No(_, _) => 0,
+    }
+}
+
+// The value's 32 bytes of the page at a place, zeros where the sheet has no such place.
+fn value_at(sheet: &[u8], place: u64) -> [u8; 32]
+    ensures { λ r. ⌜ r ≡ valueIn (pageBytes (now (sheet .entry)) place) ⌝ }
+{
+    if place < 1 {
+        return [0u8; 32];
+    }
+    if ((sheet.len() / Page::SIZE) as u64) < place {
+        return [0u8; 32];
+    }
+    let a = Page::SIZE * (place as usize - 1);
+    let e = a + Page::SIZE;
+    Page::value(&sheet[a..e])
+}
+
+// The bytes of a reply, and how many they are.
+pub(crate) fn tell(sheet: &[u8], reply: Reply, size: u64, out: &mut [u8]) -> usize
+    ensures { λ r. ⌜ (r, now (out .exit)) ≡ prints reply (shown reply size (now (sheet .entry))) (now (out .entry)) ⌝ }
+{
+    let value = value_at(sheet, shown_place(reply));
+    if 32 <= size {
+        return print(reply, &value, out);
+    }
+    let n = size as usize;
+    print(reply, &value[0..n], out)
 }

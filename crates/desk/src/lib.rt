@@ -1,8 +1,11 @@
-// The desk: what people and programs touch.
+// The desk: the command program's lines, its conversation with the store, and three functions for C.
 mod conversation;
 mod exports;
 mod parsing;
 mod printing;
 
 pub use parsing::Command;
+pub use parsing::MOST;
+pub use parsing::parse;
 pub use printing::Reply;
+pub use printing::print;
