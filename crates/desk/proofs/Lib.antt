@@ -4,3 +4,4 @@ pub mod Counted
 pub mod Decimal
 pub mod Putting
 pub mod Text
+pub mod Samples
