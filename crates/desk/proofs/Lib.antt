@@ -5,3 +5,4 @@ pub mod Decimal
 pub mod Putting
 pub mod Text
 pub mod Samples
+pub mod ReadBack
