@@ -6,3 +6,5 @@ pub mod Putting
 pub mod Text
 pub mod Talk
 pub mod Exported
+pub mod Samples
+pub mod ReadBack

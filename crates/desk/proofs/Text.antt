@@ -6,7 +6,6 @@ use mathlib.Core.List.{List, [], _∷_}
 use native.Mathlib.Omega.{arith}
 use lib.Dec.{eqb, ltb, leb}
 use lib.ListN.{length, drop, getD}
-use lib.Seq.{drop-nil}
 use Rattle.encoding.specs.Bytes.{same}
 use Rattle.encoding.proofs.Logic.{and-true, by-test}
 use Rattle.desk.specs.declared.parsing.Command.{Command}
@@ -54,6 +53,7 @@ last-word (b ∷ s) (suc k) e = go (eqb b 32) (last-word s k) (last-word s (suc 
   where
     deeper : (w : List ℕ) → length w ≤ length s → drop (length s - length w) s ≡ w → drop (suc (length s) - length w) (b ∷ s) ≡ w
     deeper w h f = let n : suc (length s) - length w ≡ suc (length s - length w) = omega arith in rw n f
+
     go : (t : Bool)
         → (length (words s) ≡ suc k → drop (length s - length (getD (words s) k [])) s ≡ getD (words s) k [])
         → (length (words s) ≡ suc (suc k) → drop (length s - length (getD (words s) (suc k) [])) s ≡ getD (words s) (suc k) [])

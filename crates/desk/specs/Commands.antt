@@ -18,12 +18,12 @@ abbrev pub longer : ℕ → List (List ℕ) → List (List ℕ)
 longer b [] = []
 longer b (w ∷ ws) = (b ∷ w) ∷ ws
 
--- the words of a line: what lies between its spaces, before the first and after the last
+-- the words of a line: what its spaces part. A space at either end, or a second one, parts off an empty word, which no command has
 unfoldable pub words : List ℕ → List (List ℕ)
 words [] = [] ∷ []
 words (b ∷ s) = cond (eqb b 32) ([] ∷ words s) (longer b (words s))
 
--- every byte is a digit
+-- every byte is a digit, 0x30 to 0x39
 abbrev pub digits : List ℕ → Bool
 digits [] = true
 digits (b ∷ s) = leb 48 b && leb b 57 && digits s
@@ -44,11 +44,12 @@ three (Is a) (Is b) Not = Unread
 three (Is a) Not c = Unread
 three Not b c = Unread
 
--- the bytes of a text lie between 0x21 and 0x7E
+-- every byte lies from 0x21 to 0x7E
 abbrev pub printable : List ℕ → Bool
 printable [] = true
 printable (b ∷ s) = leb 33 b && leb b 126 && printable s
 
+-- a text: one or more such bytes
 unfoldable pub isText : List ℕ → Bool
 isText w = ltb 0 (length w) && printable w
 
@@ -83,6 +84,7 @@ unfoldable pub withText : ℕ → List ℕ → Numbers → List ℕ → Command
 withText size w (Are a b c) t = cond (same w writeName && isText t) (Write a b c (size - length t)) What
 withText size w Unread t = What
 
+-- the command that these words are, in a line of this size
 unfoldable pub commandOf : ℕ → List (List ℕ) → Command
 commandOf size [] = What
 commandOf size (w ∷ []) = alone w

@@ -8,13 +8,14 @@ use Rattle.desk.specs.declared.printing.Reply.{Reply}
 use Rattle.desk.specs.declared.printing.Reply.the-variants.{What, Closed, Lost, Cut, Opened, Begun, Written, Shown, Nothing, Told, Committed, Aborted, No}
 use Rattle.desk.specs.Names.{openName, beginName, writeName, readName, testName, commitName, abortName, cutName, whatName, closedName, lostName, noneName, noName}
 
--- the decimal digits of x without leading zeros, where x has at most n + 1 of them
+-- the decimal digits of a number without leading zeros, where it has at most n + 1 of them
 abbrev pub digitsOf : ℕ → ℕ → List ℕ
 digitsOf zero x = (48 + x) ∷ []
 digitsOf (suc n) x = cond (ltb x 10) ((48 + x) ∷ []) (digitsOf n (x / 10) ++ ((48 + x % 10) ∷ []))
 
+-- the decimal digits of a number of 64 bits, which has at most 20
 unfoldable pub decimal : ℕ → List ℕ
-decimal x = digitsOf x x
+decimal x = digitsOf 19 x
 
 -- a space and a number
 unfoldable pub spaced : ℕ → List ℕ

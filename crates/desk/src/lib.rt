@@ -5,7 +5,7 @@ mod parsing;
 mod printing;
 
 pub use parsing::Command;
-pub use parsing::MOST;
+pub use parsing::LONGEST;
 pub use parsing::parse;
 pub use printing::Reply;
 pub use printing::print;

@@ -8,7 +8,8 @@ ghost use Rattle.encoding.specs.Bytes.{same};
 ghost use Rattle.desk.specs.Commands.{words, numberOf, three, isText, alone, withOne, withTwo, withThree, withText, parsed};
 ghost use Rattle.desk.specs.ParseSteps.{spaceAt, numberAt, numbersIn, addDigit};
 
-// What a line asks for. Write ends with the index in the line at which the text begins; the text runs to the line's end.
+// What a line asks for: open with the file count and the floor, write with file, start, action and the index at which the text
+// begins, read with file, time and action, test, commit and abort with an action, cut with a number of bytes.
 pub enum Command {
     What,
     Open(u64, u64),
@@ -41,7 +42,7 @@ fn space_from(line: &[u8], from: usize) -> usize
 {
     let mut i = from;
     while i < line.len() {
-        if line[i] == 32 {
+        if line[i] == b' ' {
             return i;
         }
         i += 1;
@@ -70,17 +71,17 @@ fn is_same(s: &[u8], t: &[u8]) -> bool
 fn add_digit(n: u64, b: u64) -> Number
     ensures { λ r. ⌜ r ≡ addDigit n b ⌝ }
 {
-    if b < 48 {
+    if b < 0x30 {
         return Number::Not;
     }
-    if 57 < b {
+    if 0x39 < b {
         return Number::Not;
     }
-    if 1844674407370955161 < n {
+    if u64::MAX / 10 < n {
         return Number::Not;
     }
-    let d = b - 48;
-    if 18446744073709551615 - d < 10 * n {
+    let d = b - 0x30;
+    if u64::MAX - d < 10 * n {
         return Number::Not;
     }
     Number::Is(10 * n + d)
@@ -105,13 +106,14 @@ fn number_of(w: &[u8]) -> Number
     Number::Is(n)
 }
 
+// How many words there are: one more than the spaces.
 fn count_words(line: &[u8]) -> usize
     ensures { λ r. ⌜ r ≡ length (words (now (line .entry))) ⌝ }
 {
     let mut n: usize = 0;
     let mut i = 0;
     while i < line.len() {
-        if line[i] == 32 {
+        if line[i] == b' ' {
             n += 1;
         }
         i += 1;
@@ -156,6 +158,7 @@ fn word(line: &[u8], k: usize) -> &[u8]
     &line[from..to]
 }
 
+// A text: one or more bytes from 0x21 to 0x7E.
 fn is_text(w: &[u8]) -> bool
     ensures { λ r. ⌜ r ≡ isText (now (w .entry)) ⌝ }
 {
@@ -165,10 +168,10 @@ fn is_text(w: &[u8]) -> bool
     let mut i = 0;
     while i < w.len() {
         let b = byte_at(w, i);
-        if b < 33 {
+        if b < 0x21 {
             return false;
         }
-        if 126 < b {
+        if 0x7E < b {
             return false;
         }
         i += 1;
@@ -176,6 +179,7 @@ fn is_text(w: &[u8]) -> bool
     true
 }
 
+// A line of one word.
 fn alone(w: &[u8]) -> Command
     ensures { λ r. ⌜ r ≡ alone (now (w .entry)) ⌝ }
 {
@@ -188,6 +192,7 @@ fn alone(w: &[u8]) -> Command
     Command::What
 }
 
+// A word and a number.
 fn with_one(w: &[u8], number: Number) -> Command
     ensures { λ r. ⌜ r ≡ withOne (now (w .entry)) number ⌝ }
 {
@@ -212,6 +217,7 @@ fn with_one(w: &[u8], number: Number) -> Command
     Command::Cut(n)
 }
 
+// A word and two numbers.
 fn with_two(w: &[u8], first: Number, second: Number) -> Command
     ensures { λ r. ⌜ r ≡ withTwo (now (w .entry)) first second ⌝ }
 {
@@ -227,6 +233,7 @@ fn with_two(w: &[u8], first: Number, second: Number) -> Command
     Command::What
 }
 
+// Three numbers, if all are.
 fn three(first: Number, second: Number, third: Number) -> Numbers
     ensures { λ r. ⌜ r ≡ three first second third ⌝ }
 {
@@ -242,6 +249,7 @@ fn three(first: Number, second: Number, third: Number) -> Numbers
     Numbers::Are(a, b, c)
 }
 
+// A word and three numbers.
 fn with_three(w: &[u8], numbers: Numbers) -> Command
     ensures { λ r. ⌜ r ≡ withThree (now (w .entry)) numbers ⌝ }
 {
@@ -254,6 +262,7 @@ fn with_three(w: &[u8], numbers: Numbers) -> Command
     Command::What
 }
 
+// A word, three numbers and a text, in a line of this size.
 fn with_text(size: usize, w: &[u8], numbers: Numbers, text: &[u8]) -> Command
     requires { ⌜ length (now text) ≤ size ⌝ }
     ensures { λ r. ⌜ r ≡ withText size (now (w .entry)) numbers (now (text .entry)) ⌝ }
@@ -285,14 +294,14 @@ fn numbers_in(line: &[u8]) -> Numbers
 }
 
 // The longest line that is taken.
-pub const MOST: usize = 255;
+pub const LONGEST: usize = 255;
 
 // The command that a line, without its newline, is.
 pub fn parse(line: &[u8]) -> Command
     ensures { λ r. ⌜ r ≡ parsed (now (line .entry)) ⌝ }
 {
     let size = line.len();
-    if MOST < size {
+    if LONGEST < size {
         return Command::What;
     }
     let n = count_words(line);

@@ -8,7 +8,8 @@ ghost use Rattle.desk.specs.Replies.{decimal, spaced, newline, printed, 
 ghost use Rattle.desk.specs.Names.{readName};
 ghost use Rattle.desk.specs.PrintSteps.{Put};
 
-// What the program answers to a line. The value that a read shows is lent beside it.
+// What the program answers to a line: the bytes of a cut; the end and the open count; the place that was stored; place and start
+// of what a read shows, whose value is lent beside it; a fate; a refusal's number and place.
 pub enum Reply {
     What,
     Closed,
@@ -62,6 +63,7 @@ fn put_decimal(out: &mut [u8], at: usize, x: u64) -> usize
     put_digit(out, next, x % 10)
 }
 
+// A space and a number.
 fn put_spaced(out: &mut [u8], at: usize, x: u64) -> usize
     requires { ⌜ at + 21 ≤ length (now out) ⌝ }
     ensures { λ r. ⌜ Put at (spaced x) (now (out .entry)) (now (out .exit)) r ⌝ }
@@ -112,6 +114,7 @@ fn put_shown(out: &mut [u8], place: u64, start: u64, value: &[u8]) -> usize
     put_byte(out, e, b'\n')
 }
 
+// The line of a reply, where there is room for it.
 fn put_reply(reply: Reply, value: &[u8], out: &mut [u8]) -> usize
     requires { ⌜ (128 ≤ length (now out)) × (length (now value) ≤ 32) ⌝ }
     ensures { λ r. ⌜ Put 0 (printed reply (now (value .entry))) (now (out .entry)) (now (out .exit)) r ⌝ }

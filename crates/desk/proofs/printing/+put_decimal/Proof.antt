@@ -54,7 +54,7 @@ put-decimal-put-decimal-requires : (t : ℕ) → put-decimal-lts.Need-put-decima
   put-decimal-below t,
   put-decimal.Post,
 ) (put-decimal-at t) put-decimal.Post
-put-decimal-put-decimal-requires t c κs = let s = c .before .before .before in (omega (arith, s .pre .0, c .before .if1 .left), omega (arith, s .pre .1, length-more (s .args .x) (c .before .if1 .left)))
+put-decimal-put-decimal-requires t c κs = let s = c .before .before .before in (omega (arith, s .pre .0, c .before .if1 .left), omega (arith, s .pre .1, length-more (s .args .x) (s .fits .x .fits) (c .before .if1 .left)))
 
 put-decimal-put-digit-requires-2 : (t : ℕ) → put-decimal-lts.Need-put-digit-requires-2 (
   put-digit.Asked,
@@ -62,7 +62,7 @@ put-decimal-put-digit-requires-2 : (t : ℕ) → put-decimal-lts.Need-put-digit-
   put-decimal-below t,
   put-decimal.Post,
 ) (put-decimal-at t) put-decimal.Post
-put-decimal-put-digit-requires-2 t c κs = let s = c .before .before .before .before .before .before .before in (omega (arith, s .pre .1, c .before .before .before .put-decimal .ensures .ends, c .before .before .before .put-decimal .kept .0, length-more (s .args .x) (c .before .before .before .before .before .if1 .left)), omega arith)
+put-decimal-put-digit-requires-2 t c κs = let s = c .before .before .before .before .before .before .before in (omega (arith, s .pre .1, c .before .before .before .put-decimal .ensures .ends, c .before .before .before .put-decimal .kept .0, length-more (s .args .x) (s .fits .x .fits) (c .before .before .before .before .before .if1 .left)), omega arith)
 
 put-decimal-same-length-2 : (t : ℕ) → put-decimal-lts.Need-same-length-2 (
   put-digit.Asked,
@@ -78,7 +78,7 @@ put-decimal-returns-2 : (t : ℕ) → put-decimal-lts.Need-returns-2 (
   put-decimal-below t,
   put-decimal.Post,
 ) (put-decimal-at t) put-decimal.Post
-put-decimal-returns-2 t c = rw (last-digit (c .before .before .before .before .before .before .before .before .before .before .args .x) (c .before .before .before .before .before .before .before .before .if1 .left)) (and-then (c .before .before .before .before .before .before .put-decimal .ensures) (c .before .before .put-digit2 .ensures))
+put-decimal-returns-2 t c = rw (last-digit (c .before .before .before .before .before .before .before .before .before .before .args .x) (c .before .before .before .before .before .before .before .before .before .before .fits .x .fits) (c .before .before .before .before .before .before .before .before .if1 .left)) (and-then (c .before .before .before .before .before .before .put-decimal .ensures) (c .before .before .put-digit2 .ensures))
 
 pub +put-decimal-spec : {M : Type 1} → statement M
 +put-decimal-spec = close μ-put-decimal λ t. put-decimal-lts.spec (
