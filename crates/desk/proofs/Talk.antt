@@ -4,15 +4,21 @@ use mathlib.Core.Path.{_≡_, refl, sym, ap, _∙_}
 use mathlib.Core.List.{List, [], _∷_, _++_}
 use mathlib.Core.Bool.{Bool, true, false, cond, not, _&&_}
 use native.Mathlib.Omega.{arith}
-use lib.ListN.{length, take, drop, length-drop, drop-of-length-le}
+use lib.ListN.{length, take, drop, replicate, length-take, length-drop, length-replicate, drop-of-length-le}
 use lib.Seq.{take-all}
 use lib.Dec.{eqb, leb}
-use borrow.Author.Tests.{eq-eqb, ne-eqb, leb-true, leb-false, le-leb, lt-leb}
+use borrow.Author.Tests.{eqb-true, eq-eqb, ne-eqb, leb-true, leb-false, le-leb, lt-leb}
 use borrow.Rule.Slice.PartMut.{putMid, same-len-mid, post-is}
 use Rattle.encoding.specs.Bytes.{part}
-use Rattle.encoding.proofs.Logic.{and-both, and-false}
+use Rattle.encoding.proofs.Logic.{and-true, and-both, and-false}
 use Rattle.encoding.proofs.Parts.{length-part, put-part}
-use Rattle.page.specs.Layout.{pageSize, mostFiles}
+use Rattle.page.specs.Layout.{pageSize, valueSize, mostFiles}
+use Rattle.page.specs.Answers.{valueIn}
+use Rattle.recovery.specs.Sheet.{pageBytes}
+use Rattle.recovery.proofs.Pages.{part-is}
+use Rattle.recovery.proofs.Lookups.{is-file}
+use Rattle.desk.specs.Commands.{parsed}
+use Rattle.desk.specs.Replies.{prints}
 use Rattle.recovery.specs.declared.Done.{Done}
 use Rattle.recovery.specs.Lent.{Left, leftBy, rowLength, closed, openLeaves}
 use Rattle.recovery.specs.World.{isFile}
@@ -25,7 +31,7 @@ use Rattle.calls.specs.Effect.{callLeaves}
 use Rattle.desk.specs.declared.parsing.Command.{Command}
 use Rattle.desk.specs.declared.conversation.Desk.{Desk}
 use Rattle.desk.specs.declared.conversation.Turn.{Turn}
-use Rattle.desk.specs.Conversation.{sheetSize, callOf, replyOf, answered, lost, actedBy, acted, openedBy, openedFor, lending, replied, isOpen, calledFor, startedFor}
+use Rattle.desk.specs.Conversation.{sheetSize, callOf, replyOf, answered, lost, actedBy, acted, openedBy, openedFor, lending, replied, isOpen, calledFor, startedFor, conversed, After, shownPlace, shown}
 use Rattle.desk.specs.Turns.{leftAfter, answeredTurn, lostTurn}
 
 -- the rest of a line from an index on, as the code cuts it
@@ -141,3 +147,60 @@ module _ (d : Desk) (s fates rows : List ℕ) (t : Turn) where
         let k : leftAfter t s′ fates′ rows″ ≡ acted d s fates (take n rows) c line = h ∙ ap (λ x. acted d s fates x c line) (front-part rows n) in
         ap (leftAfter t s′ fates′) (lent-front rows rows″ n) ∙ ap (lending rows n) k ∙ ap (λ m. lending rows m (acted d s fates (take m rows) c line)) q
         ∙ sym (ap (λ b. cond b (lending rows (rowLength * d .files) (acted d s fates (take (rowLength * d .files) rows) c line)) (replied reply.Reply.Closed d s fates rows)) e)
+
+-- ---- a line
+
+module _ (d : Desk) (s fates rows line : List ℕ) (c : Command) (t : Turn) (p : c ≡ parsed line) where
+  pub line-only : (v : Command) (r : Reply) (d′ : Desk) → c ≡ v → t ≡ record { reply = r; size = 0; desk = d′ } → replied r d′ s fates rows ≡ conversed d s fates rows v line
+      → leftAfter t s fates rows ≡ conversed d s fates rows (parsed line) line
+  line-only v r d′ e h q = ap (λ u. leftAfter u s fates rows) h ∙ q ∙ ap (λ x. conversed d s fates rows x line) (sym e ∙ p)
+
+  -- a line whose command leaves what the conversation says of it
+  pub line-by : (v : Command) (s′ fates′ rows′ : List ℕ) (x : After) → c ≡ v → leftAfter t s′ fates′ rows′ ≡ x → x ≡ conversed d s fates rows v line
+      → leftAfter t s′ fates′ rows′ ≡ conversed d s fates rows (parsed line) line
+  line-by v s′ fates′ rows′ x e h q = h ∙ q ∙ ap (λ y. conversed d s fates rows y line) (sym e ∙ p)
+
+pub cut-said : (d d′ : Desk) (n : ℕ) (s fates rows line : List ℕ) → d′ ≡ record { on = d .on; files = d .files; state = d .state; cut = n }
+    → replied (reply.Reply.Cut n) d′ s fates rows ≡ conversed d s fates rows (command.Command.Cut n) line
+cut-said d d′ n s fates rows line e = ap (λ x. replied (reply.Reply.Cut n) x s fates rows) e
+
+-- a command that is a call
+pub call-said : (d : Desk) (s fates rows line : List ℕ) (c v : Command) → c ≡ v → calledFor d s fates rows v line ≡ conversed d s fates rows v line
+    → calledFor d s fates rows c line ≡ conversed d s fates rows v line
+call-said d s fates rows line c v e h = ap (λ x. calledFor d s fates rows x line) e ∙ h
+
+pub open-files : (d : Desk) → isOpen d ≡ true → d .files ≤ mostFiles
+open-files d e = is-file mostFiles (d .files) (and-true (d .on) (isFile mostFiles (d .files)) e .1) .1
+
+-- ---- the value that is shown
+
+pub value-out : (s : List ℕ) (place : ℕ) → (1 ≤ place → pageSize * place ≤ length s → ⊥) → replicate valueSize 0 ≡ valueIn (pageBytes s place)
+unfolding valueIn
+value-out s zero h = refl
+value-out s (suc q) h =
+    let short : length (pageBytes s (suc q)) ≡ pageSize → ⊥ = λ e. h (omega arith) (omega (arith, e, length-take pageSize (drop (pageSize * q) s), length-drop (pageSize * q) s)) in
+    rw (ne-eqb (length (pageBytes s (suc q))) pageSize short)
+
+pub value-in : (s : List ℕ) (a e place : ℕ) → 1 ≤ place → a ≡ pageSize * (place - 1) → e ≡ a + pageSize → valueIn (take (e - a) (drop a s)) ≡ valueIn (pageBytes s place)
+value-in s a e place h k l = ap valueIn (part-is s a e place h k l)
+
+value-long : (s : List ℕ) → length (valueIn s) ≡ valueSize
+unfolding valueIn
+value-long s = go (eqb (length s) pageSize) refl
+  where
+    go : (b : Bool) → eqb (length s) pageSize ≡ b → length (cond b (part 24 56 s) (replicate valueSize 0)) ≡ valueSize
+    go true e = length-part 24 56 s (omega (arith, eqb-true (length s) pageSize e))
+    go false e = length-replicate {A = ℕ} valueSize 0
+
+module _ (s : List ℕ) (r : Reply) (size place : ℕ) (value out out′ : List ℕ) (n : ℕ) (p : place ≡ shownPlace r) (v : value ≡ valueIn (pageBytes s place)) where
+  pub told-all : valueSize ≤ size → _≡_ {A = ℕ × List ℕ} (n, out′) (prints r value out) → _≡_ {A = ℕ × List ℕ} (n, out′) (prints r (shown r size s) out)
+  unfolding shown
+  told-all h q =
+      let w : value ≡ valueIn (pageBytes s (shownPlace r)) = v ∙ ap (λ x. valueIn (pageBytes s x)) p in
+      q ∙ ap (λ x. prints r x out) (w ∙ sym (take-all size (valueIn (pageBytes s (shownPlace r))) (omega (arith, value-long (pageBytes s (shownPlace r))))))
+
+  pub told-some : (k : ℕ) → k ≡ size → _≡_ {A = ℕ × List ℕ} (n, out′) (prints r (take (k - 0) (drop 0 value)) out) → _≡_ {A = ℕ × List ℕ} (n, out′) (prints r (shown r size s) out)
+  unfolding shown
+  told-some k e q =
+      let w : value ≡ valueIn (pageBytes s (shownPlace r)) = v ∙ ap (λ x. valueIn (pageBytes s x)) p in
+      q ∙ ap (λ x. prints r x out) (front-part value k ∙ ap (λ j. take j value) e ∙ ap (take size) w)

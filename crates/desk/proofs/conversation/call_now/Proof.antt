@@ -1,3 +1,7 @@
+use Rattle.desk.proofs.Talk.{open-files, call-closed, call-made}
+use Rattle.encoding.proofs.Logic.{refused, passed}
+use native.Mathlib.Omega.{arith}
+use denote.Ref.{now}
 use borrow.Author.Needs.{needs}
 use Rattle.desk.proofs.conversation.call_now.Statement.{statement}
 use Rattle.desk.proofs.conversation.call_now.Tie as tie
@@ -18,11 +22,13 @@ only-requires c κs = search needs
 
 -- src/conversation.rt:374:9
 returns : tie.Need-returns
-returns c = ?
+returns c =
+    let a = c .before .before .before .before .before .before .before .args in
+    call-closed (a .desk) (now (a .sheet)) (now (a .fates)) (now (a .rows)) _ (a .command) (now (a .line)) (refused (c .before .before .is-open .ensures) (c .before .if1 .taken)) (c .only .ensures)
 
 -- src/conversation.rt:376:9
 row-numbers-requires : tie.Need-row-numbers-requires
-row-numbers-requires c κs = ?
+row-numbers-requires c κs = open-files (c .before .before .before .before .before .before .args .desk) (passed (c .before .is-open .ensures) (c .if1 .left))
 
 -- src/conversation.rt:377:23
 sub-act : tie.Need-sub-act
@@ -34,7 +40,7 @@ part-act-start c = search needs
 
 -- src/conversation.rt:377:23
 part-act-end : tie.Need-part-act-end
-part-act-end c = ?
+part-act-end c = omega (arith, c .before .before .row-numbers .ensures, open-files (c .before .before .before .before .before .before .before .before .before .args .desk) (passed (c .before .before .before .before .is-open .ensures) (c .before .before .before .if1 .left)), c .before .before .before .before .before .before .before .before .before .pre)
 
 -- src/conversation.rt:377:5
 act-requires : tie.Need-act-requires
@@ -54,7 +60,9 @@ same-length-3 c = search needs
 
 -- src/conversation.rt:362:1
 returns-2 : tie.Need-returns-2
-returns-2 c = ?
+returns-2 c =
+    let a = c .before .before .before .before .before .before .before .before .before .before .before .before .before .before .before .before .before .args in
+    call-made (a .desk) (now (a .sheet)) (now (a .fates)) (now (a .rows)) _ (a .command) (now (a .line)) _ _ _ _ (passed (c .before .before .before .before .before .before .before .before .before .before .before .before .is-open .ensures) (c .before .before .before .before .before .before .before .before .before .before .before .if1 .left)) (c .before .before .before .before .before .before .before .before .before .before .row-numbers .ensures) (c .before .before .before .before .before .before .act .ensures)
 
 pub call-now-spec : {M : Type 1} → statement M
 call-now-spec =

@@ -1,3 +1,8 @@
+use Rattle.desk.proofs.Talk.{line-only, line-by, cut-said, call-said}
+use denote.Ref.{now}
+use mathlib.Core.Path.{refl}
+use Rattle.desk.specs.declared.parsing.Command.the-variants.{What, Open, Begin, Write, Read, Test, Commit, Abort, Cut}
+use Rattle.desk.specs.declared.printing.Reply.{Reply}
 use borrow.Author.Needs.{needs}
 use Rattle.desk.proofs.conversation.converse.Statement.{statement}
 use Rattle.desk.proofs.conversation.converse.Tie as tie
@@ -91,11 +96,15 @@ call-now-requires-6 c κs = search needs
 
 -- src/conversation.rt:393:1
 returns : tie.Need-returns
-returns c = ?
+returns c =
+    let a = c .before .before .before .before .before .before .before .before .args in
+    line-only (a .desk) (now (a .sheet)) (now (a .fates)) (now (a .rows)) (now (a .line)) _ _ (c .before .before .before .parse .ensures) What Reply.What (a .desk) (c .before .enum-told .given .1) (c .only .ensures) refl
 
 -- src/conversation.rt:393:1
 returns-2 : tie.Need-returns-2
-returns-2 c = ?
+returns-2 c =
+    let a = c .before .before .before .before .before .before .before .before .before .before .args in
+    line-only (a .desk) (now (a .sheet)) (now (a .fates)) (now (a .rows)) (now (a .line)) _ _ (c .before .before .before .before .before .parse .ensures) (Cut _) (Reply.Cut _) _ (c .before .before .before .command .given .1) (c .only2 .ensures) (cut-said (a .desk) _ _ (now (a .sheet)) (now (a .fates)) (now (a .rows)) (now (a .line)) (c .before .with-cut .ensures))
 
 -- src/conversation.rt:393:1
 same-length : tie.Need-same-length
@@ -111,7 +120,9 @@ same-length-3 c = search needs
 
 -- src/conversation.rt:393:1
 returns-3 : tie.Need-returns-3
-returns-3 c = ?
+returns-3 c =
+    let a = c .before .before .before .before .before .before .before .before .before .before .before .before .before .before .before .before .args in
+    line-by (a .desk) (now (a .sheet)) (now (a .fates)) (now (a .rows)) (now (a .line)) _ _ (c .before .before .before .before .before .before .before .before .before .before .before .parse .ensures) (Open _ _) _ _ _ _ (c .before .before .before .before .before .before .before .before .before .command2 .given .1) (c .before .before .before .before .start .ensures) refl
 
 -- src/conversation.rt:393:1
 same-length-4 : tie.Need-same-length-4
@@ -127,7 +138,9 @@ same-length-6 c = search needs
 
 -- src/conversation.rt:393:1
 returns-4 : tie.Need-returns-4
-returns-4 c = ?
+returns-4 c =
+    let a = c .before .before .before .before .before .before .before .before .before .before .before .before .before .before .before .before .before .args in
+    line-by (a .desk) (now (a .sheet)) (now (a .fates)) (now (a .rows)) (now (a .line)) _ _ (c .before .before .before .before .before .before .before .before .before .before .before .before .parse .ensures) Begin _ _ _ _ (c .before .before .before .before .before .before .before .before .before .before .enum-told2 .given .1) (c .before .before .before .before .before .before .call-now .ensures) (call-said (a .desk) (now (a .sheet)) (now (a .fates)) (now (a .rows)) (now (a .line)) _ Begin (c .before .before .before .before .before .before .before .before .before .before .enum-told2 .given .1) refl)
 
 -- src/conversation.rt:393:1
 same-length-7 : tie.Need-same-length-7
@@ -143,7 +156,9 @@ same-length-9 c = search needs
 
 -- src/conversation.rt:393:1
 returns-5 : tie.Need-returns-5
-returns-5 c = ?
+returns-5 c =
+    let a = c .before .before .before .before .before .before .before .before .before .before .before .before .before .before .before .before .before .args in
+    line-by (a .desk) (now (a .sheet)) (now (a .fates)) (now (a .rows)) (now (a .line)) _ _ (c .before .before .before .before .before .before .before .before .before .before .before .before .parse .ensures) (Write _ _ _ _) _ _ _ _ (c .before .before .before .before .before .before .before .before .before .before .enum-told3 .given .1) (c .before .before .before .before .before .before .call-now2 .ensures) (call-said (a .desk) (now (a .sheet)) (now (a .fates)) (now (a .rows)) (now (a .line)) _ (Write _ _ _ _) (c .before .before .before .before .before .before .before .before .before .before .enum-told3 .given .1) refl)
 
 -- src/conversation.rt:393:1
 same-length-10 : tie.Need-same-length-10
@@ -159,7 +174,9 @@ same-length-12 c = search needs
 
 -- src/conversation.rt:393:1
 returns-6 : tie.Need-returns-6
-returns-6 c = ?
+returns-6 c =
+    let a = c .before .before .before .before .before .before .before .before .before .before .before .before .before .before .before .before .before .args in
+    line-by (a .desk) (now (a .sheet)) (now (a .fates)) (now (a .rows)) (now (a .line)) _ _ (c .before .before .before .before .before .before .before .before .before .before .before .before .parse .ensures) (Read _ _ _) _ _ _ _ (c .before .before .before .before .before .before .before .before .before .before .enum-told4 .given .1) (c .before .before .before .before .before .before .call-now3 .ensures) (call-said (a .desk) (now (a .sheet)) (now (a .fates)) (now (a .rows)) (now (a .line)) _ (Read _ _ _) (c .before .before .before .before .before .before .before .before .before .before .enum-told4 .given .1) refl)
 
 -- src/conversation.rt:393:1
 same-length-13 : tie.Need-same-length-13
@@ -175,7 +192,9 @@ same-length-15 c = search needs
 
 -- src/conversation.rt:393:1
 returns-7 : tie.Need-returns-7
-returns-7 c = ?
+returns-7 c =
+    let a = c .before .before .before .before .before .before .before .before .before .before .before .before .before .before .before .before .before .args in
+    line-by (a .desk) (now (a .sheet)) (now (a .fates)) (now (a .rows)) (now (a .line)) _ _ (c .before .before .before .before .before .before .before .before .before .before .before .before .parse .ensures) (Test _) _ _ _ _ (c .before .before .before .before .before .before .before .before .before .before .enum-told5 .given .1) (c .before .before .before .before .before .before .call-now4 .ensures) (call-said (a .desk) (now (a .sheet)) (now (a .fates)) (now (a .rows)) (now (a .line)) _ (Test _) (c .before .before .before .before .before .before .before .before .before .before .enum-told5 .given .1) refl)
 
 -- src/conversation.rt:393:1
 same-length-16 : tie.Need-same-length-16
@@ -191,7 +210,9 @@ same-length-18 c = search needs
 
 -- src/conversation.rt:393:1
 returns-8 : tie.Need-returns-8
-returns-8 c = ?
+returns-8 c =
+    let a = c .before .before .before .before .before .before .before .before .before .before .before .before .before .before .before .before .before .args in
+    line-by (a .desk) (now (a .sheet)) (now (a .fates)) (now (a .rows)) (now (a .line)) _ _ (c .before .before .before .before .before .before .before .before .before .before .before .before .parse .ensures) (Commit _) _ _ _ _ (c .before .before .before .before .before .before .before .before .before .before .enum-told6 .given .1) (c .before .before .before .before .before .before .call-now5 .ensures) (call-said (a .desk) (now (a .sheet)) (now (a .fates)) (now (a .rows)) (now (a .line)) _ (Commit _) (c .before .before .before .before .before .before .before .before .before .before .enum-told6 .given .1) refl)
 
 -- src/conversation.rt:393:1
 same-length-19 : tie.Need-same-length-19
@@ -207,7 +228,9 @@ same-length-21 c = search needs
 
 -- src/conversation.rt:393:1
 returns-9 : tie.Need-returns-9
-returns-9 c = ?
+returns-9 c =
+    let a = c .before .before .before .before .before .before .before .before .before .before .before .before .before .before .before .before .before .args in
+    line-by (a .desk) (now (a .sheet)) (now (a .fates)) (now (a .rows)) (now (a .line)) _ _ (c .before .before .before .before .before .before .before .before .before .before .before .before .parse .ensures) (Abort _) _ _ _ _ (c .before .before .before .before .before .before .before .before .before .before .enum-told7 .given .1) (c .before .before .before .before .before .before .call-now6 .ensures) (call-said (a .desk) (now (a .sheet)) (now (a .fates)) (now (a .rows)) (now (a .line)) _ (Abort _) (c .before .before .before .before .before .before .before .before .before .before .enum-told7 .given .1) refl)
 
 pub converse-spec : {M : Type 1} → statement M
 converse-spec =

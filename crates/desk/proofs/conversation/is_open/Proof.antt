@@ -11,7 +11,7 @@ is-file-requires c κs = search needs
 
 -- src/conversation.rt:355:1
 returns : tie.Need-returns
-returns c = ?
+returns c = rw (c .before .is-file .ensures)
 
 pub is-open-spec : {M : Type 1} → statement M
 is-open-spec = tie.close (tie.spec is-file-requires returns)

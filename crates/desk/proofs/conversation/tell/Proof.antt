@@ -1,3 +1,6 @@
+use Rattle.desk.proofs.Talk.{told-all, told-some}
+use denote.Ref.{now}
+use mathlib.Core.Path.{refl}
 use borrow.Author.Needs.{needs}
 use Rattle.desk.proofs.conversation.tell.Statement.{statement}
 use Rattle.desk.proofs.conversation.tell.Tie as tie
@@ -29,7 +32,9 @@ same-length c = search needs
 
 -- src/conversation.rt:459:9
 returns : tie.Need-returns
-returns c = ?
+returns c =
+    let a = c .before .before .before .before .before .before .before .before .before .before .args in
+    told-all (now (a .sheet)) (a .reply) (a .size) _ _ _ _ _ (c .before .before .before .before .before .before .before .shown-place .ensures) (c .before .before .before .before .before .before .value-at .ensures) (c .before .before .before .before .before .if1 .taken) (c .before .before .print .ensures)
 
 -- src/conversation.rt:462:18
 sub-print : tie.Need-sub-print
@@ -53,7 +58,9 @@ same-length-2 c = search needs
 
 -- src/conversation.rt:454:1
 returns-2 : tie.Need-returns-2
-returns-2 c = ?
+returns-2 c =
+    let a = c .before .before .before .before .before .before .before .before .before .before .before .args in
+    told-some (now (a .sheet)) (a .reply) (a .size) _ _ _ _ _ (c .before .before .before .before .before .before .before .before .shown-place .ensures) (c .before .before .before .before .before .before .before .value-at .ensures) _ refl (c .before .before .print2 .ensures)
 
 pub tell-spec : {M : Type 1} → statement M
 tell-spec =

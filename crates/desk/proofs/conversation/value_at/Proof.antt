@@ -1,3 +1,7 @@
+use Rattle.desk.proofs.Talk.{value-out, value-in}
+use denote.Ref.{now}
+use native.Mathlib.Omega.{arith}
+use mathlib.Core.Path.{refl, _∙_}
 use borrow.Author.Needs.{needs}
 use Rattle.desk.proofs.conversation.value_at.Statement.{statement}
 use Rattle.desk.proofs.conversation.value_at.Tie as tie
@@ -7,11 +11,11 @@ use Rattle.page.proofs.Page.value.Reads as value-reads
 
 -- src/conversation.rt:443:9
 returns : tie.Need-returns
-returns c = ?
+returns c = value-out (now (c .before .before .args .sheet)) (c .before .before .args .place) (λ l h. omega arith)
 
 -- src/conversation.rt:446:9
 returns-2 : tie.Need-returns-2
-returns-2 c = ?
+returns-2 c = value-out (now (c .before .before .before .args .sheet)) (c .before .before .before .args .place) (λ l h. omega arith)
 
 -- src/conversation.rt:448:27
 sub-a : tie.Need-sub-a
@@ -43,7 +47,9 @@ value-requires c κs = search needs
 
 -- src/conversation.rt:439:1
 returns-3 : tie.Need-returns-3
-returns-3 c = ?
+returns-3 c =
+    let a = c .before .before .before .before .before .args in
+    c .value .ensures ∙ value-in (now (a .sheet)) _ _ (a .place) (omega arith) refl refl
 
 pub value-at-spec : {M : Type 1} → statement M
 value-at-spec =
