@@ -31,8 +31,8 @@ use Rattle.calls.specs.Effect.{callLeaves}
 use Rattle.desk.specs.declared.parsing.Command.{Command}
 use Rattle.desk.specs.declared.conversation.Desk.{Desk}
 use Rattle.desk.specs.declared.conversation.Turn.{Turn}
-use Rattle.desk.specs.Conversation.{sheetSize, callOf, replyOf, answered, lost, actedBy, acted, openedBy, openedFor, lending, replied, isOpen, calledFor, startedFor, conversed, After, shownPlace, shown}
-use Rattle.desk.specs.Turns.{leftAfter, answeredTurn, lostTurn}
+use Rattle.desk.specs.Conversation.{sheetSize, callOf, replyOf, answered, lost, actedBy, acted, openedBy, openedFor, lending, replied, isOpen, calledFor, startedFor, conversed, After, shownPlace, shown, isSetUp, spoken, saidTo}
+use Rattle.desk.specs.Turns.{leftAfter, leftSaid, answeredTurn, lostTurn}
 
 -- the rest of a line from an index on, as the code cuts it
 pub rest-is : (s : List ℕ) (from at n : ℕ) → n ≡ length s → at ≡ min from n → take (n - at) (drop at s) ≡ drop from s
@@ -204,3 +204,20 @@ module _ (s : List ℕ) (r : Reply) (size place : ℕ) (value out out′ : List 
   told-some k e q =
       let w : value ≡ valueIn (pageBytes s (shownPlace r)) = v ∙ ap (λ x. valueIn (pageBytes s x)) p in
       q ∙ ap (λ x. prints r x out) (front-part value k ∙ ap (λ j. take j value) e ∙ ap (take size) w)
+
+-- ---- what is said
+
+pub set-up : (size numbers : ℕ) → isSetUp size numbers ≡ true → (size ≡ sheetSize) × (numbers ≡ rowLength * mostFiles)
+set-up size numbers e = let h = and-true _ _ e in (eqb-true size sheetSize (h .0), eqb-true numbers (rowLength * mostFiles) (h .1))
+
+module _ (d : Desk) (s fates rows line out : List ℕ) where
+  pub not-set-up : isSetUp (length s) (length rows) ≡ false → leftSaid (record { desk = d; count = 0 }) s fates rows out ≡ saidTo d s fates rows line out
+  unfolding saidTo
+  not-set-up e = rw e
+
+  pub said-so : (t : Turn) (s′ fates′ rows′ out′ : List ℕ) (n : ℕ) → isSetUp (length s) (length rows) ≡ true → leftAfter t s′ fates′ rows′ ≡ conversed d s fates rows (parsed line) line
+      → _≡_ {A = ℕ × List ℕ} (n, out′) (prints (t .reply) (shown (t .reply) (t .size) s′) out) → leftSaid (record { desk = t .desk; count = n }) s′ fates′ rows′ out′ ≡ saidTo d s fates rows line out
+  unfolding saidTo
+  said-so t s′ fates′ rows′ out′ n e h p =
+      (λ i. leftSaid (record { desk = t .desk; count = p i .0 }) s′ fates′ rows′ (p i .1)) ∙ ap (spoken out) h
+      ∙ sym (ap (λ b. cond b (spoken out (conversed d s fates rows (parsed line) line)) (record { said = record { desk = d; count = 0 }; sheet = s; fates = fates; rows = rows; out = out })) e)

@@ -22,6 +22,9 @@ use Rattle.desk.specs.declared.printing.Reply as reply
 use Rattle.desk.specs.declared.printing.Reply.{Reply}
 use Rattle.desk.specs.declared.conversation.Desk.{Desk}
 use Rattle.desk.specs.declared.conversation.Turn.{Turn}
+use Rattle.desk.specs.declared.conversation.Said.{Said}
+use Rattle.desk.specs.Commands.{parsed}
+use Rattle.desk.specs.Replies.{prints}
 
 -- 256 pages
 abbrev pub sheetSize : ℕ
@@ -178,3 +181,33 @@ shownPlace (reply.Reply.No number place) = 0
 
 unfoldable pub shown : Reply → ℕ → List ℕ → List ℕ
 shown r size s = take size (valueIn (pageBytes s (shownPlace r)))
+
+-- ---- a line of input and the bytes of its reply
+
+pub record Spoken : Type 0 where
+  pub said : Said
+  pub sheet : List ℕ
+  pub fates : List ℕ
+  pub rows : List ℕ
+  pub out : List ℕ
+
+abbrev pub firstDesk : Desk
+firstDesk = record { on = false; files = 0; state = closed; cut = noCut }
+
+abbrev pub isSetUp : ℕ → ℕ → Bool
+isSetUp size numbers = eqb size sheetSize && eqb numbers (rowLength * mostFiles)
+
+abbrev pub spoken : List ℕ → After → Spoken
+spoken out x = record {
+  said = record { desk = x .turn .desk; count = prints (x .turn .reply) (shown (x .turn .reply) (x .turn .size) (x .sheet)) out .0 };
+  sheet = x .sheet;
+  fates = x .fates;
+  rows = x .rows;
+  out = prints (x .turn .reply) (shown (x .turn .reply) (x .turn .size) (x .sheet)) out .1;
+}
+
+-- a line's bytes to the bytes of its reply; with a sheet or rows of another size nothing is done
+unfoldable pub saidTo : Desk → List ℕ → List ℕ → List ℕ → List ℕ → List ℕ → Spoken
+saidTo d s fates rows line out =
+    cond (isSetUp (length s) (length rows)) (spoken out (conversed d s fates rows (parsed line) line))
+    (record { said = record { desk = d; count = 0 }; sheet = s; fates = fates; rows = rows; out = out })

@@ -18,10 +18,10 @@ ghost use Rattle.recovery.specs.Numbers.{isRefused};
 ghost use Rattle.recovery.specs.Sheet.{pageBytes};
 ghost use Rattle.recovery.specs.Lent.{leftBy, closed, rowLength};
 ghost use Rattle.calls.specs.Effect.{callLeaves};
-ghost use Rattle.desk.specs.Conversation.{sheetSize, callOf, storedBy, replyOf, sizeOf, acted, openedFor, startedFor, isOpen, calledFor, conversed, shownPlace, shown};
+ghost use Rattle.desk.specs.Conversation.{sheetSize, callOf, storedBy, replyOf, sizeOf, acted, openedFor, startedFor, isOpen, calledFor, conversed, shownPlace, shown, firstDesk, isSetUp, saidTo};
 ghost use Rattle.desk.specs.Commands.{parsed};
 ghost use Rattle.desk.specs.Replies.{prints};
-ghost use Rattle.desk.specs.Turns.{leftAfter, answeredTurn, lostTurn};
+ghost use Rattle.desk.specs.Turns.{leftAfter, leftSaid, answeredTurn, lostTurn};
 
 // What the desk keeps from line to line, beside sheet, fates and rows: whether it has a state, for how many files, and after how many
 // bytes the next append is cut; 65 if it is not.
@@ -39,8 +39,16 @@ pub struct Turn {
     pub desk: Desk,
 }
 
-// The sheet's bytes, no state, and no cut.
-const SHEET: usize = 16384;
+// The desk after a line, and how many bytes its reply has.
+pub struct Said {
+    pub desk: Desk,
+    pub count: usize,
+}
+
+// The sheet's bytes, the numbers of the rows, and no cut.
+pub const SHEET: usize = 16384;
+
+pub const ROWS: usize = 1280;
 
 const NO_CUT: u64 = 65;
 
@@ -390,13 +398,7 @@ fn with_cut(desk: Desk, cut: u64) -> Desk
 }
 
 // A line of input.
-pub(crate) fn converse(
-    sheet: &mut [u8],
-    fates: &mut [u8],
-    rows: &mut [u64],
-    desk: Desk,
-    line: &[u8],
-) -> Turn
+fn converse(sheet: &mut [u8], fates: &mut [u8], rows: &mut [u64], desk: Desk, line: &[u8]) -> Turn
     requires { ⌜ (length (now sheet) ≡ sheetSize) × (length (now rows) ≡ rowLength * mostFiles) ⌝ }
     ensures { λ r. ⌜ leftAfter r (now (sheet .exit)) (now (fates .exit)) (now (rows .exit)) ≡ conversed desk (now (sheet .entry)) (now (fates .entry)) (now (rows .entry)) (parsed (now (line .entry))) (now (line .entry)) ⌝ }
 {
@@ -451,7 +453,7 @@ fn value_at(sheet: &[u8], place: u64) -> [u8; 32]
 }
 
 // The bytes of a reply, and how many they are.
-pub(crate) fn tell(sheet: &[u8], reply: Reply, size: u64, out: &mut [u8]) -> usize
+fn tell(sheet: &[u8], reply: Reply, size: u64, out: &mut [u8]) -> usize
     ensures { λ r. ⌜ (r, now (out .exit)) ≡ prints reply (shown reply size (now (sheet .entry))) (now (out .entry)) ⌝ }
 {
     let value = value_at(sheet, shown_place(reply));
@@ -460,4 +462,43 @@ pub(crate) fn tell(sheet: &[u8], reply: Reply, size: u64, out: &mut [u8]) -> usi
     }
     let n = size as usize;
     print(reply, &value[0..n], out)
+}
+
+// A desk without a state.
+pub fn closed_desk() -> Desk
+    ensures { λ r. ⌜ r ≡ firstDesk ⌝ }
+{
+    Desk {
+        on: false,
+        files: 0,
+        state: no_state(),
+        cut: NO_CUT,
+    }
+}
+
+fn is_set_up(size: usize, numbers: usize) -> bool
+    ensures { λ r. ⌜ r ≡ isSetUp size numbers ⌝ }
+{
+    (size == SHEET) & (numbers == ROWS)
+}
+
+// A line of input: its reply goes into `out`. With a sheet or rows of another size nothing is done.
+pub fn answer(
+    sheet: &mut [u8],
+    fates: &mut [u8],
+    rows: &mut [u64],
+    desk: Desk,
+    line: &[u8],
+    out: &mut [u8],
+) -> Said
+    ensures { λ r. ⌜ leftSaid r (now (sheet .exit)) (now (fates .exit)) (now (rows .exit)) (now (out .exit)) ≡ saidTo desk (now (sheet .entry)) (now (fates .entry)) (now (rows .entry)) (now (line .entry)) (now (out .entry)) ⌝ }
+{
+    if !is_set_up(sheet.len(), rows.len()) {
+        return Said { desk, count: 0 };
+    }
+    let turn = converse(sheet, fates, rows, desk, line);
+    let reply = turn.reply;
+    let next = turn.desk;
+    let count = tell(&sheet[..], reply, turn.size, out);
+    Said { desk: next, count }
 }

@@ -4,6 +4,12 @@ mod exports;
 mod parsing;
 mod printing;
 
+pub use conversation::Desk;
+pub use conversation::ROWS;
+pub use conversation::SHEET;
+pub use conversation::Said;
+pub use conversation::answer;
+pub use conversation::closed_desk;
 pub use parsing::Command;
 pub use parsing::LONGEST;
 pub use parsing::parse;

@@ -3,53 +3,37 @@ use denote.Ref.{now}
 use borrow.Author.Needs.{needs}
 use Rattle.desk.proofs.conversation.act.Statement.{statement}
 use Rattle.desk.proofs.conversation.act.Tie as tie
-use Rattle.desk.proofs.conversation.act.Reads as reads
-use Rattle.desk.proofs.conversation.act.Lts as lts
-use Rattle.desk.proofs.conversation.act_cut.Reads as act-cut-reads
-use Rattle.desk.proofs.conversation.answered.Reads as answered-reads
-use Rattle.desk.proofs.conversation.make_call.Reads as make-call-reads
 
--- src/conversation.rt:242:9
 act-cut-requires : tie.Need-act-cut-requires
 act-cut-requires c κs = search needs
 
--- src/conversation.rt:242:9
 same-length : tie.Need-same-length
 same-length c = search needs
 
--- src/conversation.rt:242:9
 same-length-2 : tie.Need-same-length-2
 same-length-2 c = search needs
 
--- src/conversation.rt:242:9
 same-length-3 : tie.Need-same-length-3
 same-length-3 c = search needs
 
--- src/conversation.rt:242:9
 returns : tie.Need-returns
 returns c = search needs
 
--- src/conversation.rt:245:9
 make-call-requires : tie.Need-make-call-requires
 make-call-requires c κs = search needs
 
--- src/conversation.rt:246:5
 answered-requires : tie.Need-answered-requires
 answered-requires c κs = search needs
 
--- src/conversation.rt:230:1
 same-length-4 : tie.Need-same-length-4
 same-length-4 c = search needs
 
--- src/conversation.rt:230:1
 same-length-5 : tie.Need-same-length-5
 same-length-5 c = search needs
 
--- src/conversation.rt:230:1
 same-length-6 : tie.Need-same-length-6
 same-length-6 c = search needs
 
--- src/conversation.rt:230:1
 returns-2 : tie.Need-returns-2
 returns-2 c =
     let a = c .before .before .before .before .before .before .before .before .before .before .before .before .before .before .before .before .before .before .args in

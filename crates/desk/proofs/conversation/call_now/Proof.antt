@@ -5,60 +5,42 @@ use denote.Ref.{now}
 use borrow.Author.Needs.{needs}
 use Rattle.desk.proofs.conversation.call_now.Statement.{statement}
 use Rattle.desk.proofs.conversation.call_now.Tie as tie
-use Rattle.desk.proofs.conversation.call_now.Reads as reads
-use Rattle.desk.proofs.conversation.call_now.Lts as lts
-use Rattle.desk.proofs.conversation.act.Reads as act-reads
-use Rattle.desk.proofs.conversation.is_open.Reads as is-open-reads
-use Rattle.desk.proofs.conversation.only.Reads as only-reads
-use Rattle.desk.proofs.conversation.row_numbers.Reads as row-numbers-reads
 
--- src/conversation.rt:373:9
 is-open-requires : tie.Need-is-open-requires
 is-open-requires c κs = search needs
 
--- src/conversation.rt:374:9
 only-requires : tie.Need-only-requires
 only-requires c κs = search needs
 
--- src/conversation.rt:374:9
 returns : tie.Need-returns
 returns c =
     let a = c .before .before .before .before .before .before .before .args in
     call-closed (a .desk) (now (a .sheet)) (now (a .fates)) (now (a .rows)) _ (a .command) (now (a .line)) (refused (c .before .before .is-open .ensures) (c .before .if1 .taken)) (c .only .ensures)
 
--- src/conversation.rt:376:9
 row-numbers-requires : tie.Need-row-numbers-requires
 row-numbers-requires c κs = open-files (c .before .before .before .before .before .before .args .desk) (passed (c .before .is-open .ensures) (c .if1 .left))
 
--- src/conversation.rt:377:23
 sub-act : tie.Need-sub-act
 sub-act c = search needs
 
--- src/conversation.rt:377:23
 part-act-start : tie.Need-part-act-start
 part-act-start c = search needs
 
--- src/conversation.rt:377:23
 part-act-end : tie.Need-part-act-end
 part-act-end c = omega (arith, c .before .before .row-numbers .ensures, open-files (c .before .before .before .before .before .before .before .before .before .args .desk) (passed (c .before .before .before .before .is-open .ensures) (c .before .before .before .if1 .left)), c .before .before .before .before .before .before .before .before .before .pre)
 
--- src/conversation.rt:377:5
 act-requires : tie.Need-act-requires
 act-requires c κs = search needs
 
--- src/conversation.rt:362:1
 same-length : tie.Need-same-length
 same-length c = search needs
 
--- src/conversation.rt:362:1
 same-length-2 : tie.Need-same-length-2
 same-length-2 c = search needs
 
--- src/conversation.rt:362:1
 same-length-3 : tie.Need-same-length-3
 same-length-3 c = search needs
 
--- src/conversation.rt:362:1
 returns-2 : tie.Need-returns-2
 returns-2 c =
     let a = c .before .before .before .before .before .before .before .before .before .before .before .before .before .before .before .before .before .args in

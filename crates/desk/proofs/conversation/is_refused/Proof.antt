@@ -2,68 +2,52 @@ use Rattle.recovery.specs.Numbers.{isRefused}
 use borrow.Author.Needs.{needs}
 use Rattle.desk.proofs.conversation.is_refused.Statement.{statement}
 use Rattle.desk.proofs.conversation.is_refused.Tie as tie
-use Rattle.desk.proofs.conversation.is_refused.Reads as reads
-use Rattle.desk.proofs.conversation.is_refused.Lts as lts
 
--- src/conversation.rt:255:34
 enum-told : tie.Need-enum-told
 enum-told c = search needs
 
--- src/conversation.rt:256:33
 enum-told-2 : tie.Need-enum-told-2
 enum-told-2 c = search needs
 
--- src/conversation.rt:257:40
 enum-told-3 : tie.Need-enum-told-3
 enum-told-3 c = search needs
 
--- src/conversation.rt:258:30
 enum-told-4 : tie.Need-enum-told-4
 enum-told-4 c = search needs
 
--- src/conversation.rt:259:35
 enum-told-5 : tie.Need-enum-told-5
 enum-told-5 c = search needs
 
--- src/conversation.rt:260:28
 enum-told-6 : tie.Need-enum-told-6
 enum-told-6 c = search needs
 
--- src/conversation.rt:261:28
 enum-told-7 : tie.Need-enum-told-7
 enum-told-7 c = search needs
 
--- src/conversation.rt:251:1
 returns : tie.Need-returns
 unfolding isRefused
 returns c = rw (c .enum-told .given .1)
 
--- src/conversation.rt:251:1
 returns-2 : tie.Need-returns-2
 unfolding isRefused
 returns-2 c = rw (c .enum-told2 .given .1)
 
--- src/conversation.rt:251:1
 returns-3 : tie.Need-returns-3
 unfolding isRefused
 returns-3 c = rw (c .enum-told3 .given .1)
 
--- src/conversation.rt:251:1
 returns-4 : tie.Need-returns-4
 unfolding isRefused
 returns-4 c = rw (c .enum-told4 .given .1)
 
--- src/conversation.rt:251:1
 returns-5 : tie.Need-returns-5
 unfolding isRefused
 returns-5 c = rw (c .enum-told5 .given .1)
 
--- src/conversation.rt:251:1
 returns-6 : tie.Need-returns-6
 unfolding isRefused
 returns-6 c = rw (c .enum-told6 .given .1)
 
--- src/conversation.rt:251:1
 returns-7 : tie.Need-returns-7
 unfolding isRefused
 returns-7 c = rw (c .enum-told7 .given .1)

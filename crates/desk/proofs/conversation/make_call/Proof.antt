@@ -1,228 +1,166 @@
 use borrow.Author.Needs.{needs}
 use Rattle.desk.proofs.conversation.make_call.Statement.{statement}
 use Rattle.desk.proofs.conversation.make_call.Tie as tie
-use Rattle.desk.proofs.conversation.make_call.Reads as reads
-use Rattle.desk.proofs.conversation.make_call.Lts as lts
-use Rattle.calls.proofs.abort.Reads as abort-reads
-use Rattle.calls.proofs.begin.Reads as begin-reads
-use Rattle.calls.proofs.commit.Reads as commit-reads
-use Rattle.calls.proofs.test.Reads as test-reads
-use Rattle.calls.proofs.read.Reads as read-reads
-use Rattle.desk.proofs.conversation.write_text.Reads as write-text-reads
 
--- src/conversation.rt:74:40
 enum-told : tie.Need-enum-told
 enum-told c = search needs
 
--- src/conversation.rt:74:27
 begin-requires : tie.Need-begin-requires
 begin-requires c κs = search needs
 
--- src/conversation.rt:75:24
 enum-known-command : tie.Need-enum-known-command
 enum-known-command c = search needs
 
--- src/conversation.rt:76:13
 write-text-requires : tie.Need-write-text-requires
 write-text-requires c κs = search needs
 
--- src/conversation.rt:78:23
 enum-known-command-2 : tie.Need-enum-known-command-2
 enum-known-command-2 c = search needs
 
--- src/conversation.rt:79:13
 read-requires : tie.Need-read-requires
 read-requires c κs = search needs
 
--- src/conversation.rt:81:23
 enum-known-command-3 : tie.Need-enum-known-command-3
 enum-known-command-3 c = search needs
 
--- src/conversation.rt:81:34
 test-requires : tie.Need-test-requires
 test-requires c κs = search needs
 
--- src/conversation.rt:82:25
 enum-known-command-4 : tie.Need-enum-known-command-4
 enum-known-command-4 c = search needs
 
--- src/conversation.rt:82:36
 commit-requires : tie.Need-commit-requires
 commit-requires c κs = search needs
 
--- src/conversation.rt:83:24
 enum-known-command-5 : tie.Need-enum-known-command-5
 enum-known-command-5 c = search needs
 
--- src/conversation.rt:83:35
 abort-requires : tie.Need-abort-requires
 abort-requires c κs = search needs
 
--- src/conversation.rt:84:38
 enum-told-2 : tie.Need-enum-told-2
 enum-told-2 c = search needs
 
--- src/conversation.rt:84:26
 test-requires-2 : tie.Need-test-requires-2
 test-requires-2 c κs = search needs
 
--- src/conversation.rt:85:44
 enum-told-3 : tie.Need-enum-told-3
 enum-told-3 c = search needs
 
--- src/conversation.rt:85:32
 test-requires-3 : tie.Need-test-requires-3
 test-requires-3 c κs = search needs
 
--- src/conversation.rt:86:40
 enum-told-4 : tie.Need-enum-told-4
 enum-told-4 c = search needs
 
--- src/conversation.rt:86:28
 test-requires-4 : tie.Need-test-requires-4
 test-requires-4 c κs = search needs
 
--- src/conversation.rt:63:1
 same-length : tie.Need-same-length
 same-length c = search needs
 
--- src/conversation.rt:63:1
 same-length-2 : tie.Need-same-length-2
 same-length-2 c = search needs
 
--- src/conversation.rt:63:1
 same-length-3 : tie.Need-same-length-3
 same-length-3 c = search needs
 
--- src/conversation.rt:63:1
 returns : tie.Need-returns
 returns c = rw (c .before .before .before .before .before .before .before .before .enum-told .given .1) (c .before .before .before .before .begin .ensures)
 
--- src/conversation.rt:63:1
 same-length-4 : tie.Need-same-length-4
 same-length-4 c = search needs
 
--- src/conversation.rt:63:1
 same-length-5 : tie.Need-same-length-5
 same-length-5 c = search needs
 
--- src/conversation.rt:63:1
 same-length-6 : tie.Need-same-length-6
 same-length-6 c = search needs
 
--- src/conversation.rt:63:1
 returns-2 : tie.Need-returns-2
 returns-2 c = rw (c .before .before .before .before .before .before .before .before .before .command .given .1) (c .before .before .before .before .write-text .ensures)
 
--- src/conversation.rt:63:1
 same-length-7 : tie.Need-same-length-7
 same-length-7 c = search needs
 
--- src/conversation.rt:63:1
 same-length-8 : tie.Need-same-length-8
 same-length-8 c = search needs
 
--- src/conversation.rt:63:1
 same-length-9 : tie.Need-same-length-9
 same-length-9 c = search needs
 
--- src/conversation.rt:63:1
 returns-3 : tie.Need-returns-3
 returns-3 c = rw (c .before .before .before .before .before .before .before .command2 .given .1) (c .before .before .read .ensures)
 
--- src/conversation.rt:63:1
 same-length-10 : tie.Need-same-length-10
 same-length-10 c = search needs
 
--- src/conversation.rt:63:1
 same-length-11 : tie.Need-same-length-11
 same-length-11 c = search needs
 
--- src/conversation.rt:63:1
 same-length-12 : tie.Need-same-length-12
 same-length-12 c = search needs
 
--- src/conversation.rt:63:1
 returns-4 : tie.Need-returns-4
 returns-4 c = rw (c .before .before .before .before .before .command3 .given .1) (c .test .ensures)
 
--- src/conversation.rt:63:1
 same-length-13 : tie.Need-same-length-13
 same-length-13 c = search needs
 
--- src/conversation.rt:63:1
 same-length-14 : tie.Need-same-length-14
 same-length-14 c = search needs
 
--- src/conversation.rt:63:1
 same-length-15 : tie.Need-same-length-15
 same-length-15 c = search needs
 
--- src/conversation.rt:63:1
 returns-5 : tie.Need-returns-5
 returns-5 c = rw (c .before .before .before .before .before .before .before .before .before .before .before .command4 .given .1) (c .before .before .before .before .before .before .commit .ensures)
 
--- src/conversation.rt:63:1
 same-length-16 : tie.Need-same-length-16
 same-length-16 c = search needs
 
--- src/conversation.rt:63:1
 same-length-17 : tie.Need-same-length-17
 same-length-17 c = search needs
 
--- src/conversation.rt:63:1
 same-length-18 : tie.Need-same-length-18
 same-length-18 c = search needs
 
--- src/conversation.rt:63:1
 returns-6 : tie.Need-returns-6
 returns-6 c = rw (c .before .before .before .before .before .before .before .before .before .before .before .command5 .given .1) (c .before .before .before .before .before .before .abort .ensures)
 
--- src/conversation.rt:63:1
 same-length-19 : tie.Need-same-length-19
 same-length-19 c = search needs
 
--- src/conversation.rt:63:1
 same-length-20 : tie.Need-same-length-20
 same-length-20 c = search needs
 
--- src/conversation.rt:63:1
 same-length-21 : tie.Need-same-length-21
 same-length-21 c = search needs
 
--- src/conversation.rt:63:1
 returns-7 : tie.Need-returns-7
 returns-7 c = rw (c .before .before .before .before .enum-told2 .given .1) (c .test2 .ensures)
 
--- src/conversation.rt:63:1
 same-length-22 : tie.Need-same-length-22
 same-length-22 c = search needs
 
--- src/conversation.rt:63:1
 same-length-23 : tie.Need-same-length-23
 same-length-23 c = search needs
 
--- src/conversation.rt:63:1
 same-length-24 : tie.Need-same-length-24
 same-length-24 c = search needs
 
--- src/conversation.rt:63:1
 returns-8 : tie.Need-returns-8
 returns-8 c = rw (c .before .before .before .before .enum-told3 .given .1) (c .test3 .ensures)
 
--- src/conversation.rt:63:1
 same-length-25 : tie.Need-same-length-25
 same-length-25 c = search needs
 
--- src/conversation.rt:63:1
 same-length-26 : tie.Need-same-length-26
 same-length-26 c = search needs
 
--- src/conversation.rt:63:1
 same-length-27 : tie.Need-same-length-27
 same-length-27 c = search needs
 
--- src/conversation.rt:63:1
 returns-9 : tie.Need-returns-9
 returns-9 c = rw (c .before .before .before .before .enum-told4 .given .1) (c .test4 .ensures)
 

@@ -3,33 +3,22 @@ use denote.Ref.{now}
 use borrow.Author.Needs.{needs}
 use Rattle.desk.proofs.conversation.open_desk.Statement.{statement}
 use Rattle.desk.proofs.conversation.open_desk.Tie as tie
-use Rattle.desk.proofs.conversation.open_desk.Reads as reads
-use Rattle.desk.proofs.conversation.open_desk.Lts as lts
-use Rattle.desk.proofs.conversation.is_refused.Reads as is-refused-reads
-use Rattle.desk.proofs.conversation.reply_of.Reads as reply-of-reads
-use Rattle.recovery.proofs.open.Reads as open-reads
 
--- src/conversation.rt:276:9
 open-requires : tie.Need-open-requires
 open-requires c κs = search needs
 
--- src/conversation.rt:279:9
 reply-of-requires : tie.Need-reply-of-requires
 reply-of-requires c κs = search needs
 
--- src/conversation.rt:280:15
 is-refused-requires : tie.Need-is-refused-requires
 is-refused-requires c κs = search needs
 
--- src/conversation.rt:266:1
 same-length : tie.Need-same-length
 same-length c = search needs
 
--- src/conversation.rt:266:1
 same-length-2 : tie.Need-same-length-2
 same-length-2 c = search needs
 
--- src/conversation.rt:266:1
 returns : tie.Need-returns
 returns c =
     let a = c .before .before .before .before .before .before .before .before .before .before .before .before .before .args in

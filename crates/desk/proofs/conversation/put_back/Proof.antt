@@ -4,43 +4,31 @@ use mathlib.Core.Path.{refl}
 use borrow.Author.Needs.{needs}
 use Rattle.desk.proofs.conversation.put_back.Statement.{statement}
 use Rattle.desk.proofs.conversation.put_back.Tie as tie
-use Rattle.desk.proofs.conversation.put_back.Reads as reads
-use Rattle.desk.proofs.conversation.put_back.Lts as lts
-use Rattle.encoding.proofs.copy.Reads as copy-reads
 
--- src/conversation.rt:173:20
 sub-copy : tie.Need-sub-copy
 sub-copy c = search needs
 
--- src/conversation.rt:173:20
 part-copy-start : tie.Need-part-copy-start
 part-copy-start c = search needs
 
--- src/conversation.rt:173:20
 part-copy-end : tie.Need-part-copy-end
 part-copy-end c = search needs
 
--- src/conversation.rt:173:39
 sub-copy-2 : tie.Need-sub-copy-2
 sub-copy-2 c = search needs
 
--- src/conversation.rt:173:39
 part-copy-start-2 : tie.Need-part-copy-start-2
 part-copy-start-2 c = search needs
 
--- src/conversation.rt:173:39
 part-copy-end-2 : tie.Need-part-copy-end-2
 part-copy-end-2 c = search needs
 
--- src/conversation.rt:173:5
 copy-requires : tie.Need-copy-requires
 copy-requires c κs = search needs
 
--- src/conversation.rt:168:1
 same-length : tie.Need-same-length
 same-length c = search needs
 
--- src/conversation.rt:168:1
 returns : tie.Need-returns
 returns c =
     let a = c .before .before .before .before .before .before .before .args in

@@ -1,67 +1,49 @@
 use borrow.Author.Needs.{needs}
 use Rattle.desk.proofs.conversation.reply_of.Statement.{statement}
 use Rattle.desk.proofs.conversation.reply_of.Tie as tie
-use Rattle.desk.proofs.conversation.reply_of.Reads as reads
-use Rattle.desk.proofs.conversation.reply_of.Lts as lts
-use Rattle.desk.proofs.conversation.stored_by.Reads as stored-by-reads
 
--- src/conversation.rt:111:25
 enum-known-answer : tie.Need-enum-known-answer
 enum-known-answer c = search needs
 
--- src/conversation.rt:112:24
 enum-known-answer-2 : tie.Need-enum-known-answer-2
 enum-known-answer-2 c = search needs
 
--- src/conversation.rt:113:40
 enum-told : tie.Need-enum-told
 enum-told c = search needs
 
--- src/conversation.rt:114:24
 enum-known-answer-3 : tie.Need-enum-known-answer-3
 enum-known-answer-3 c = search needs
 
--- src/conversation.rt:114:34
 stored-by-requires : tie.Need-stored-by-requires
 stored-by-requires c κs = search needs
 
--- src/conversation.rt:115:23
 enum-known-answer-4 : tie.Need-enum-known-answer-4
 enum-known-answer-4 c = search needs
 
--- src/conversation.rt:116:28
 enum-told-2 : tie.Need-enum-told-2
 enum-told-2 c = search needs
 
--- src/conversation.rt:117:22
 enum-known-answer-5 : tie.Need-enum-known-answer-5
 enum-known-answer-5 c = search needs
 
--- src/conversation.rt:107:1
 returns : tie.Need-returns
 returns c = rw (c .before .answer .given .1)
 
--- src/conversation.rt:107:1
 returns-2 : tie.Need-returns-2
 returns-2 c = rw (c .before .answer2 .given .1)
 
--- src/conversation.rt:107:1
 returns-3 : tie.Need-returns-3
 returns-3 c = rw (c .enum-told .given .1)
 
--- src/conversation.rt:107:1
 returns-4 : tie.Need-returns-4
 returns-4 c = rw (c .before .before .answer3 .given .1) (c .stored-by .ensures)
 
--- src/conversation.rt:107:1
 returns-5 : tie.Need-returns-5
 returns-5 c = rw (c .before .answer4 .given .1)
 
--- src/conversation.rt:107:1
 returns-6 : tie.Need-returns-6
 returns-6 c = rw (c .enum-told2 .given .1)
 
--- src/conversation.rt:107:1
 returns-7 : tie.Need-returns-7
 returns-7 c = rw (c .before .answer5 .given .1)
 

@@ -1,78 +1,58 @@
 use borrow.Author.Needs.{needs}
 use Rattle.desk.proofs.conversation.stored_by.Statement.{statement}
 use Rattle.desk.proofs.conversation.stored_by.Tie as tie
-use Rattle.desk.proofs.conversation.stored_by.Reads as reads
-use Rattle.desk.proofs.conversation.stored_by.Lts as lts
 
--- src/conversation.rt:95:27
 enum-told : tie.Need-enum-told
 enum-told c = search needs
 
--- src/conversation.rt:96:39
 enum-told-2 : tie.Need-enum-told-2
 enum-told-2 c = search needs
 
--- src/conversation.rt:97:31
 enum-told-3 : tie.Need-enum-told-3
 enum-told-3 c = search needs
 
--- src/conversation.rt:98:30
 enum-told-4 : tie.Need-enum-told-4
 enum-told-4 c = search needs
 
--- src/conversation.rt:99:26
 enum-told-5 : tie.Need-enum-told-5
 enum-told-5 c = search needs
 
--- src/conversation.rt:100:32
 enum-told-6 : tie.Need-enum-told-6
 enum-told-6 c = search needs
 
--- src/conversation.rt:101:35
 enum-told-7 : tie.Need-enum-told-7
 enum-told-7 c = search needs
 
--- src/conversation.rt:102:29
 enum-told-8 : tie.Need-enum-told-8
 enum-told-8 c = search needs
 
--- src/conversation.rt:103:28
 enum-told-9 : tie.Need-enum-told-9
 enum-told-9 c = search needs
 
--- src/conversation.rt:91:1
 returns : tie.Need-returns
 returns c = rw (c .enum-told .given .1)
 
--- src/conversation.rt:91:1
 returns-2 : tie.Need-returns-2
 returns-2 c = rw (c .enum-told2 .given .1)
 
--- src/conversation.rt:91:1
 returns-3 : tie.Need-returns-3
 returns-3 c = rw (c .enum-told3 .given .1)
 
--- src/conversation.rt:91:1
 returns-4 : tie.Need-returns-4
 returns-4 c = rw (c .enum-told4 .given .1)
 
--- src/conversation.rt:91:1
 returns-5 : tie.Need-returns-5
 returns-5 c = rw (c .enum-told5 .given .1)
 
--- src/conversation.rt:91:1
 returns-6 : tie.Need-returns-6
 returns-6 c = rw (c .enum-told6 .given .1)
 
--- src/conversation.rt:91:1
 returns-7 : tie.Need-returns-7
 returns-7 c = rw (c .enum-told7 .given .1)
 
--- src/conversation.rt:91:1
 returns-8 : tie.Need-returns-8
 returns-8 c = rw (c .enum-told8 .given .1)
 
--- src/conversation.rt:91:1
 returns-9 : tie.Need-returns-9
 returns-9 c = rw (c .enum-told9 .given .1)
 

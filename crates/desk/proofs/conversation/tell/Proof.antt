@@ -4,59 +4,42 @@ use mathlib.Core.Path.{refl}
 use borrow.Author.Needs.{needs}
 use Rattle.desk.proofs.conversation.tell.Statement.{statement}
 use Rattle.desk.proofs.conversation.tell.Tie as tie
-use Rattle.desk.proofs.conversation.tell.Reads as reads
-use Rattle.desk.proofs.conversation.tell.Lts as lts
-use Rattle.desk.proofs.conversation.shown_place.Reads as shown-place-reads
-use Rattle.desk.proofs.conversation.value_at.Reads as value-at-reads
-use Rattle.desk.proofs.printing.print.Reads as print-reads
 
--- src/conversation.rt:457:33
 shown-place-requires : tie.Need-shown-place-requires
 shown-place-requires c κs = search needs
 
--- src/conversation.rt:457:17
 value-at-requires : tie.Need-value-at-requires
 value-at-requires c κs = search needs
 
--- src/conversation.rt:459:29
 slice-aggregate-print : tie.Need-slice-aggregate-print
 slice-aggregate-print c = search needs
 
--- src/conversation.rt:459:9
 print-requires : tie.Need-print-requires
 print-requires c κs = search needs
 
--- src/conversation.rt:459:9
 same-length : tie.Need-same-length
 same-length c = search needs
 
--- src/conversation.rt:459:9
 returns : tie.Need-returns
 returns c =
     let a = c .before .before .before .before .before .before .before .before .before .before .args in
     told-all (now (a .sheet)) (a .reply) (a .size) _ _ _ _ _ (c .before .before .before .before .before .before .before .shown-place .ensures) (c .before .before .before .before .before .before .value-at .ensures) (c .before .before .before .before .before .if1 .taken) (c .before .before .print .ensures)
 
--- src/conversation.rt:462:18
 sub-print : tie.Need-sub-print
 sub-print c = search needs
 
--- src/conversation.rt:462:18
 part-print-start : tie.Need-part-print-start
 part-print-start c = search needs
 
--- src/conversation.rt:462:18
 part-print-end : tie.Need-part-print-end
 part-print-end c = search needs
 
--- src/conversation.rt:462:5
 print-requires-2 : tie.Need-print-requires-2
 print-requires-2 c κs = search needs
 
--- src/conversation.rt:454:1
 same-length-2 : tie.Need-same-length-2
 same-length-2 c = search needs
 
--- src/conversation.rt:454:1
 returns-2 : tie.Need-returns-2
 returns-2 c =
     let a = c .before .before .before .before .before .before .before .before .before .before .before .args in

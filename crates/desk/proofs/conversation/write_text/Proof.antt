@@ -6,40 +6,28 @@ use denote.Ref.{now}
 use borrow.Author.Needs.{needs}
 use Rattle.desk.proofs.conversation.write_text.Statement.{statement}
 use Rattle.desk.proofs.conversation.write_text.Tie as tie
-use Rattle.desk.proofs.conversation.write_text.Reads as reads
-use Rattle.desk.proofs.conversation.write_text.Lts as lts
-use Rattle.calls.proofs.write.Reads as write-reads
-use Rattle.desk.proofs.conversation.least.Reads as least-reads
 
--- src/conversation.rt:58:9
 least-requires : tie.Need-least-requires
 least-requires c κs = search needs
 
--- src/conversation.rt:59:66
 sub-write : tie.Need-sub-write
 sub-write c = search needs
 
--- src/conversation.rt:59:66
 part-write-start : tie.Need-part-write-start
 part-write-start c = search needs
 
--- src/conversation.rt:59:66
 part-write-end : tie.Need-part-write-end
 part-write-end c = search needs
 
--- src/conversation.rt:59:5
 write-requires : tie.Need-write-requires
 write-requires c κs = search needs
 
--- src/conversation.rt:44:1
 same-length : tie.Need-same-length
 same-length c = search needs
 
--- src/conversation.rt:44:1
 same-length-2 : tie.Need-same-length-2
 same-length-2 c = search needs
 
--- src/conversation.rt:44:1
 returns : tie.Need-returns
 returns c =
     let a = c .before .before .before .before .before .before .before .before .before .before .before .before .before .args in
