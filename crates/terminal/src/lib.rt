@@ -1,0 +1,149 @@
+// The command program: lines from standard input to the desk, and its replies to standard output, line by line.
+use desk::Desk;
+use libc::STDIN_FILENO;
+use libc::STDOUT_FILENO;
+ghost use mathlib.Core.Path.{_≡_};
+ghost use Prim.Native.Nat.{_≤_, _<_};
+ghost use lib.ListN.{length};
+
+// A line is kept up to one byte more than the longest, so that a longer one is known.
+const KEPT: usize = 256;
+
+// The desk, and how many bytes of a line are kept.
+struct Talk {
+    desk: Desk,
+    len: usize,
+}
+
+// What is left of the turns: none at the end of the input.
+struct Read {
+    turns: u64,
+    talk: Talk,
+}
+
+// The end of a line: its reply is written.
+fn reply(text: &[u8], sheet: &mut [u8], fates: &mut [u8], rows: &mut [u64], talk: Talk) -> Desk
+    requires { ⌜ (length (now text) ≡ 256) × (talk .len ≤ 256) ⌝ }
+{
+    let mut out = [0u8; 128];
+    let len = talk.len;
+    let before = talk.desk;
+    let said = desk::answer(sheet, fates, rows, before, &text[0..len], &mut out);
+    let n = said.count;
+    let after = said.desk;
+    if n <= 128 {
+        io::write_all(STDOUT_FILENO, &out[0..n]);
+    }
+    after
+}
+
+// One byte of the input.
+fn take_byte(
+    text: &mut [u8],
+    sheet: &mut [u8],
+    fates: &mut [u8],
+    rows: &mut [u64],
+    talk: Talk,
+    byte: u8,
+) -> Talk
+    requires { ⌜ (length (now text) ≡ 256) × (talk .len ≤ 256) ⌝ }
+    ensures { λ r. ⌜ r .len ≤ 256 ⌝ }
+{
+    if byte == b'\n' {
+        let after = reply(&text[..], sheet, fates, rows, talk);
+        return Talk {
+            desk: after,
+            len: 0,
+        };
+    }
+    let len = talk.len;
+    let same = talk.desk;
+    if KEPT <= len {
+        return Talk { desk: same, len };
+    }
+    text[len] = byte;
+    Talk {
+        desk: same,
+        len: len + 1,
+    }
+}
+
+// The bytes of one read.
+fn take_bytes(
+    bytes: &[u8],
+    text: &mut [u8],
+    sheet: &mut [u8],
+    fates: &mut [u8],
+    rows: &mut [u64],
+    talk: Talk,
+) -> Talk
+    requires { ⌜ (length (now text) ≡ 256) × (talk .len ≤ 256) ⌝ }
+    ensures { λ r. ⌜ r .len ≤ 256 ⌝ }
+{
+    let mut at = talk;
+    let mut i = 0;
+    while i < bytes.len() {
+        at = take_byte(text, sheet, fates, rows, at, bytes[i]);
+        i += 1;
+    }
+    at
+}
+
+// One read, and what is left of the turns.
+fn take_some(
+    text: &mut [u8],
+    sheet: &mut [u8],
+    fates: &mut [u8],
+    rows: &mut [u64],
+    talk: Talk,
+    turns: u64,
+) -> Read
+    requires { ⌜ (length (now text) ≡ 256) × (talk .len ≤ 256) × (0 < turns) ⌝ }
+    ensures { λ r. ⌜ (r .talk .len ≤ 256) × (r .turns < turns) ⌝ }
+{
+    let mut buffer = io::buffer();
+    let got = libc::read(STDIN_FILENO, &mut buffer);
+    if got <= 0 {
+        return Read { turns: 0, talk };
+    }
+    let n = io::count(got, &buffer);
+    let after = take_bytes(&buffer[..n], text, sheet, fates, rows, talk);
+    Read {
+        turns: turns - 1,
+        talk: after,
+    }
+}
+
+// All of the input; a last line may have no end of line.
+fn take_all(text: &mut [u8], sheet: &mut [u8], fates: &mut [u8], rows: &mut [u64])
+    requires { ⌜ length (now text) ≡ 256 ⌝ }
+{
+    let mut turns = u64::MAX;
+    let mut talk = Talk {
+        desk: desk::closed_desk(),
+        len: 0,
+    };
+    while turns > 0 {
+        let read = take_some(text, sheet, fates, rows, talk, turns);
+        talk = read.talk;
+        turns = read.turns;
+    }
+    take_last(&text[..], sheet, fates, rows, talk);
+}
+
+fn take_last(text: &[u8], sheet: &mut [u8], fates: &mut [u8], rows: &mut [u64], talk: Talk)
+    requires { ⌜ (length (now text) ≡ 256) × (talk .len ≤ 256) ⌝ }
+{
+    if 0 < talk.len {
+        reply(text, sheet, fates, rows, talk);
+    }
+}
+
+// A conversation on a blank sheet of 256 pages.
+pub fn run() {
+    let mut text = [0u8; 256];
+    let mut sheet = [0u8; 16384];
+    let mut fates = [0u8; 256];
+    let mut rows = [0u64; 1280];
+    take_all(&mut text, &mut sheet, &mut fates, &mut rows);
+}
