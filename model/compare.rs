@@ -1,7 +1,8 @@
 //! The model beside the program: the same lines through both, line by line.
 
-use crate::commands::{answers, lines_of};
+use crate::commands::{answers, lines_of, Desk};
 use crate::lists::List;
+use std::collections::BTreeMap;
 use std::io::Write;
 use std::process::{Command, Stdio};
 
@@ -38,25 +39,61 @@ fn difference(program: &str, list: &List) -> Option<usize> {
     }
 }
 
-/// A list without some lines, as short as leaving out runs of lines makes it, the runs first long and then short.
-fn cut_down(program: &str, mut list: List, mut at: usize) -> List {
+/// A line that names an action by its place, with the place that it has now.
+fn renamed(line: &[u8], now: &BTreeMap<u64, u64>) -> Vec<u8> {
+    let text = String::from_utf8_lossy(line);
+    let mut words: Vec<String> = text.split(' ').map(str::to_string).collect();
+    let at = match words[0].as_str() {
+        "write" | "read" => 3,
+        "test" | "commit" | "abort" => 1,
+        _ => return line.to_vec(),
+    };
+    match words.get(at).and_then(|word| word.parse().ok()).and_then(|place: u64| now.get(&place)) {
+        Some(place) => words[at] = place.to_string(),
+        None => return line.to_vec(),
+    }
+    words.join(" ").into_bytes()
+}
+
+/// A list without its lines from one to another. Places that become lower for that are renamed in what follows.
+fn without(list: &List, from: usize, upto: usize) -> List {
+    let (mut before, mut after) = (Desk::default(), Desk::default());
+    let (mut lines, mut now) = (Vec::new(), BTreeMap::new());
+    for (i, line) in list.lines.iter().enumerate() {
+        let used = before.sheet.used;
+        before.answer(line);
+        if (from..upto).contains(&i) {
+            continue;
+        }
+        let line = renamed(line, &now);
+        after.answer(&line);
+        if before.sheet.used > used {
+            now.insert(before.sheet.used, after.sheet.used);
+        }
+        lines.push(line);
+    }
+    List { lines, ends_in_newline: list.ends_in_newline }
+}
+
+/// A short list on which the two still differ: runs of lines are left out, first long ones and then short ones.
+fn cut_down(program: &str, mut list: List, at: usize) -> List {
+    list.lines.truncate(at + 1);
     let mut run = list.lines.len();
     while run > 0 {
-        list.lines.truncate(at + 1);
-        let mut from = 0;
+        let (before, mut from) = (list.lines.len(), 0);
         while from < list.lines.len() {
-            let upto = list.lines.len().min(from + run);
-            let lines = [&list.lines[..from], &list.lines[upto..]].concat();
-            let shorter = List { lines, ends_in_newline: list.ends_in_newline };
+            let shorter = without(&list, from, from + run);
             match difference(program, &shorter) {
-                Some(found) if !shorter.lines.is_empty() => {
+                Some(at) if !shorter.lines.is_empty() => {
                     list = shorter;
-                    at = found;
+                    list.lines.truncate(at + 1);
                 }
-                _ => from = upto,
+                _ => from += run,
             }
         }
-        run /= 2;
+        if run > 1 || list.lines.len() == before {
+            run /= 2; // single lines are tried again until none can go
+        }
     }
     list
 }

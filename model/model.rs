@@ -99,12 +99,13 @@ fn check(program: &str, seed: u64, commands: u64) -> bool {
             eprintln!("{} conversations, {} of {} commands", conversations, done, commands);
         }
     }
-    if !alike {
-        println!("seed {} alone shows it", seed.wrapping_add(conversations - 1));
-    }
     tally.tell(&format!("{} random commands in {} conversations", done, conversations), alike);
-    let covered = is_covered(&counts, done);
-    tally.tell("every answer and refusal came often", covered);
+    if alike {
+        let covered = is_covered(&counts, done);
+        tally.tell("every answer and refusal came often", covered);
+    } else {
+        println!("seed {} begins with it", seed.wrapping_add(conversations - 1));
+    }
     println!("{} passed, {} failed", tally.passed, tally.failed);
     tally.failed == 0
 }
