@@ -44,9 +44,7 @@ fn parsed(line: &[u8]) -> Option<Command> {
         (b"open", []) => Command::Open { files: 8, floor: 0 },
         (b"open", [f, t]) => Command::Open { files: number(f)?, floor: number(t)? },
         (b"begin", []) => Command::Begin,
-        (b"write", [f, s, a, t]) => {
-            Command::Write { file: number(f)?, start: number(s)?, action: number(a)?, text: text(t)? }
-        }
+        (b"write", [f, s, a, t]) => Command::Write { file: number(f)?, start: number(s)?, action: number(a)?, text: text(t)? },
         (b"read", [f, t, a]) => Command::Read { file: number(f)?, time: number(t)?, action: number(a)? },
         (b"test", [a]) => Command::Test(number(a)?),
         (b"commit", [a]) => Command::Decide(number(a)?, Fate::Committed),
@@ -158,7 +156,7 @@ fn shown(version: Option<Version>) -> String {
 /// The lines of an input: a last one without its newline counts if it has a byte.
 pub fn lines_of(input: &[u8]) -> Vec<Vec<u8>> {
     let mut lines: Vec<Vec<u8>> = input.split(|byte| *byte == b'\n').map(<[u8]>::to_vec).collect();
-    if lines.last().map_or(false, Vec::is_empty) {
+    if matches!(lines.last(), Some(line) if line.is_empty()) {
         lines.pop();
     }
     lines

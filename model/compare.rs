@@ -10,7 +10,7 @@ use std::process::{Command, Stdio};
 pub fn program_answers(program: &str, list: &List) -> Result<Vec<String>, String> {
     let mut input = list.lines.join(&b'\n');
     // without its newline an empty last line is no line
-    if list.ends_in_newline || list.lines.last().map_or(true, Vec::is_empty) {
+    if list.ends_in_newline || input.is_empty() || input.ends_with(b"\n") {
         input.push(b'\n');
     }
     let spawned = Command::new(program).stdin(Stdio::piped()).stdout(Stdio::piped()).spawn();
@@ -23,7 +23,7 @@ pub fn program_answers(program: &str, list: &List) -> Result<Vec<String>, String
     if !output.status.success() {
         return Err(format!("{} ended with {}", program, output.status));
     }
-    if output.stdout.last().map_or(false, |byte| *byte != b'\n') {
+    if !output.stdout.is_empty() && !output.stdout.ends_with(b"\n") {
         return Err(format!("{} ended in the middle of a line", program));
     }
     Ok(lines_of(&output.stdout).iter().map(|line| String::from_utf8_lossy(line).into_owned()).collect())

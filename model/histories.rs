@@ -37,6 +37,10 @@ impl File {
         self.versions.last().map_or(0, |version| version.start)
     }
 
+    fn has_token_of(&self, action: u64) -> bool {
+        matches!(&self.token, Some(token) if token.action == action)
+    }
+
     fn at(&self, time: u64) -> Option<&Version> {
         self.versions.iter().rev().find(|version| version.start <= time)
     }
@@ -80,7 +84,7 @@ impl Sheet {
     }
 
     pub fn open(&self, files: u64, floor: u64) -> Result<Session, Refusal> {
-        if files < 1 || files > MOST_FILES {
+        if !(1..=MOST_FILES).contains(&files) {
             return refused(1);
         }
         if let Some((place, _)) = self.images.iter().rev().find(|(_, file)| *file > files) {
@@ -110,7 +114,7 @@ impl Sheet {
     fn decide(&mut self, action: u64, fate: Fate) {
         self.fates.insert(action, fate);
         for file in self.files.values_mut() {
-            if file.token.as_ref().map_or(false, |token| token.action == action) {
+            if file.has_token_of(action) {
                 let token = file.token.take();
                 if fate == Fate::Committed {
                     file.versions.extend(token.map(|token| token.version));
@@ -188,7 +192,7 @@ impl Sheet {
 
 impl Session {
     fn has_file(&self, file: u64) -> Result<(), Refusal> {
-        if file < 1 || file > self.files {
+        if !(1..=self.files).contains(&file) {
             return refused(3);
         }
         Ok(())
@@ -213,7 +217,7 @@ impl Session {
     /// To be told before an outcome is stored: what was read of a token is now read of the version, or of nothing.
     pub fn settle(&mut self, sheet: &Sheet, action: u64, fate: Fate) {
         for (file, history) in &sheet.files {
-            if history.token.as_ref().map_or(false, |token| token.action == action) {
+            if history.has_token_of(action) {
                 let latest = self.seen_token.remove(file).unwrap_or(0);
                 if fate == Fate::Committed {
                     self.seen.insert(*file, latest);

@@ -45,11 +45,12 @@ impl Tally {
 
 /// An answer's kind: the command's first word, and of the answer what makes it that answer.
 fn kind(line: &[u8], answer: &str) -> String {
+    let command = String::from_utf8_lossy(line.split(|byte| *byte == b' ').next().unwrap_or(b""));
     let words: Vec<&str> = answer.split(' ').collect();
-    let shown = if words[0] == "no" || words[0] == "test" { 2 } else { 1 };
-    match words[0] {
-        "what" => "what".to_string(),
-        _ => format!("{} {}", String::from_utf8_lossy(line.split(|byte| *byte == b' ').next().unwrap_or(b"")), words[..shown].join(" ")),
+    match words[..] {
+        ["what"] => "what".to_string(),
+        ["no" | "test", number, ..] => format!("{} {} {}", command, words[0], number),
+        _ => format!("{} {}", command, words[0]),
     }
 }
 
