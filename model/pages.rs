@@ -148,7 +148,7 @@ impl Trial {
 
     fn damaged(&mut self, mut page: Vec<u8>) -> Vec<u8> {
         let at = self.random.below(PAGE as u64) as usize;
-        match self.random.below(12) {
+        match self.random.below(16) {
             0 | 1 => page[at] ^= 1 << self.random.below(8),
             2 => page[at] = self.random.below(256) as u8,
             3 => page.swap(at, (at + 1) % PAGE),
@@ -158,7 +158,12 @@ impl Trial {
             8 => page.iter_mut().for_each(|byte| *byte = self.random.below(256) as u8),
             9 => page[PAGE - 1] = 0,
             10 => page.iter_mut().for_each(|byte| *byte = 0),
-            _ => page.iter_mut().enumerate().for_each(|(i, byte)| *byte = u8::from(i == at)),
+            11 => page.iter_mut().enumerate().for_each(|(i, byte)| *byte = u8::from(i == at)),
+            _ => {
+                page[at.min(59)] ^= 1 << self.random.below(8);
+                let word = sheet::check_word(&page[..60]) as u16; // the check word is right, and something else is not
+                page[60..62].copy_from_slice(&word.to_le_bytes());
+            }
         }
         page
     }

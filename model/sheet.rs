@@ -26,7 +26,7 @@ pub enum Found {
     Torn,
 }
 
-fn check_word(bytes: &[u8]) -> u64 {
+pub fn check_word(bytes: &[u8]) -> u64 {
     bytes.iter().fold(1, |word, byte| (257 * word + u64::from(*byte)) % 65_521)
 }
 
