@@ -1,6 +1,6 @@
-/* Times the store's layers, beside the plain check word loop, beside SQLite and beside each other, in one run. The loops over the pages are
-   Rattle's own (crates/bench). The rows of a table take turns, and each keeps its best round, so that a busy machine troubles
-   all alike. */
+/* Times the store's layers, beside the plain check word loop, beside SQLite and beside each other, in one run. The loops over
+   the pages are Rattle's own (crates/bench). The rows of a table take turns, and each keeps its best round, so that a busy
+   machine troubles all alike. */
 #include <stdio.h>
 #include <stdlib.h>
 #include <time.h>

@@ -69,7 +69,8 @@ uint64_t sqlite_read(uint64_t reads, uint64_t time) {
     for (uint64_t k = 0; k < reads; k++) {
         sqlite3_bind_int64(newest, 1, 1);
         sqlite3_bind_int64(newest, 2, (sqlite3_int64)time);
-        start = sqlite3_step(newest) == SQLITE_ROW && sqlite3_column_bytes(newest, 1) > 0 ? (uint64_t)sqlite3_column_int64(newest, 0) : 0;
+        int is_found = sqlite3_step(newest) == SQLITE_ROW && sqlite3_column_bytes(newest, 1) > 0;
+        start = is_found ? (uint64_t)sqlite3_column_int64(newest, 0) : 0;
         sqlite3_reset(newest);
     }
     return start;

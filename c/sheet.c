@@ -272,6 +272,12 @@ static int given_fields(struct desk d, int count, char **words, uint64_t place, 
     return complain(d, NO_ANSWER, "pack what? See sheet help");
 }
 
+static int no_such_page(struct desk d, uint64_t kind) {
+    if (kind == DESK_OUTCOME)
+        return complain(d, WRONG, "no such page: ACTION is 1 or more, and below PLACE");
+    return complain(d, WRONG, "no such page: NUMBER is 1 to FILES, ACTION 1 or more, START 1 or more; ACTION and LINK are below PLACE");
+}
+
 static int pack(struct desk d, int count, char **words) {
     uint64_t files, place, f[DESK_FIELDS] = {0}, answer;
     uint8_t value[DESK_VALUE] = {0}, page[DESK_PAGE];
@@ -282,12 +288,12 @@ static int pack(struct desk d, int count, char **words) {
         status = given_fields(d, count - 2, words + 2, place, f, value);
     if (status != FINE)
         return status;
-    answer = desk_pack(f[KIND], f[SMALL], f[FILE_NUMBER], f[ACTION], f[LINK], f[START], value, DESK_VALUE, place, files, page, DESK_PAGE);
+    answer = desk_pack(f[KIND], f[SMALL], f[FILE_NUMBER], f[ACTION], f[LINK], f[START], value, sizeof value, place, files, page,
+                       sizeof page);
     if (answer == DESK_PACK_REFUSED)
         return complain(d, NO_ANSWER, "PLACE is 1 to %d, not %" PRIu64, DESK_MOST_PAGES, place);
     if (answer != DESK_PACKED)
-        return complain(d, WRONG, "no such page: ACTION is 1 or more and below PLACE; an image's NUMBER is 1 to FILES, its LINK below "
-                                  "PLACE and its START 1 or more");
+        return no_such_page(d, f[KIND]);
     if (isatty(fileno(d.out)))
         return complain(d, NO_ANSWER, "a page is no text: send it to a file");
     fwrite(page, 1, sizeof page, d.out);

@@ -109,8 +109,9 @@ expect 2 "" "sheet: odd: no sheet: 65 bytes are not pages of 64" show 8 odd
 zeros30=000000000000000000000000000000000000000000000000000000000000
 packs "010000000000000001000000000000000000000000000000${zeros30}000001000000a3cb00a5" 8 1 opening
 packs "020200000300000001000000000000000a000000000000004142${zeros30}02000000541500a5" 8 2 image 3 1 0 10 AB
-no="sheet: no such page: ACTION is 1 or more and below PLACE; an image's NUMBER is 1 to FILES, its LINK below PLACE and its START 1 or more"
-expect 1 "" "$no" pack 8 2 committed 2
+no="sheet: no such page: NUMBER is 1 to FILES, ACTION 1 or more, START 1 or more; ACTION and LINK are below PLACE"
+expect 1 "" "sheet: no such page: ACTION is 1 or more, and below PLACE" pack 8 2 committed 2
+expect 1 "" "sheet: no such page: ACTION is 1 or more, and below PLACE" pack 8 2 aborted 0
 expect 1 "" "$no" pack 8 2 image 9 1 0 1 a
 expect 1 "" "$no" pack 8 2 image 4294967297 1 0 1 a
 expect 1 "" "$no" pack 8 2 image 1 1 0 0 a
