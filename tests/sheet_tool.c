@@ -58,7 +58,9 @@ static void fill_page(uint8_t *page, uint64_t place) {
         break;
     default:
         for (uint64_t i = 0; i < length; i++)
-            value[i] = (uint8_t)(below(3) ? 0x21 + below(0x5E) : below(256));
+            value[i] = (uint8_t)(below(9) ? 0x21 + below(0x5E) : below(256));
+        if (length > 1 && below(8) == 0)
+            value[0] = '0', value[1] = 'x'; /* as if it were hexadecimal */
         plain_pack(page, 2, (int)length, 1 + below(FILES), action, below(place), 1 + below(99), value, place);
     }
 }
@@ -80,7 +82,7 @@ static void fill(void) {
                 page[i] = (uint8_t)below(256);
     }
     if (below(6) == 0)
-        size = below(sizeof bytes + 1);
+        size = below(4) ? below(sizeof bytes + 1) : 0;
 }
 
 static int is_sheet(void) { return size > 0 && size % PAGE == 0; }

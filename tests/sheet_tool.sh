@@ -47,6 +47,7 @@ zeros 16384 >blank
 { "$tool" pack 8 1 opening; "$tool" pack 8 2 image 8 1 0 10 0x00ff20; "$tool" pack 8 3 aborted 1 | head -c 20; zeros 44; } >torn
 { "$tool" pack 8 1 opening; "$tool" pack 8 2 committed 1; "$tool" pack 8 3 aborted 1; } >twice
 { "$tool" pack 8 1 opening; zeros 64; "$tool" pack 8 3 opening; } >gap
+{ "$tool" pack 8 1 opening; "$tool" pack 8 2 image 1 1 0 1 0x; "$tool" pack 8 3 image 2 1 0 1 0x3078; } >values
 { zeros 63; } >short
 { zeros 65; } >odd
 : >empty
@@ -99,6 +100,9 @@ expect 0 "1: opening
 expect 1 "1: opening
 2: unfit
 3: torn" "" show 7 torn
+expect 0 "1: opening
+2: image, file 1, action 1, link 0, start 1, value 0x
+3: image, file 2, action 1, link 0, start 1, value 0x3078" "" show 8 values
 expect 1 "1: opening
 2: blank
 3: opening" "" show 8 gap
