@@ -10,7 +10,8 @@ use std::process::{Command, Stdio};
 pub fn program_answers(program: &str, list: &List) -> Result<Vec<String>, String> {
     let mut input = list.lines.join(&b'\n');
     // without its newline an empty last line is no line
-    if list.ends_in_newline || input.is_empty() || input.ends_with(b"\n") {
+    let needs_newline = list.ends_in_newline || input.is_empty() || input.ends_with(b"\n");
+    if needs_newline && !list.lines.is_empty() {
         input.push(b'\n');
     }
     let spawned = Command::new(program).stdin(Stdio::piped()).stdout(Stdio::piped()).spawn();
@@ -98,6 +99,14 @@ fn cut_down(program: &str, mut list: List, at: usize) -> List {
     list
 }
 
+/// A line that can be printed; of one that is above a command's length, the beginning.
+fn printable(line: &[u8]) -> String {
+    match line.len() {
+        n if n > 300 => format!("{}... ({} bytes)", line[..40].escape_ascii(), n),
+        _ => line.escape_ascii().to_string(),
+    }
+}
+
 fn show(program: &str, list: &List) {
     let expected = answers(&list.lines);
     let got = program_answers(program, list);
@@ -106,7 +115,7 @@ fn show(program: &str, list: &List) {
         let mine = &expected[i];
         let its = got.as_ref().ok().and_then(|lines| lines.get(i)).map_or("(nothing)", String::as_str);
         let mark = if mine == its { " " } else { "*" };
-        println!("{} {:<40} {:<24} {}", mark, line.escape_ascii().to_string(), mine, its);
+        println!("{} {:<40} {:<24} {}", mark, printable(line), mine, its);
     }
     match got {
         Err(why) => println!("{}", why),

@@ -19,13 +19,18 @@ struct Author {
     hurries: bool, // to a full sheet
 }
 
+/// A conversation of some hundreds of lines.
 pub fn list(seed: u64) -> List {
+    let hurries = Random::new(seed).once_in(4);
+    let length = if hurries { 500 } else { 100 } + Random::new(seed).below(400);
+    list_of(seed, length, hurries)
+}
+
+pub fn list_of(seed: u64, length: u64, hurries: bool) -> List {
     let mut random = Random::new(seed);
     let files = random.pick(&[8, 8, 8, 1, 2, 3, 40, MOST_FILES]);
     let cuts = random.pick(&[8, 15, 40, 200]);
     let noise = random.pick(&[10, 30, 30, 100]);
-    let hurries = random.once_in(4);
-    let length = if hurries { 500 } else { 100 } + random.below(400);
     let mut author = Author { random, desk: Desk::default(), files, cuts, noise, hurries };
     let lines = (0..length).map(|_| author.next_line()).collect();
     List { lines, ends_in_newline: !author.random.once_in(4) }
@@ -203,7 +208,7 @@ impl Author {
 
     /// Zeros before the last word, so that the line has 255 or 256 bytes or some more.
     fn stretched(&mut self, line: Vec<u8>) -> Vec<u8> {
-        let length = self.random.pick(&[255, 255, 256, 257, 300, 700]);
+        let length = self.random.pick(&[255, 255, 256, 257, 300, 511, 512, 513, 700, 4096, 4097]);
         let at = line.iter().rposition(|byte| *byte == b' ').map_or(line.len(), |i| i + 1);
         let zeros = vec![b'0'; usize::saturating_sub(length, line.len())];
         [&line[..at], &zeros, &line[at..]].concat()

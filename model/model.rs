@@ -84,12 +84,26 @@ fn check_points(program: &str, tally: &mut Tally) {
     }
 }
 
+/// Lines of many lengths, as the last of an input, with its newline and without.
+fn check_lengths(program: &str) -> bool {
+    let lengths = [1, 2, 6, 254, 255, 256, 257, 511, 512, 513, 4095, 4096, 4097, 65_536, 200_000];
+    let long = |length: usize| [b"cut ", &vec![b'0'; length.saturating_sub(4)][..]].concat()[..length].to_vec();
+    let both = [true, false];
+    let ends = |ends_in_newline: bool| {
+        let list = |lines: Vec<Vec<u8>>| compare::agree(program, List { lines, ends_in_newline });
+        list(vec![]) && lengths.iter().all(|n| list(vec![long(*n)]) && list(vec![b"open".to_vec(), long(*n), b"begin".to_vec()]))
+    };
+    both.iter().all(|newline| ends(*newline))
+}
+
 fn check(program: &str, seed: u64, commands: u64) -> bool {
     let mut tally = Tally { passed: 0, failed: 0 };
     let mut counts = BTreeMap::new();
     let (mut done, mut conversations, mut alike) = (0, 0, true);
     println!("seed {}", seed);
     check_points(program, &mut tally);
+    tally.tell("lines of 0 to 200,000 bytes", check_lengths(program));
+    tally.tell("a conversation of 30,000 lines", compare::agree(program, lists::list_of(seed, 30_000, false)));
     while alike && done < commands {
         let list = lists::list(seed.wrapping_add(conversations));
         done += list.lines.len() as u64;
