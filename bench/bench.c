@@ -317,7 +317,7 @@ static void time_sqlite(void) {
             {"read, link by link", run_past, LINKS, (int64_t)(pages - back), 0, 0, {0}, READS},
             {"SQLite: select by file and start", run_past_sqlite, LINKS, (int64_t)(pages - back), 0, 0, {0}, READS},
         };
-        snprintf(title, sizeof title, "a read %llu versions back, of 4,095", (unsigned long long)back);
+        snprintf(title, sizeof title, "a read %llu back, of 4,095 versions", (unsigned long long)back);
         TABLE(title, past, pages, 20, 1);
     }
 }
