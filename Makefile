@@ -1,13 +1,40 @@
-# make        proves every crate and builds what there is to build; there is no program to start yet
-# make test   the gate: all of it from nothing, and the tests outside Rattle
-# make bench  times, side by side with plain C
-.PHONY: all test bench clean
+# make             proves every crate, and builds the tool, the model and the library for C, in build/ and target/
+# make test        the gate: all of it from nothing, and the tests outside Rattle
+# make check-long  the model beside the program for some minutes, from a new seed; SEED= and COMMANDS= choose others
+# make bench       times, side by side with plain C and with SQLite
+.PHONY: all test check-long bench clean
 
-all:
+LIBRARY = target/staticlib/libdesk.a
+SOURCES = $(shell find crates -name '*.rt')
+COMMANDS = 20000000
+
+all: build/sheet build/model build/model-pages
 	rt check
+
+$(LIBRARY): $(SOURCES)
+	rt staticlib desk
+
+build/sheet: c/sheet.c c/desk.h $(LIBRARY)
+	@mkdir -p build
+	gcc -std=c11 -O2 -Wall -Wextra -Werror -o $@ c/sheet.c $(LIBRARY)
+
+build/model: $(wildcard model/*.rs)
+	@mkdir -p build
+	rustc -O --edition 2021 -D warnings -o $@ model/model.rs
+
+build/model-pages: $(wildcard model/*.rs) $(LIBRARY)
+	@mkdir -p build
+	rustc -O --edition 2021 -D warnings -L $(dir $(LIBRARY)) -l static=desk -o $@ model/pages.rs
+
+target/bin/console: $(SOURCES)
+	rt check console
 
 test:
 	.ci/run
+
+check-long: build/model build/model-pages target/bin/console
+	build/model check target/bin/console $(or $(SEED),$(shell date +%s)) $(COMMANDS)
+	build/model-pages $(or $(SEED),$(shell date +%s)) $(shell expr $(COMMANDS) / 4)
 
 bench:
 	bench/run

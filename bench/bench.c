@@ -1,11 +1,12 @@
-/* Times the store's layers, beside the plain check word loop and beside each other, in one run. The loops over the pages are
-   Rattle's own (crates/bench). The rows of a table take turns, and each keeps its best round, so that a busy machine troubles
-   all alike. */
+/* Times the store's layers, beside the plain check word loop, beside SQLite and beside each other, in one run. The loops over
+   the pages are Rattle's own (crates/bench). The rows of a table take turns, and each keeps its best round, so that a busy
+   machine troubles all alike. */
 #include <stdio.h>
 #include <stdlib.h>
 #include <time.h>
 #include <unistd.h>
 #include "../tests/plain.h"
+#include "sqlite.h"
 
 uint64_t bench_test(const uint8_t *sheet, size_t size, uint64_t files);
 uint64_t bench_seek(const uint8_t *sheet, size_t size, uint64_t files, uint64_t file);
@@ -25,7 +26,7 @@ uint64_t call_read(const uint8_t *sheet, size_t size, const uint8_t *fates, size
 uint64_t call_commit(uint8_t *sheet, size_t size, uint8_t *fates, size_t pages, uint64_t *rows, size_t numbers, STATE action,
                      uint64_t which);
 
-enum { FILES = 256, NEWEST = 254, OLDEST = 255, ABSENT = 256, USED = 28, MOST = 65536 };
+enum { FILES = 256, NEWEST = 254, OLDEST = 255, ABSENT = 256, USED = 28, MOST = 65536, READS = 64 };
 static const uint8_t value[32] = "opens at eight, shuts at six";
 static const uint8_t none[32];
 
@@ -48,6 +49,15 @@ static uint64_t run_touch(struct sheet s) {
     uint64_t sum = 0;
     for (uint64_t p = s.pages; p > 0; p--)
         sum += *(volatile uint8_t *)(s.bytes + PAGE * (p - 1));
+    return sum;
+}
+/* Every byte, eight at a time. */
+static uint64_t run_bytes(struct sheet s) {
+    uint64_t sum = 0, word;
+    for (size_t i = 0; i < PAGE * s.pages; i += sizeof word) {
+        memcpy(&word, s.bytes + i, sizeof word);
+        sum += word;
+    }
     return sum;
 }
 static uint64_t run_test(struct sheet s) { return bench_test(s.bytes, PAGE * s.pages, FILES); }
@@ -97,6 +107,16 @@ static uint64_t run_current(struct sheet s) {
 static uint64_t run_links(struct sheet s) {
     return call_read(s.bytes, PAGE * s.pages, s.fates, s.pages, s.numbers, 5 * FILES, s.pages, 0, 0, 1, 0, 0, 0);
 }
+/* So many reads of file 1, each at a time that lies some versions back. */
+static uint64_t back;
+static uint64_t run_past(struct sheet s) {
+    uint64_t start = 0;
+    for (int k = 0; k < READS; k++)
+        start = call_read(s.bytes, PAGE * s.pages, s.fates, s.pages, s.numbers, 5 * FILES, s.pages, 0, 0, 1, s.pages - back, 0, 2);
+    return start;
+}
+static uint64_t run_past_sqlite(struct sheet s) { return sqlite_read(READS, s.pages - back); }
+static uint64_t run_act_sqlite(struct sheet s) { return sqlite_act(s.pages / 4, 8, value, USED); }
 /* A commit that settles a token of every file, and the outcome, fate and rows put back. */
 static uint64_t run_commit(struct sheet s) {
     for (uint64_t f = 0; f < FILES; f++) {
@@ -193,28 +213,37 @@ static void time_row(struct row *row, int turns) {
     }
 }
 
+static void show_progress(const char *title, int round, int rounds) {
+    if (isatty(2))
+        fprintf(stderr, "\r%s: round %d of %d ", title, round, rounds);
+    else if (round == 1)
+        fprintf(stderr, "%s: %d rounds\n", title, rounds);
+    if (isatty(2) && round == rounds)
+        fprintf(stderr, "\r%70s\r", "");
+}
+
+static void show_row(const struct row *row, double first) {
+    double ratio = row->best / first;
+    printf("  %-38s %10.2f %8.3f", row->what, row->best, ratio);
+    if (row->reach > 0)
+        printf(" %8.2f%s", row->reach, ratio <= row->reach ? "" : " missed");
+    printf("\n");
+}
+
 /* One table: the rows in turn, round after round, on sheets of so many pages. Ratios are to the first row. */
 static void table(const char *title, struct row *rows, int count, uint64_t pages, int rounds, int turns) {
-    int shown = isatty(2);
     for (int i = 0; i < count; i++) {
         rows[i].best = 1e18;
         rows[i].sheet = filled(rows[i].fill, pages);
     }
     for (int r = 1; r <= rounds; r++) {
+        show_progress(title, r, rounds);
         for (int i = 0; i < count; i++)
             time_row(&rows[i], turns);
-        if (shown)
-            fprintf(stderr, "\r%s: round %d of %d ", title, r, rounds);
     }
-    if (shown)
-        fprintf(stderr, "\r%70s\r", "");
     printf("%-40s %10s %8s %8s\n", title, "ns each", "ratio", "reach");
     for (int i = 0; i < count; i++) {
-        double ratio = rows[i].best / rows[0].best;
-        printf("  %-38s %10.2f %8.3f", rows[i].what, rows[i].best, ratio);
-        if (rows[i].reach > 0)
-            printf(" %8.2f%s", rows[i].reach, ratio <= rows[i].reach ? "" : " missed");
-        printf("\n");
+        show_row(&rows[i], rows[0].best);
         free(rows[i].sheet.bytes);
         free(rows[i].sheet.fates);
         free(rows[i].sheet.numbers);
@@ -222,7 +251,9 @@ static void table(const char *title, struct row *rows, int count, uint64_t pages
     fflush(stdout);
 }
 
-int main(void) {
+#define TABLE(title, rows, pages, rounds, turns) table(title, rows, sizeof rows / sizeof *rows, pages, rounds, turns)
+
+static void time_page(void) {
     struct row page[] = {
         {"plain check word of 60 bytes in C", run_word, IMAGES, -1, 0, 0, {0}, 0},
         {"page test, image", run_test, IMAGES, -2, 0.15, 0, {0}, 0},
@@ -231,7 +262,12 @@ int main(void) {
         {"page test, torn", run_test, TORN, 0, 0, 0, {0}, 0},
         {"quick look, another file's image", run_seek, IMAGES, 0, 0.02, 0, {0}, 0},
         {"pack, image", run_pack, BLANK, 1023, 0.20, 0, {0}, 0},
+        {"its 64 bytes read in C", run_bytes, IMAGES, -1, 0, 0, {0}, 0},
     };
+    TABLE("the page, 1,024 pages", page, 1024, 200, 8);
+}
+
+static void time_recovery(void) {
     struct row recovery[] = {
         {"page test", run_test, ACTIONS, -2, 0, 0, {0}, 0},
         {"open", run_open, ACTIONS, -2, 1.3, 0, {0}, 0},
@@ -240,8 +276,17 @@ int main(void) {
         {"rebuild, image oldest", run_oldest, ACTIONS, 2, 0, 0, {0}, 0},
         {"rebuild, file absent", run_absent, ACTIONS, 0, 0.1, 0, {0}, 0},
         {"one byte of each page read in C", run_touch, ACTIONS, -1, 0, 0, {0}, 0},
+        {"every byte read once in C", run_bytes, ACTIONS, -1, 0, 0, {0}, 0},
     };
-    /* the unit is a page, an action, a read, a link or a file */
+    for (uint64_t pages = 256; pages <= MOST; pages *= 4) {
+        char title[64];
+        snprintf(title, sizeof title, "recovery, %llu pages", (unsigned long long)pages);
+        TABLE(title, recovery, pages, pages > 4096 ? 20 : 100, (int)(1 + 16384 / pages));
+    }
+}
+
+/* The unit is a page, an action, a read, a link or a file. */
+static void time_calls(void) {
     struct row calls[] = {
         {"page test", run_test, IMAGES, -2, 0, 0, {0}, 0},
         {"begin, 2 writes, commit; 8 files", run_act_few, BLANK, 256, 16, 0, {0}, 256},
@@ -250,12 +295,37 @@ int main(void) {
         {"read by 1,022 links, a link", run_links, LINKS, 5, 2, 0, {0}, 1022},
         {"commit that settles 256 rows, a row", run_commit, TOKENS, 1, 0, 0, {0}, FILES},
     };
-    table("the page, 1,024 pages", page, sizeof page / sizeof *page, 1024, 200, 8);
-    for (uint64_t pages = 256; pages <= MOST; pages *= 4) {
-        char title[64];
-        snprintf(title, sizeof title, "recovery, %llu pages", (unsigned long long)pages);
-        table(title, recovery, sizeof recovery / sizeof *recovery, pages, pages > 4096 ? 20 : 100, (int)(1 + 16384 / pages));
+    TABLE("the calls, 1,024 pages", calls, 1024, 100, 8);
+}
+
+/* The same work by the store and by SQLite: an action over two of 8 files, and a read of a version some versions back. */
+static void time_sqlite(void) {
+    char title[64];
+    for (uint64_t pages = 256; pages <= 16384; pages *= 8) {
+        uint64_t actions = pages / 4;
+        struct row act[] = {
+            {"begin, 2 writes, commit", run_act_few, BLANK, (int64_t)actions, 0, 0, {0}, actions},
+            {"SQLite: begin, 2 inserts, commit", run_act_sqlite, BLANK, (int64_t)actions, 0, 0, {0}, actions},
+        };
+        snprintf(title, sizeof title, "%llu actions over two files", (unsigned long long)actions);
+        TABLE(title, act, pages, 20, 1);
     }
-    table("the calls, 1,024 pages", calls, sizeof calls / sizeof *calls, 1024, 100, 8);
+    uint64_t pages = 4096;
+    sqlite_fill(pages - 1, value, USED);
+    for (back = 1; back <= 1000; back *= 10) {
+        struct row past[] = {
+            {"read, link by link", run_past, LINKS, (int64_t)(pages - back), 0, 0, {0}, READS},
+            {"SQLite: select by file and start", run_past_sqlite, LINKS, (int64_t)(pages - back), 0, 0, {0}, READS},
+        };
+        snprintf(title, sizeof title, "a read %llu back, of 4,095 versions", (unsigned long long)back);
+        TABLE(title, past, pages, 20, 1);
+    }
+}
+
+int main(void) {
+    time_page();
+    time_recovery();
+    time_calls();
+    time_sqlite();
     return 0;
 }

@@ -1,0 +1,72 @@
+/* The schedule store's three functions for the desk: packing a page, testing a page, inspecting a sheet.
+
+   A sheet is a run of pages of 64 bytes. A page's number, counted from 1, is its place. The file count is the number of locks
+   that the sheet is for.
+
+   All three take any numbers and any bytes: nothing need be tested before a call. Each pointer must lead to as many elements
+   as the count after it says, and what a call writes must not overlap with what it reads. They keep nothing between calls and
+   allocate nothing, so that any thread may call them at any time. Link with libdesk.a. */
+#ifndef DESK_H
+#define DESK_H
+
+#include <stddef.h>
+#include <stdint.h>
+
+#ifdef __cplusplus
+extern "C" {
+#endif
+
+enum {
+    DESK_PAGE = 64,          /* bytes of a page */
+    DESK_VALUE = 32,         /* bytes of a page's value, the zeros after it included */
+    DESK_FIELDS = 6,         /* numbers of a page: kind, small, file, action, link, start */
+    DESK_MOST_PAGES = 65536, /* pages of the longest sheet */
+    DESK_MOST_FILES = 256
+};
+
+/* The first field. */
+enum { DESK_OPENING = 1, DESK_IMAGE = 2, DESK_OUTCOME = 3 };
+
+/* Packs a page into the 64 bytes at out.
+
+   kind     1 opening, 2 image, 3 outcome
+   small    0 in an opening, the value's length (0 to 32) in an image, 1 committed or 2 aborted in an outcome
+   file     1 to files in an image, else 0
+   action   the opening's own place; in an image or outcome the place, below its own, of its opening
+   link     in an image the place, below its own, of the version before it, or 0; else 0
+   start    1 or more in an image, else 0
+   value    32 bytes, zeros from the value's length on
+   place    the page's own
+   files    the file count
+
+   DESK_PACKED        the page is written
+   DESK_PACK_REFUSED  value_len is not 32, out_len not 64, place not 1 to 65,536 or files not 1 to 256
+   DESK_NO_SUCH_PAGE  no page has these fields
+   Unless DESK_PACKED is answered, out is untouched. */
+uint64_t desk_pack(uint64_t kind, uint64_t small, uint64_t file, uint64_t action, uint64_t link, uint64_t start,
+                   const uint8_t *value, size_t value_len, uint64_t place, uint64_t files, uint8_t *out, size_t out_len);
+enum { DESK_PACKED = 0, DESK_PACK_REFUSED = 1, DESK_NO_SUCH_PAGE = 2 };
+
+/* Tests the page that stands at a place, alone: it is not asked whether the action that it names is there.
+
+   DESK_FITS          the page is whole; its six numbers are at fields, in desk_pack's order; its value is at part + 24
+   DESK_TEST_REFUSED  part_len is not 64, fields_len not 6, place not 1 to 65,536 or files not 1 to 256
+   DESK_UNFIT         none of the others
+   DESK_BLANK         all bytes are 0
+   DESK_TORN          the supply was cut while it was stored
+   Unless DESK_FITS is answered, fields are untouched. */
+uint64_t desk_test(const uint8_t *part, size_t part_len, uint64_t place, uint64_t files, uint64_t *fields, size_t fields_len);
+enum { DESK_FITS = 0, DESK_TEST_REFUSED = 1, DESK_UNFIT = 2, DESK_BLANK = 3, DESK_TORN = 4 };
+
+/* Inspects a sheet: one pass, in a time that grows with its pages alone.
+
+   0             the sheet is lawful: what the store can have written
+   1 to 65,536   the lowest place whose page is bad or does not go on from those below it
+   DESK_REFUSED  sheet_len is not a multiple of 64 from 64 to 4,194,304, or files not 1 to 256 */
+uint64_t desk_inspect(const uint8_t *sheet, size_t sheet_len, uint64_t files);
+#define DESK_REFUSED UINT64_MAX
+
+#ifdef __cplusplus
+}
+#endif
+#endif

@@ -1,0 +1,228 @@
+//! The store as document 01 tells it, at the level of histories: each file has its versions and at most one token, each action
+//! a fate, and every append uses up one place. There are no bytes here, no rows and no links.
+
+use std::collections::BTreeMap;
+
+pub const PAGES: u64 = 256;
+pub const MOST_FILES: u64 = 256;
+const LONGEST_VALUE: usize = 32;
+
+#[derive(Clone, Copy, PartialEq)]
+pub enum Fate {
+    Undecided = 1,
+    Committed = 2,
+    Aborted = 3,
+}
+
+#[derive(Clone)]
+pub struct Version {
+    pub place: u64,
+    pub start: u64,
+    pub value: Vec<u8>,
+}
+
+pub struct Token {
+    pub action: u64,
+    pub version: Version,
+}
+
+#[derive(Default)]
+pub struct File {
+    pub versions: Vec<Version>, // oldest first
+    pub token: Option<Token>,
+}
+
+impl File {
+    pub fn newest_start(&self) -> u64 {
+        self.versions.last().map_or(0, |version| version.start)
+    }
+
+    fn has_token_of(&self, action: u64) -> bool {
+        matches!(&self.token, Some(token) if token.action == action)
+    }
+
+    fn at(&self, time: u64) -> Option<&Version> {
+        self.versions.iter().rev().find(|version| version.start <= time)
+    }
+}
+
+/// What stays when the supply is cut.
+#[derive(Default)]
+pub struct Sheet {
+    pub used: u64, // places, torn ones included
+    pub fates: BTreeMap<u64, Fate>,
+    pub files: BTreeMap<u64, File>,
+    images: Vec<(u64, u64)>, // the place and file of every image, those of aborted actions included
+}
+
+/// What goes: the numbers of an opening, and the latest times that were read since.
+pub struct Session {
+    pub files: u64,
+    pub floor: u64,
+    seen: BTreeMap<u64, u64>,       // a file's newest version, or its empty history
+    seen_token: BTreeMap<u64, u64>, // a file's token
+}
+
+/// One append.
+pub enum Change {
+    Opening,
+    Image { file: u64, start: u64, action: u64, value: Vec<u8> },
+    Outcome { action: u64, fate: Fate },
+}
+
+/// A refusal's number and place.
+#[derive(Clone, Copy, PartialEq)]
+pub struct Refusal(pub u64, pub u64);
+
+fn refused<T>(number: u64) -> Result<T, Refusal> {
+    Err(Refusal(number, 0))
+}
+
+impl Sheet {
+    pub fn undecided(&self) -> u64 {
+        self.fates.values().filter(|fate| **fate == Fate::Undecided).count() as u64
+    }
+
+    pub fn open(&self, files: u64, floor: u64) -> Result<Session, Refusal> {
+        if !(1..=MOST_FILES).contains(&files) {
+            return refused(1);
+        }
+        if let Some((place, _)) = self.images.iter().rev().find(|(_, file)| *file > files) {
+            return Err(Refusal(2, *place));
+        }
+        Ok(Session { files, floor, seen: BTreeMap::new(), seen_token: BTreeMap::new() })
+    }
+
+    /// Stores a whole page: what it says holds from now on.
+    pub fn store(&mut self, change: Change) -> u64 {
+        self.used += 1;
+        let place = self.used;
+        match change {
+            Change::Opening => {
+                self.fates.insert(place, Fate::Undecided);
+            }
+            Change::Image { file, start, action, value } => {
+                self.images.push((place, file));
+                let version = Version { place, start, value };
+                self.files.entry(file).or_default().token = Some(Token { action, version });
+            }
+            Change::Outcome { action, fate } => self.decide(action, fate),
+        }
+        place
+    }
+
+    fn decide(&mut self, action: u64, fate: Fate) {
+        self.fates.insert(action, fate);
+        for file in self.files.values_mut() {
+            if file.has_token_of(action) {
+                let token = file.token.take();
+                if fate == Fate::Committed {
+                    file.versions.extend(token.map(|token| token.version));
+                }
+            }
+        }
+    }
+
+    pub fn test(&self, action: u64) -> Result<Fate, Refusal> {
+        self.fates.get(&action).copied().ok_or(Refusal(5, 0))
+    }
+
+    fn is_undecided(&self, action: u64) -> Result<(), Refusal> {
+        match self.test(action)? {
+            Fate::Undecided => Ok(()),
+            _ => refused(6),
+        }
+    }
+
+    fn has_room(&self, need: u64) -> Result<(), Refusal> {
+        if PAGES - self.used < need {
+            return refused(11);
+        }
+        Ok(())
+    }
+
+    pub fn begin(&self) -> Result<Change, Refusal> {
+        self.has_room(self.undecided() + 2)?;
+        Ok(Change::Opening)
+    }
+
+    pub fn decision(&self, action: u64, fate: Fate) -> Result<Change, Refusal> {
+        self.is_undecided(action)?;
+        self.has_room(1)?;
+        Ok(Change::Outcome { action, fate })
+    }
+
+    pub fn write(&self, now: &Session, file: u64, start: u64, action: u64, value: &[u8]) -> Result<Change, Refusal> {
+        now.has_file(file)?;
+        if value.len() > LONGEST_VALUE {
+            return refused(4);
+        }
+        self.is_undecided(action)?;
+        if let Some(token) = self.files.get(&file).and_then(|f| f.token.as_ref()) {
+            return Err(Refusal(8, token.action));
+        }
+        if start <= now.end_of(self, file).max(now.floor) {
+            return refused(10);
+        }
+        self.has_room(self.undecided() + 1)?;
+        Ok(Change::Image { file, start, action, value: value.to_vec() })
+    }
+
+    /// The version that a time shows; the session keeps that it was asked.
+    pub fn read(&self, now: &mut Session, file: u64, time: u64, action: u64) -> Result<Option<Version>, Refusal> {
+        now.has_file(file)?;
+        if action != 0 {
+            self.is_undecided(action)?;
+        }
+        let empty = File::default();
+        let history = self.files.get(&file).unwrap_or(&empty);
+        if let Some(token) = history.token.as_ref().filter(|token| token.version.start <= time) {
+            if token.action != action {
+                return Err(Refusal(9, token.action));
+            }
+            now.see_token(file, time);
+            return Ok(Some(token.version.clone()));
+        }
+        if time >= history.newest_start() {
+            now.see(file, time);
+        }
+        Ok(history.at(time).cloned())
+    }
+}
+
+impl Session {
+    fn has_file(&self, file: u64) -> Result<(), Refusal> {
+        if !(1..=self.files).contains(&file) {
+            return refused(3);
+        }
+        Ok(())
+    }
+
+    /// A file's current end: its newest start, or the latest time read there.
+    pub fn end_of(&self, sheet: &Sheet, file: u64) -> u64 {
+        let start = sheet.files.get(&file).map_or(0, File::newest_start);
+        start.max(self.seen.get(&file).copied().unwrap_or(0))
+    }
+
+    fn see(&mut self, file: u64, time: u64) {
+        let latest = self.seen.entry(file).or_insert(0);
+        *latest = time.max(*latest);
+    }
+
+    fn see_token(&mut self, file: u64, time: u64) {
+        let latest = self.seen_token.entry(file).or_insert(0);
+        *latest = time.max(*latest);
+    }
+
+    /// To be told before an outcome is stored: what was read of a token is now read of the version, or of nothing.
+    pub fn settle(&mut self, sheet: &Sheet, action: u64, fate: Fate) {
+        for (file, history) in &sheet.files {
+            if history.has_token_of(action) {
+                let latest = self.seen_token.remove(file).unwrap_or(0);
+                if fate == Fate::Committed {
+                    self.seen.insert(*file, latest);
+                }
+            }
+        }
+    }
+}

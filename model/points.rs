@@ -1,0 +1,85 @@
+//! Conversations whose answers document 01 fixes: its listing, its points, and places that are easily read otherwise. Slashes
+//! part lines, as in 01; `~` stands for a byte that a source line does not show.
+
+pub struct Point {
+    pub what: &'static str,
+    pub input: &'static str,
+    pub output: &'static str,
+}
+
+pub const POINTS: &[Point] = &[
+    Point {
+        what: "the listing of 01",
+        input: "open / begin / write 3 10 1 AB / read 3 10 0 / read 3 9 0 / commit 1 / read 3 10 0 / begin / write 3 12 4 CD / \
+                cut 20 / commit 4 / open / test 4 / read 3 11 0 / abort 4 / read 3 12 0",
+        output: "open 0 0 / begin 1 / write 2 / no 9 1 / none / commit 3 / read 2 10 AB / begin 4 / write 5 / cut 20 / lost / \
+                 open 6 1 / test 1 / read 2 10 AB / abort 7 / read 2 10 AB",
+    },
+    Point {
+        what: "values of 32 and 33 bytes",
+        input: "open / begin / write 1 1 1 12345678901234567890123456789012 / write 2 1 1 123456789012345678901234567890123",
+        output: "open 0 0 / begin 1 / write 2 / no 4 0",
+    },
+    Point {
+        what: "files 1 and 8 of 8, not 0 and 9",
+        input: "open / begin / write 1 1 1 a / write 8 1 1 a / write 0 1 1 a / write 9 1 1 a / read 0 1 1 / read 9 1 1",
+        output: "open 0 0 / begin 1 / write 2 / write 3 / no 3 0 / no 3 0 / no 3 0 / no 3 0",
+    },
+    Point {
+        what: "a start at the current end, and above",
+        input: "open / begin / write 1 10 1 a / commit 1 / begin / write 1 10 4 b / write 1 11 4 b",
+        output: "open 0 0 / begin 1 / write 2 / commit 3 / begin 4 / no 10 0 / write 5",
+    },
+    Point {
+        what: "an empty file read at the last time",
+        input: "open / read 1 18446744073709551615 0 / begin / write 1 18446744073709551615 1 a / open / \
+                write 1 18446744073709551615 1 a",
+        output: "open 0 0 / none / begin 1 / no 10 0 / open 1 1 / write 2",
+    },
+    Point {
+        what: "a second commit",
+        input: "open / begin / commit 1 / commit 1 / abort 1 / test 1",
+        output: "open 0 0 / begin 1 / commit 2 / no 6 0 / no 6 0 / test 2",
+    },
+    Point {
+        what: "what an action reads of its own token goes with it",
+        input: "open / begin / write 2 10 1 a / read 2 50 1 / abort 1 / begin / write 2 10 4 b",
+        output: "open 0 0 / begin 1 / write 2 / read 2 10 a / abort 3 / begin 4 / write 5",
+    },
+    Point {
+        what: "what an action reads of its own token stays if it commits",
+        input: "open / begin / write 2 10 1 a / read 2 50 1 / commit 1 / begin / write 2 50 4 b / write 2 51 4 b",
+        output: "open 0 0 / begin 1 / write 2 / read 2 10 a / commit 3 / begin 4 / no 10 0 / write 5",
+    },
+    Point {
+        what: "both files of a cut action, or none",
+        input: "open / begin / write 1 5 1 till / write 2 5 1 float / cut 63 / commit 1 / open / read 1 4 0 / read 1 5 0 / \
+                read 2 5 0 / cut 64 / commit 1 / open / read 1 5 0 / read 2 5 0",
+        output: "open 0 0 / begin 1 / write 2 / write 3 / cut 63 / lost / open 4 1 / none / no 9 1 / no 9 1 / cut 64 / lost / \
+                 open 5 0 / read 2 5 till / read 3 5 float",
+    },
+    Point {
+        what: "a cut waits, is replaced, and is used up by an append alone",
+        input: "cut 5 / cut 65 / cut 0 / open / read 1 1 0 / commit 9 / begin / begin / open / begin",
+        output: "cut 5 / what / cut 0 / open 0 0 / none / no 5 0 / lost / closed / open 0 0 / begin 1",
+    },
+    Point {
+        what: "fewer files than there are images of",
+        input: "open 8 0 / begin / write 8 1 1 a / abort 1 / open 7 0 / begin / open 256 0 / open 257 0 / test 1 / open 0 0",
+        output: "open 0 0 / begin 1 / write 2 / abort 3 / no 2 2 / closed / open 3 0 / no 1 0 / closed / no 1 0",
+    },
+    Point {
+        what: "grammar before state",
+        input: "begin x / begin / open 8 / open  8 0 /  open / open  / OPEN / open 8 -0 / open 8 +0 / / read 1 1 / \
+                test 18446744073709551616 / test 18446744073709551615 / open 0008 00 / test 4294967297 / write 1 1 1 / \
+                write 1 1 1 a b / write 1 1 1 ~ / cut 064",
+        output: "what / closed / what / what / what / what / what / what / what / what / what / what / closed / open 0 0 / \
+                 no 5 0 / what / what / what / cut 64",
+    },
+];
+
+/// A text of points as lines; `~` becomes the byte 7F hex, which no text may have.
+pub fn lines(text: &str) -> Vec<Vec<u8>> {
+    let byte = |b: u8| if b == b'~' { 0x7F } else { b };
+    text.split(" /").map(|line| line.strip_prefix(' ').unwrap_or(line).bytes().map(byte).collect()).collect()
+}
