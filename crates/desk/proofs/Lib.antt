@@ -8,3 +8,4 @@ pub mod Talk
 pub mod Exported
 pub mod Samples
 pub mod ReadBack
+pub mod Pointed

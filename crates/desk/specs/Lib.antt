@@ -6,3 +6,4 @@ pub mod PrintSteps
 pub mod Conversation
 pub mod Turns
 pub mod Exports
+pub mod Points
