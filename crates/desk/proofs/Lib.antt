@@ -1,11 +1,3 @@
-pub mod Numerals
-pub mod Lines
-pub mod Counted
-pub mod Decimal
-pub mod Putting
-pub mod Text
 pub mod Talk
 pub mod Exported
-pub mod Samples
-pub mod ReadBack
 pub mod Pointed

@@ -17,18 +17,18 @@ use Rattle.page.specs.Answers.{valueIn}
 use Rattle.recovery.specs.Sheet.{pageBytes}
 use Rattle.recovery.proofs.Pages.{part-is}
 use Rattle.recovery.proofs.Lookups.{is-file}
-use Rattle.desk.specs.Commands.{parsed}
-use Rattle.desk.specs.Replies.{prints}
+use Rattle.lines.specs.Commands.{parsed}
+use Rattle.lines.specs.Replies.{prints}
 use Rattle.recovery.specs.declared.Done.{Done}
 use Rattle.recovery.specs.Lent.{Left, leftBy, rowLength, closed, openLeaves}
 use Rattle.recovery.specs.World.{isFile}
 use Rattle.recovery.specs.Numbers.{isRefused}
 use Rattle.recovery.specs.declared.State.{State}
-use Rattle.desk.specs.declared.printing.Reply as reply
-use Rattle.desk.specs.declared.printing.Reply.{Reply}
-use Rattle.desk.specs.declared.parsing.Command as command
+use Rattle.lines.specs.declared.printing.Reply as reply
+use Rattle.lines.specs.declared.printing.Reply.{Reply}
+use Rattle.lines.specs.declared.parsing.Command as command
 use Rattle.calls.specs.Effect.{callLeaves}
-use Rattle.desk.specs.declared.parsing.Command.{Command}
+use Rattle.lines.specs.declared.parsing.Command.{Command}
 use Rattle.desk.specs.declared.conversation.Desk.{Desk}
 use Rattle.desk.specs.declared.conversation.Turn.{Turn}
 use Rattle.desk.specs.Conversation.{sheetSize, callOf, replyOf, answered, lost, actedBy, acted, openedBy, openedFor, lending, replied, isOpen, calledFor, startedFor, conversed, After, shownPlace, shown, isSetUp, spoken, saidTo}

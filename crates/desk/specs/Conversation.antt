@@ -16,15 +16,15 @@ use Rattle.recovery.specs.Lent.{Left, rowLength, closed, openLeaves}
 use Rattle.calls.specs.Calls as call
 use Rattle.calls.specs.Calls.{Call}
 use Rattle.calls.specs.Effect.{callLeaves}
-use Rattle.desk.specs.declared.parsing.Command as command
-use Rattle.desk.specs.declared.parsing.Command.{Command}
-use Rattle.desk.specs.declared.printing.Reply as reply
-use Rattle.desk.specs.declared.printing.Reply.{Reply}
+use Rattle.lines.specs.declared.parsing.Command as command
+use Rattle.lines.specs.declared.parsing.Command.{Command}
+use Rattle.lines.specs.declared.printing.Reply as reply
+use Rattle.lines.specs.declared.printing.Reply.{Reply}
 use Rattle.desk.specs.declared.conversation.Desk.{Desk}
 use Rattle.desk.specs.declared.conversation.Turn.{Turn}
 use Rattle.desk.specs.declared.conversation.Said.{Said}
-use Rattle.desk.specs.Commands.{parsed}
-use Rattle.desk.specs.Replies.{prints}
+use Rattle.lines.specs.Commands.{parsed}
+use Rattle.lines.specs.Replies.{prints}
 
 -- 256 pages
 abbrev pub sheetSize : ℕ

@@ -1,8 +1,3 @@
-pub mod Names
-pub mod Commands
-pub mod ParseSteps
-pub mod Replies
-pub mod PrintSteps
 pub mod Conversation
 pub mod Turns
 pub mod Exports

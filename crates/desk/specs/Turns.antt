@@ -5,9 +5,9 @@ use Rattle.desk.specs.declared.conversation.Turn.{Turn}
 use Rattle.desk.specs.declared.conversation.Said.{Said}
 use mathlib.Core.Bool.{true, false}
 use Rattle.recovery.specs.Lent.{closed}
-use Rattle.desk.specs.declared.printing.Reply as reply
+use Rattle.lines.specs.declared.printing.Reply as reply
 use Rattle.recovery.specs.declared.Done.{Done}
-use Rattle.desk.specs.declared.parsing.Command.{Command}
+use Rattle.lines.specs.declared.parsing.Command.{Command}
 use Rattle.desk.specs.declared.conversation.Desk.{Desk}
 use Rattle.desk.specs.Conversation.{After, Spoken, replyOf, sizeOf, noCut}
 

@@ -1,8 +1,8 @@
 // A conversation: commands, one a line, on one sheet.
-use crate::parsing::Command;
-use crate::parsing::parse;
-use crate::printing::Reply;
-use crate::printing::print;
+use lines::Command;
+use lines::Reply;
+use lines::parse;
+use lines::print;
 use page::Page;
 use recovery::Answer;
 use recovery::Done;
@@ -19,8 +19,8 @@ ghost use Rattle.recovery.specs.Sheet.{pageBytes};
 ghost use Rattle.recovery.specs.Lent.{leftBy, closed, rowLength};
 ghost use Rattle.calls.specs.Effect.{callLeaves};
 ghost use Rattle.desk.specs.Conversation.{sheetSize, callOf, storedBy, replyOf, sizeOf, acted, openedFor, startedFor, isOpen, calledFor, conversed, shownPlace, shown, firstDesk, isSetUp, saidTo};
-ghost use Rattle.desk.specs.Commands.{parsed};
-ghost use Rattle.desk.specs.Replies.{prints};
+ghost use Rattle.lines.specs.Commands.{parsed};
+ghost use Rattle.lines.specs.Replies.{prints};
 ghost use Rattle.desk.specs.Turns.{leftAfter, leftSaid, answeredTurn, lostTurn};
 
 // What the desk keeps from line to line, beside sheet, fates and rows: whether it has a state, for how many files, and after how many

@@ -1,8 +1,8 @@
 use Rattle.desk.proofs.Talk.{line-only, line-by, cut-said, call-said}
 use denote.Ref.{now}
 use mathlib.Core.Path.{refl}
-use Rattle.desk.specs.declared.parsing.Command.the-variants.{What, Open, Begin, Write, Read, Test, Commit, Abort, Cut}
-use Rattle.desk.specs.declared.printing.Reply.{Reply}
+use Rattle.lines.specs.declared.parsing.Command.the-variants.{What, Open, Begin, Write, Read, Test, Commit, Abort, Cut}
+use Rattle.lines.specs.declared.printing.Reply.{Reply}
 use borrow.Author.Needs.{needs}
 use Rattle.desk.proofs.conversation.converse.Statement.{statement}
 use Rattle.desk.proofs.conversation.converse.Tie as tie

@@ -1,0 +1,5 @@
+pub mod Names
+pub mod Commands
+pub mod ParseSteps
+pub mod Replies
+pub mod PrintSteps

@@ -1,0 +1,9 @@
+// The command language: lines to commands, and replies to lines.
+mod parsing;
+mod printing;
+
+pub use parsing::Command;
+pub use parsing::LONGEST;
+pub use parsing::parse;
+pub use printing::Reply;
+pub use printing::print;
