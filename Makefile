@@ -10,6 +10,7 @@ COMMANDS = 20000000
 
 all: build/sheet build/model build/model-pages
 	rt check
+	@echo 'target/bin/console: the command program. build/sheet: the tool for sheets.'
 
 $(LIBRARY): $(SOURCES)
 	rt staticlib desk

@@ -18,6 +18,7 @@ use Rattle.page.specs.declared.Sought as sought
 use Rattle.page.specs.declared.Sought.{Sought}
 use Rattle.page.specs.Layout.{pageSize}
 use Rattle.page.specs.Answers.{tested, onImage}
+use Rattle.page.specs.Answers as seek
 use Rattle.recovery.specs.Places.{nth}
 use Rattle.recovery.specs.Log.{Entry, blank, bad, image}
 use Rattle.recovery.specs.Sheet.{pageBytes, entryOf, imageFrom, isOpening, seal, decoded, sealed}
@@ -28,7 +29,7 @@ use Rattle.recovery.specs.declared.Row.{Row}
 use Rattle.recovery.proofs.Pages.{page-at-place, pages-long}
 use Rattle.recovery.proofs.FlatRows.{rows-long, rows-flat, flat-rows, flat-long, put-flat}
 use Rattle.recovery.proofs.Lookups.{nth-past, set-some}
-use Rattle.recovery.proofs.Held.{seek-out, image-none}
+use Rattle.recovery.proofs.Held.{seek-out, image-none, image-unsealed, image-sealed}
 use Rattle.calls.specs.Calls.{imageOf, isTokenOf, holdsToken, decided, settled, eachRow}
 use Rattle.calls.specs.DecideSteps.{holdsTokenIn, settledRow, settledRows}
 
@@ -90,6 +91,23 @@ module _ (s : List ℕ) (files end a f : ℕ) (r : Row) where
     unfolding holdsTokenIn
     holds-by n h u e =
         simp (eq-eqb (r .mark) 1 m, le-leb (r .token) end h) (ap (isUnder a) e ∙ sym (token-in f a files s (r .token) (omega (arith, n))))
+
+    -- by the quick look, and one look at the action's opening
+    module _ (n : r .token ≡ 0 → ⊥) (h : r .token ≤ end) where
+      pub holds-none : sought.Sought.Other ≡ seek.imageOf f (tested (pageBytes s (r .token)) (r .token) files) → false ≡ holdsTokenIn s files end a f r
+      holds-none e = holds-by n h sought.Sought.Other (image-none files s f (r .token) e)
+
+      module _ (x : Page) (e : sought.Sought.Image x ≡ seek.imageOf f (tested (pageBytes s (r .token)) (r .token) files)) where
+        pub holds-other : (x .action ≡ a → ⊥) → false ≡ holdsTokenIn s files end a f r
+        holds-other o = go (isOpening (decoded files s (x .action))) refl
+          where
+            go : (b : Bool) → isOpening (decoded files s (x .action)) ≡ b → false ≡ holdsTokenIn s files end a f r
+            go true q = sym (ne-eqb (x .action) a o) ∙ holds-by n h (sought.Sought.Image x) (image-sealed files s f (r .token) x e q)
+            go false q = holds-by n h sought.Sought.Other (image-unsealed files s f (r .token) x e q)
+
+        pub holds-own : (b : Bool) → x .action ≡ a → b ≡ isOpening (decoded files s a) → b ≡ holdsTokenIn s files end a f r
+        holds-own true o q = sym (eq-eqb (x .action) a o) ∙ holds-by n h (sought.Sought.Image x) (image-sealed files s f (r .token) x e (ap (λ y. isOpening (decoded files s y)) o ∙ sym q))
+        holds-own false o q = holds-by n h sought.Sought.Other (image-unsealed files s f (r .token) x e (ap (λ y. isOpening (decoded files s y)) o ∙ sym q))
 
 -- ---- one row
 

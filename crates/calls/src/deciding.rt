@@ -9,10 +9,11 @@ use recovery::ROW_LENGTH;
 use recovery::Row;
 use recovery::State;
 use recovery::fate_at;
-use recovery::image_at;
 use recovery::is_lent_right;
+use recovery::is_opening_at;
 use recovery::refuse;
 use recovery::row_of;
+use recovery::seek_at;
 use recovery::set_row;
 ghost use mathlib.Core.Bool.{true, false, cond};
 ghost use mathlib.Core.Path.{_≡_};
@@ -21,6 +22,7 @@ ghost use lib.ListN.{length};
 ghost use Rattle.page.specs.Table.{outcome};
 ghost use Rattle.recovery.specs.Log.{verdict};
 ghost use Rattle.recovery.specs.World.{fateNumber};
+ghost use Rattle.recovery.specs.Sheet.{isOpening, decoded};
 ghost use Rattle.recovery.specs.Lent.{rowLength, leftBy};
 ghost use Rattle.calls.specs.Calls.{Call, decided};
 ghost use Rattle.calls.specs.Effect.{callLeaves};
@@ -110,8 +112,17 @@ fn decide_line(sheet: &[u8], fates: &[u8], rows: &[u64], state: State, action: u
     0
 }
 
-// Whether a row's token is a sealed image of the file under the action.
-fn holds_token(sheet: &[u8], files: u64, end: u64, action: u64, file: u64, row: Row) -> bool
+// Whether a row's token is a sealed image of the file under the action; `opened` says whether that has an opening.
+fn holds_token(
+    sheet: &[u8],
+    files: u64,
+    end: u64,
+    action: u64,
+    opened: bool,
+    file: u64,
+    row: Row,
+) -> bool
+    requires { ⌜ opened ≡ isOpening (decoded files (now sheet) action) ⌝ }
     ensures { λ r. ⌜ r ≡ holdsTokenIn (now (sheet .entry)) files end action file row ⌝ }
 {
     if row.mark != 1 {
@@ -123,11 +134,14 @@ fn holds_token(sheet: &[u8], files: u64, end: u64, action: u64, file: u64, row: 
     if end < row.token {
         return false;
     }
-    let found = image_at(sheet, files, file, row.token);
+    let found = seek_at(sheet, row.token, files, file);
     let Sought::Image(image) = found else {
         return false;
     };
-    image.action == action
+    if image.action != action {
+        return false;
+    }
+    opened
 }
 
 // A row whose token is decided: a committed one is the current version.
@@ -159,27 +173,37 @@ fn settle_row(
     files: u64,
     end: u64,
     action: u64,
+    opened: bool,
     committed: bool,
     file: u64,
 )
+    requires { ⌜ opened ≡ isOpening (decoded files (now sheet) action) ⌝ }
     ensures { λ _. ⌜ now (rows .exit) ≡ settledRow (now (sheet .entry)) files end action committed file (now (rows .entry)) ⌝ }
 {
     let row = row_of(&rows[..], file);
-    if !holds_token(sheet, files, end, action, file, row) {
+    if !holds_token(sheet, files, end, action, opened, file, row) {
         return;
     }
     set_row(rows, file, decided_row(row, committed));
 }
 
-// Every row, settled. Cold rows and rows with no token cost no look at a page.
-fn settle_rows(sheet: &[u8], rows: &mut [u64], files: u64, end: u64, action: u64, committed: bool)
-    requires { ⌜ (rowLength * (length (now rows) / rowLength) ≡ length (now rows)) × (files ≡ length (now rows) / rowLength) ⌝ }
+// Every row, settled. Cold rows and rows with no token cost no look at a page, and the action's opening is looked at once for all.
+fn settle_rows(
+    sheet: &[u8],
+    rows: &mut [u64],
+    files: u64,
+    end: u64,
+    action: u64,
+    opened: bool,
+    committed: bool,
+)
+    requires { ⌜ (rowLength * (length (now rows) / rowLength) ≡ length (now rows)) × (files ≡ length (now rows) / rowLength) × (opened ≡ isOpening (decoded files (now sheet) action)) ⌝ }
     ensures { λ _. ⌜ now (rows .exit) ≡ settledRows (now (sheet .entry)) files end action committed (now (rows .entry)) ⌝ }
 {
     let mut file: u64 = 0;
     while file < files {
         file += 1;
-        settle_row(sheet, rows, files, end, action, committed, file);
+        settle_row(sheet, rows, files, end, action, opened, committed, file);
     }
 }
 
@@ -230,7 +254,8 @@ fn decide(
     }
     let end = state.end;
     let files = (rows.len() / ROW_LENGTH) as u64;
-    settle_rows(&sheet[..], rows, files, end, action, committed);
+    let opened = is_opening_at(&sheet[..], action, files);
+    settle_rows(&sheet[..], rows, files, end, action, opened, committed);
     let page = outcome_page(action, committed);
     append(sheet, end, files, page, &[0u8; 32]);
     fates[action as usize - 1] = outcome_fate(committed);

@@ -27,7 +27,8 @@ use Rattle.promises.specs.Runs.{storedTo}
 use Rattle.promises.proofs.Logs.{entryIn, entry-top, Fits}
 use Rattle.promises.proofs.Fates.{entry-down}
 use Rattle.promises.proofs.Openings.{Holds}
-use Rattle.promises.proofs.Cuts.{partial, holds-put}
+use Rattle.promises.proofs.Stored.{partial}
+use Rattle.promises.proofs.Cuts.{holds-put}
 use Rattle.promises.proofs.Replaced.{replaced-long, unsealed, bad-blank, bad-opening, decoded-other, pages-replaced}
 use Rattle.promises.proofs.Stored.{Fitting, entry-long, partly-stored}
 use Rattle.promises.proofs.Appended.{live-place, live-opening, FitStep, fit-stay, fit-add}
@@ -156,10 +157,6 @@ module _ (files n : ℕ) (s : List ℕ) (l : List Entry) (h : Holds (pages files
 
       first-long : length first ≡ pageSize
       first-long = simp (length-append, length-take, length-replicate) (omega (arith, entry-long files (suc (length l)) g pk))
-
-      fits-partial : (b c : Bool) → Fits (cond c torn g) l
-      fits-partial b true = tt
-      fits-partial b false = f
 
       seal-partial : (b c : Bool) → seal (decoded files (withPage s (length l) first)) (cond b blank (cond c torn g)) ≡ cond b blank (cond c torn g)
       seal-partial true c = refl

@@ -26,7 +26,8 @@ use Rattle.calls.specs.Effect.{grown, lower, callLeaves}
 use Rattle.promises.specs.Runs.{Box, on, off, sheetOf, Event, calls, opens, cuts, callOn, boxOf, storedTo, answerTo, after, runs, Typed, Allowed, AllAllowed}
 use Rattle.promises.proofs.Ledger.{Ledger, ledgerCall}
 use Rattle.promises.proofs.Openings.{Holds, sim-holds, sim-open}
-use Rattle.promises.proofs.Cuts.{partial, cutSheet, moves}
+use Rattle.promises.proofs.Stored.{partial}
+use Rattle.promises.proofs.Cuts.{cutSheet, moves}
 use Rattle.recovery.specs.Places.{put}
 use Rattle.promises.proofs.Sim.{Sim}
 use Rattle.promises.proofs.SimCalls.{sim-call}

@@ -14,6 +14,7 @@ use Rattle.recovery.specs.Log.{Entry, blank, torn}
 use Rattle.recovery.specs.World.{World, entryAt, down}
 use Rattle.recovery.proofs.Places.{nth-put-same, nth-put-other, length-put}
 use Rattle.calls.specs.Calls.{Call, begin, write, read, test, decide, rebuild, call}
+use Rattle.promises.proofs.Stored.{partial}
 use Rattle.promises.proofs.Logs.{entryIn, entry-top, Fits}
 use Rattle.promises.proofs.Fates.{entry-down, down-put}
 use Rattle.promises.proofs.Ledger.{Ledger, LedgerResult, withEnds, ledgerGrown, ledgerCall}
@@ -21,10 +22,6 @@ use Rattle.promises.proofs.LedgerCalls.{begins, writes, reads, tests, d
 use Rattle.promises.proofs.Sim.{Sim}
 use Rattle.promises.proofs.SimCalls.{sim-call}
 use Rattle.promises.proofs.Openings.{Holds, sim-holds}
-
--- what n stored bytes make of a page at a blank place, by the laws of the page crate
-abbrev pub partial : ℕ → Entry → Entry
-partial n g = cond (eqb n 0) blank (cond (ltb n pageSize) torn g)
 
 -- the sheet that a call leaves that is cut after n bytes of the page that it appends
 unfoldable pub cutSheet : World → Call → ℕ → List Entry

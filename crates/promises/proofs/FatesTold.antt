@@ -2,12 +2,11 @@
 -- its bytes.
 use mathlib.Core.Path.{_≡_, refl, ap, _∙_}
 use mathlib.Core.List.{List, _∷_}
-use mathlib.Core.Bool.{Bool, true, false}
+use mathlib.Core.Bool.{Bool, true}
 use Prim.Native.Nat.{ℕ, suc, _≤_}
 use native.Mathlib.Omega.{arith}
 use lib.ListN.{length}
 use borrow.Author.Tests.{eq-eqb, le-leb}
-use Rattle.page.specs.Layout.{pageSize}
 use Rattle.recovery.specs.Log.{Entry, opening, outcome, Fate, unknown, undecided, committed, aborted, verdict, fateOf}
 use Rattle.recovery.specs.World.{World, fateNumber}
 use Rattle.recovery.specs.declared.Answer.the-variants.{Stored, Told}
@@ -17,10 +16,9 @@ use Rattle.promises.proofs.Logs.{Known, known-place, verdict-decided}
 use Rattle.promises.proofs.Ledger.{Ledger, toldFate, ledgerCall}
 use Rattle.promises.proofs.Sim.{Sim}
 use Rattle.promises.proofs.SimCalls.{sim-call}
-use Rattle.promises.proofs.Cuts.{cutLog}
-use Rattle.promises.proofs.PageRuns.{Event, cuts, after, runs, Proper, poweredAfter, ledgerAfter, ledgerRuns, At, run}
+use Rattle.promises.proofs.PageRuns.{Event, after, runs, Proper, poweredAfter, ledgerRuns, At, run}
 use Rattle.promises.proofs.Extends.{Extends, ext-refl, extends}
-use Rattle.promises.proofs.Found.{wrote, called, cut-at, cut-whole}
+use Rattle.promises.proofs.Found.{wrote, called}
 
 known-yes : (x : Fate) → Known x → isKnown x ≡ true
 known-yes unknown h = absurd (omega arith)
@@ -78,12 +76,6 @@ module _ (n k : ℕ) (w : World) (m : Ledger) (s : At n k true w m) where
         decided-told n k true (call w (decide a c) .1) (ledgerCall m (decide a c) .1) (called n k w m s (decide a c) p e) a es q up c
         (outcome-in (ledgerCall m (decide a c) .1 .log) (wrote n k w m s (decide a c) p e .log))
 
-    pub cut-outcome-told : (i : ℕ) → pageSize ≤ i → (es : List Event) → Proper n k false es → poweredAfter false es ≡ true
-        → call (runs (after w (cuts (decide a c) i)) es) (test a) .0 ≡ toldFate (verdict c)
-    cut-outcome-told i h es q up =
-        decided-told n k false (after w (cuts (decide a c) i)) (ledgerAfter m (cuts (decide a c) i)) (cut-at n k w m s (decide a c) p e i) a es q up c
-        (outcome-in (cutLog (m .log) (ledgerCall m (decide a c) .1 .log) i) (cut-whole n k w m s (decide a c) p e i h))
-
   module _ (p : ℕ) (e : call w begin .0 ≡ Stored p) where
     begun-in : (l : List Entry) → l ≡ wrote n k w m s begin p e .page ∷ m .log → Known (fateOf l p)
     begun-in l h =
@@ -96,9 +88,3 @@ module _ (n k : ℕ) (w : World) (m : Ledger) (s : At n k true w m) where
     begin-told es q up =
         known-told n k true (call w begin .1) (ledgerCall m begin .1) (called n k w m s begin p e) p es q up
         (begun-in (ledgerCall m begin .1 .log) (wrote n k w m s begin p e .log))
-
-    pub cut-begin-told : (i : ℕ) → pageSize ≤ i → (es : List Event) → Proper n k false es → poweredAfter false es ≡ true
-        → (x : ℕ) × ((1 ≤ x) × (x ≤ 3) × (call (runs (after w (cuts begin i)) es) (test p) .0 ≡ Told x))
-    cut-begin-told i h es q up =
-        known-told n k false (after w (cuts begin i)) (ledgerAfter m (cuts begin i)) (cut-at n k w m s begin p e i) p es q up
-        (begun-in (cutLog (m .log) (ledgerCall m begin .1 .log) i) (cut-whole n k w m s begin p e i h))

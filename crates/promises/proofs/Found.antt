@@ -1,13 +1,13 @@
 -- Every answered call that wrote a page is found, whatever comes after; a cut one exactly if all its bytes are stored.
 use mathlib.Core.Path.{_≡_, sym, _∙_}
-use mathlib.Core.List.{List, [], _∷_}
+use mathlib.Core.List.{List, _∷_}
 use mathlib.Core.Bool.{Bool, true, false}
-use Prim.Native.Nat.{ℕ, zero, suc, _≤_, _<_}
+use Prim.Native.Nat.{ℕ, suc, _≤_, _<_}
 use native.Mathlib.Omega.{arith}
 use lib.ListN.{length}
 use borrow.Author.Tests.{ne-eqb, le-ltb, lt-ltb}
 use Rattle.page.specs.Layout.{pageSize}
-use Rattle.recovery.specs.Log.{Entry, blank, torn}
+use Rattle.recovery.specs.Log.{Entry, torn}
 use Rattle.recovery.specs.World.{World, entryAt}
 use Rattle.recovery.specs.declared.Answer.the-variants.{Stored}
 use Rattle.calls.specs.Calls.{Call, call}
@@ -18,7 +18,7 @@ use Rattle.promises.proofs.SimCalls.{sim-call}
 use Rattle.promises.proofs.Cuts.{partialLog, cutLog}
 use Rattle.promises.proofs.PageRuns.{Event, calls, cuts, after, runs, Proper, ledgerAfter, At, event}
 use Rattle.promises.proofs.Extends.{stays}
-use Rattle.promises.proofs.Written.{Writes, Wrote, does, writes-solid}
+use Rattle.promises.proofs.Written.{Writes, Wrote, does}
 
 -- after a call that was answered, or cut after all its bytes, its page is there
 pub record Found (n k : ℕ) (b : Bool) (w : World) (c : Call) (p : ℕ) : Type 1 where
@@ -71,15 +71,3 @@ module _ (n k : ℕ) (w : World) (m : Ledger) (s : At n k true w m) (c : Call) (
   cut-torn i h j es q =
       let t = top torn (cutLog (m .log) (ledgerCall m c .1 .log) i) (cut-log i ∙ rw (ne-eqb i 0 (λ e. omega arith), lt-ltb i pageSize j)) in
       stays n k false (after w (cuts c i)) (ledgerAfter m (cuts c i)) p torn es (cut-at i) q (t .0) (t .1)
-
-  -- cut before the first byte, nothing changed in the log
-  pub cut-nothing : ledgerAfter m (cuts c 0) .log ≡ m .log
-  cut-nothing = cut-log 0
-
-  cut-blank : entryAt (after w (cuts c 0)) p ≡ blank
-  cut-blank = cut-at 0 .stands .holds .clean p (rw (cut-nothing, wrote .place) (omega arith))
-
-  -- a call cut earlier has not stored its page
-  pub cut-lost : (i : ℕ) → i < pageSize → (g : Entry) → Writes c g → entryAt (after w (cuts c i)) p ≡ g → ⊥
-  cut-lost zero h g y e = writes-solid c g y .0 (sym e ∙ cut-blank)
-  cut-lost (suc i) h g y e = writes-solid c g y .1 (sym e ∙ cut-torn (suc i) (omega arith) h [] tt)

@@ -1,13 +1,13 @@
 -- The history of a file in a log: its committed images, the newest first. What a read finds in it, and what an append makes of it.
 use Prim.Native.Nat.{ℕ}
-use mathlib.Core.Path.{_≡_, refl, ap}
+use mathlib.Core.Path.{_≡_, refl}
 use mathlib.Core.List.{List, [], _∷_}
 use mathlib.Core.Bool.{Bool, true, false, cond}
 use mathlib.Core.Option.{Option, some, none}
 use lib.Dec.{eqb, leb}
 use borrow.Author.Tests.{eqb-true, eq-eqb}
 use Rattle.encoding.proofs.Logic.{by-test}
-use Rattle.recovery.specs.Log.{Image, Entry, torn, opening, image, outcome, Fate, unknown, undecided, committed, aborted, Placed, fateOf, imagesOf, currentStep, currentOf, tokenOf}
+use Rattle.recovery.specs.Log.{Image, Entry, opening, image, outcome, Fate, unknown, undecided, committed, aborted, Placed, fateOf, imagesOf, currentStep, currentOf, tokenOf}
 use Rattle.recovery.specs.Lawful.{token}
 use Rattle.recovery.proofs.InspectFates.{All}
 use Rattle.promises.specs.Model.{latest, newest}
@@ -73,10 +73,6 @@ history-agree φ ψ (x ∷ xs) k h = rw (k (x .image .action) (h .0 .sure), hist
 pub opening-history : (l : List Entry) (f : ℕ) → Lawful l → history (opening ∷ l) f ≡ history l f
 unfolding imagesOf
 opening-history l f w = history-agree (fateOf l) (fateOf (opening ∷ l)) (imagesOf l f) (opening-agree l w) (chain l f w)
-
-pub torn-history : (l : List Entry) (f : ℕ) → history (torn ∷ l) f ≡ history l f
-unfolding imagesOf fateOf
-torn-history l f = refl
 
 pub image-history : (i : Image) (l : List Entry) (f : ℕ) → ImageFits i l → history (image i ∷ l) f ≡ history l f
 unfolding imagesOf fateOf historyOf

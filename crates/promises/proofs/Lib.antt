@@ -11,6 +11,7 @@ pub mod SimWrites
 pub mod SimReads
 pub mod SimDecides
 pub mod SimCalls
+pub mod Stored
 pub mod Openings
 pub mod Cuts
 pub mod PageRuns
@@ -23,7 +24,6 @@ pub mod Written
 pub mod Found
 pub mod FatesTold
 pub mod Replaced
-pub mod Stored
 pub mod Appended
 pub mod ByteCalls
 pub mod ByteRuns

@@ -39,8 +39,8 @@ Fitting files p (image i) = ImageFitting files p i
 Fitting files p (outcome a c) = (1 ≤ a) × (a < p)
 
 -- the page of an entry when n of its bytes are stored
-abbrev pub partly : ℕ → Entry → Entry
-partly n g = cond (eqb n 0) blank (cond (ltb n pageSize) torn g)
+abbrev pub partial : ℕ → Entry → Entry
+partial n g = cond (eqb n 0) blank (cond (ltb n pageSize) torn g)
 
 module _ (files p : ℕ) where
   value-long : (g : Entry) → Fitting files p g → length (valueAt g) ≡ valueSize
@@ -93,7 +93,7 @@ module _ (files p : ℕ) where
     test-is g h n k = cut-tested (fieldsAt p g) (valueAt g) p files (value-long g h) bounds (rules g h) n k
 
     pub partly-stored : (g : Entry) → Fitting files p g → (n : ℕ) → n ≤ pageSize
-        → entryOf (cut n (packedEntry p g)) (tested (cut n (packedEntry p g)) p files) ≡ partly n g
+        → entryOf (cut n (packedEntry p g)) (tested (cut n (packedEntry p g)) p files) ≡ partial n g
     partly-stored g h n k = ap (entryOf (cut n (packedEntry p g))) (test-is g h n k) ∙ go (eqb n 0) (ltb n pageSize) refl
       where
         go : (b c : Bool) → ltb n pageSize ≡ c → entryOf (cut n (packedEntry p g)) (cond b Blank (cond c Torn (byKind (fieldsAt p g)))) ≡ cond b blank (cond c torn g)

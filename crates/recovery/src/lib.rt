@@ -14,6 +14,7 @@ pub use lookup::image_at;
 pub use lookup::is_blank_at;
 pub use lookup::is_opening_at;
 pub use lookup::page_at;
+pub use lookup::seek_at;
 pub use opening::open;
 use page::Page;
 pub use rebuilding::is_row_held;

@@ -27,7 +27,7 @@ pub fn page_at(sheet: &[u8], place: u64, files: u64) -> Unpacked
 }
 
 // The quick look at a place; Other where the sheet has no such place.
-fn seek_at(sheet: &[u8], place: u64, files: u64, file: u64) -> Sought
+pub fn seek_at(sheet: &[u8], place: u64, files: u64, file: u64) -> Sought
     ensures { λ r. ⌜ r ≡ imageOf file (tested (pageBytes (now (sheet .entry)) place) place files) ⌝ }
 {
     if place < 1 {

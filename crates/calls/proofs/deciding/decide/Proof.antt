@@ -38,35 +38,39 @@ returns : tie.Need-returns
 returns c =
     by-refuse _ _ _ _ _ _ (c .refuse .ensures) (decide-refused _ _ _ _ _ _ _ (c .before .before .decide-line .ensures) (c .before .if1 .taken))
 
+is-opening-at-requires : tie.Need-is-opening-at-requires
+is-opening-at-requires c κs = search needs
+
 settle-rows-requires : tie.Need-settle-rows-requires
 settle-rows-requires c κs =
-    let a = c .before .before .before .before .before .before .before .before .before .before .args in
-    rows-asked (now (a .sheet)) (now (a .fates)) (now (a .rows)) (a .state) (a .action) (a .committed) (known (c .before .before))
+    let a = c .before .before .before .before .before .before .before .before .before .before .before .before .args in
+    let r = rows-asked (now (a .sheet)) (now (a .fates)) (now (a .rows)) (a .state) (a .action) (a .committed) (known (c .before .before .before .before)) in
+    (r .0, r .1, c .before .before .is-opening-at .ensures)
 
 outcome-page-requires : tie.Need-outcome-page-requires
 outcome-page-requires c κs = search needs
 
 append-requires : tie.Need-append-requires
 append-requires c κs =
-    let a = c .before .before .before .before .before .before .before .before .before .before .before .before .before .before .before .before .args in
-    outcome-asked (now (a .sheet)) (now (a .fates)) (now (a .rows)) (a .state) (a .action) (a .committed) (known (c .before .before .before .before .before .before .before .before)) _ (c .before .before .outcome-page .ensures)
+    let a = c .before .before .before .before .before .before .before .before .before .before .before .before .before .before .before .before .before .before .args in
+    outcome-asked (now (a .sheet)) (now (a .fates)) (now (a .rows)) (a .state) (a .action) (a .committed) (known (c .before .before .before .before .before .before .before .before .before .before)) _ (c .before .before .outcome-page .ensures)
 
 outcome-fate-requires : tie.Need-outcome-fate-requires
 outcome-fate-requires c κs = search needs
 
 sub-fates : tie.Need-sub-fates
-sub-fates c = omega (arith, known (c .before .before .before .before .before .before .before .before .before .before .before .before) .act .low)
+sub-fates c = omega (arith, known (c .before .before .before .before .before .before .before .before .before .before .before .before .before .before) .act .low)
 
 slice-write-fates : tie.Need-slice-write-fates
 slice-write-fates c =
-    let k = known (c .before .before .before .before .before .before .before .before .before .before .before .before) in
+    let k = known (c .before .before .before .before .before .before .before .before .before .before .before .before .before .before) in
     omega (arith, k .act .low, k .act .high, k .room)
 
-add-t31 : tie.Need-add-t31
-add-t31 c = omega (arith, few (c .before .before .before .before .before .before .before .before .before .before .before .before))
+add-t34 : tie.Need-add-t34
+add-t34 c = omega (arith, few (c .before .before .before .before .before .before .before .before .before .before .before .before .before .before))
 
-add-t33 : tie.Need-add-t33
-add-t33 c = omega (arith, few (c .before .before .before .before .before .before .before .before .before .before .before .before))
+add-t36 : tie.Need-add-t36
+add-t36 c = omega (arith, few (c .before .before .before .before .before .before .before .before .before .before .before .before .before .before))
 
 less-one-requires : tie.Need-less-one-requires
 less-one-requires c κs = search needs
@@ -83,7 +87,7 @@ same-length-6 c = search needs
 returns-2 : tie.Need-returns-2
 returns-2 c =
     let d = c .before .before .before .before .before .before .before .before .before .before in
-    let e = d .before .before .before in
+    let e = d .before .before .before .before .before in
     decide-done _ _ _ _ _ _ (known e) _ (c .before .before .before .before .before .before .before .outcome-page .ensures) _ _ _ _ (c .before .before .before .before .append .ensures) (c .before .outcome-fate .ensures) (d .settle-rows .ensures) (c .less-one .ensures)
 
 pub decide-spec : {M : Type 1} → statement M
@@ -96,14 +100,15 @@ decide-spec =
     same-length-2
     same-length-3
     returns
+    is-opening-at-requires
     settle-rows-requires
     outcome-page-requires
     append-requires
     outcome-fate-requires
     sub-fates
     slice-write-fates
-    add-t31
-    add-t33
+    add-t34
+    add-t36
     less-one-requires
     same-length-4
     same-length-5

@@ -11,10 +11,10 @@ use Rattle.calls.proofs.deciding.settle_rows.Statement.{statement}
 use Rattle.calls.proofs.deciding.settle_rows.Tie as tie
 
 abbrev Inv-loop : tie.InvT-loop
-Inv-loop sheet rows₀ files end action committed file₀ rows file = (file ≤ files) × (rows ≡ runTo sheet files end action committed rows₀ file)
+Inv-loop sheet rows₀ files end action opened committed file₀ rows file = (file ≤ files) × (rows ≡ runTo sheet files end action committed rows₀ file)
 
 abbrev μ-loop : tie.MeasureT-loop
-μ-loop sheet rows₀ files end action committed file₀ rows file = files - file
+μ-loop sheet rows₀ files end action opened committed file₀ rows file = files - file
 
 long : (c : tie.At-loop Inv-loop μ-loop) → length (c .loop .rows) ≡ length (now (c .before .before .before .args .rows))
 long c = ap length (c .loop .inv .1) ∙ run-long _ _ _ _ _ _ (c .before .before .before .pre .0) _
