@@ -1,5 +1,5 @@
--- Runs that meet the premises of the promises, computed on bytes: document 01's listing, a change of two locks that is cut at every
--- byte, and a read before and after a cut.
+-- Runs that meet the premises of the promises, with what they hear: document 01's listing, a change of two locks that is cut at every
+-- byte, a read before and after a cut, and rows rebuilt in two orders.
 use Prim.Native.Nat.{ℕ, max, _*_, _≤_, _<_}
 use mathlib.Core.Path.{_≡_, refl, _∙_, subst}
 use mathlib.Core.List.{List, [], _∷_, _++_}
@@ -14,6 +14,7 @@ use Rattle.calls.specs.Calls.{Call, begin, write, read, test, decide, rebuild}
 use Rattle.promises.specs.Runs.{Box, Event, calls, opens, cuts, answerTo, after, runs, heard, Run, blankBox, Floors}
 use Rattle.recovery.specs.Lent.{sizesRight}
 use Rattle.promises.specs.Model.{latest, blankModel, modelHeard}
+use Rattle.promises.specs.Promises.{othersHeard}
 use Rattle.promises.proofs.Proved.{promised}
 
 -- an opening of a sheet of so many pages for so many files, lent zeros
@@ -161,10 +162,34 @@ again-run = record { sized = refl; allowed = (λ e. refl, (tt, (omega arith, (tt
 again-floors : Floors (blankBox 10) (before ++ calls (read 1 6 0) ∷ between)
 again-floors = checked-floors (blankBox 10) (before ++ calls (read 1 6 0) ∷ between) (omega arith, (omega arith, tt))
 
+-- and after it: the same read, a write at its time and one above it, a test of the action that was committed first, and a
+-- read before its version
+abbrev afterwards : List Event
+afterwards = calls (read 1 6 0) ∷ calls (write 1 6 7 (9 ∷ [])) ∷ calls (write 1 13 7 (9 ∷ [])) ∷ calls (test 1) ∷ calls (read 1 4 0) ∷ []
+
 -- answered, and answered alike: the version from 5, though 9 is the newest
-pub again-heard : heard (blankBox 10) (before ++ calls (read 1 6 0) ∷ (between ++ calls (read 1 6 0) ∷ []))
+pub again-heard : heard (blankBox 10) (before ++ calls (read 1 6 0) ∷ (between ++ afterwards))
     ≡ some (Opened 0 0) ∷ some (Stored 1) ∷ some (Stored 2) ∷ some (Stored 3) ∷ some (Value 2 5 1)
-    ∷ some (Stored 4) ∷ some (Stored 5) ∷ some (Stored 6) ∷ some (Stored 7) ∷ none ∷ some (Opened 8 1) ∷ some (Value 2 5 1) ∷ []
+    ∷ some (Stored 4) ∷ some (Stored 5) ∷ some (Stored 6) ∷ some (Stored 7) ∷ none ∷ some (Opened 8 1)
+    ∷ some (Value 2 5 1) ∷ some (Refused 10 0) ∷ some (Stored 9) ∷ some (Told 2) ∷ some Nothing ∷ []
 unfolding modelHeard latest sizesRight
-again-heard = heard-by 10 2 (before ++ calls (read 1 6 0) ∷ (between ++ calls (read 1 6 0) ∷ [])) _
-    (record { sized = refl; allowed = (λ e. refl, (tt, (omega arith, (tt, (tt, (tt, (omega arith, (tt, (tt, (omega arith, (λ e. refl, (tt, tt)))))))))))) }) refl
+again-heard = heard-by 10 2 (before ++ calls (read 1 6 0) ∷ (between ++ afterwards)) _
+    (record { sized = refl; allowed = (λ e. refl, (tt, (omega arith, (tt, (tt, (tt, (omega arith, (tt, (tt, (omega arith, (λ e. refl, (tt, (omega arith, (omega arith, (tt, (tt, tt)))))))))))))))) }) refl
+
+-- ---- one file asked for alone, then all: rows rebuilt in two orders, or none
+
+abbrev asked : List Event
+asked = calls (read 1 6 0) ∷ calls (read 2 6 0) ∷ []
+
+abbrev alone : List Event
+alone = before ++ opening 10 2 0 ∷ calls (rebuild 2) ∷ asked
+
+abbrev together : List Event
+together = before ++ opens 0 (replicate 10 3) (replicate 10 7) ∷ calls (rebuild 1) ∷ calls (rebuild 2) ∷ asked
+
+pub order-unseen : othersHeard (blankBox 10) alone ≡ othersHeard (blankBox 10) together
+unfolding sizesRight
+order-unseen = promised 10 2 .unseen alone together
+    (record { sized = refl; allowed = (λ e. refl, (tt, (omega arith, (tt, (λ e. refl, (tt, (tt, (tt, tt)))))))) })
+    (record { sized = refl; allowed = (λ e. refl, (tt, (omega arith, (tt, (λ e. refl, (tt, (tt, (tt, (tt, tt))))))))) })
+    refl

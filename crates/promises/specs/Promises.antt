@@ -1,5 +1,5 @@
 -- The promises of demands 2 and 3, each about every run: any calls, openings and cuts on a sheet that began blank. Beyond `Run`
--- only `NothingBelow` and `Alike` have a premise, the floor's.
+-- only `nothing-below` and `alike` have a premise, the floor's.
 use Prim.Native.Nat.{ℕ, _*_, _≤_, _<_}
 use mathlib.Core.Path.{_≡_}
 use mathlib.Core.List.{List, [], _∷_, _++_}
