@@ -2,11 +2,11 @@
 use Prim.Native.Nat.{ℕ, suc, _≤_, _<_}
 use mathlib.Core.Path.{_≡_, refl, sym, ap, _∙_, subst}
 use mathlib.Core.List.{List}
-use mathlib.Core.Bool.{Bool, true}
+use mathlib.Core.Bool.{Bool, true, false}
 use mathlib.Core.Option.{some, none}
 use native.Mathlib.Omega.{arith}
 use lib.ListN.{length}
-use Rattle.page.specs.Layout.{pageSize}
+use Rattle.page.specs.Layout.{pageSize, kindAt, markAt}
 use Rattle.recovery.specs.Log.{Entry, torn, image, verdict}
 use Rattle.recovery.specs.Sheet.{sealed}
 use Rattle.recovery.specs.World.{World, entryAt, fateNumber}
@@ -14,9 +14,11 @@ use Rattle.recovery.specs.declared.Answer.{Answer}
 use Rattle.recovery.specs.declared.Answer.the-variants.{Stored, Told}
 use Rattle.recovery.specs.Lent.{Left}
 use Rattle.calls.specs.Calls.{Call, begin, write, read, test, decide, rebuild, call}
+use Rattle.calls.specs.Cuts.{Ordered}
 use Rattle.promises.specs.Runs.{Box, on, off, sheetOf, Event, calls, cuts, callOn, answerTo, after, runs, Typed, AllAllowed}
 use Rattle.promises.specs.Promises.{IsPageOf}
 use Rattle.promises.proofs.Ledger.{ledgerCall}
+use Rattle.promises.proofs.Stored.{bytesOf}
 use Rattle.promises.proofs.Written.{Writes}
 use Rattle.promises.proofs.Found.{wrote, called, answered-found, cut-found, cut-torn}
 use Rattle.promises.proofs.FatesTold.{outcome-told, begin-told}
@@ -32,7 +34,7 @@ some-is e = cc
 pub not-heard : {A : Type 0} {x : A} {B : Type 0} → none ≡ some x → B
 not-heard e = let z : _≡_ {A = ℕ} 0 1 = cc in absurd (omega arith)
 
-writes-page : (k : Call) (g : Entry) → Writes k g → IsPageOf k g
+pub writes-page : (k : Call) (g : Entry) → Writes k g → IsPageOf k g
 writes-page begin g h = h
 writes-page (write f s a v) g h =
     (h .stored .link, h .is ∙ λ i. image (record { file = h .file i; action = h .action i; link = h .stored .link; start = h .start i; value = h .value i }))
@@ -40,6 +42,13 @@ writes-page (read f t a) g h = h
 writes-page (test a) g h = h
 writes-page (decide a c) g h = h
 writes-page (rebuild f) g h = h
+
+-- all bytes, or some
+all-bytes : (kept : ℕ → Bool) → Ordered kept → kept markAt ≡ true → pageSize ≤ bytesOf kept
+all-bytes kept o e = rw (o .last e kindAt (omega arith), e) (omega arith)
+
+some-bytes : (kept : ℕ → Bool) → kept kindAt ≡ true → kept markAt ≡ false → (1 ≤ bytesOf kept) × (bytesOf kept < pageSize)
+some-bytes kept a b = rw (a, b) (omega arith, omega arith)
 
 module _ (n files : ℕ) where
   -- an event, and the run that goes on after it, over decoded pages
@@ -82,20 +91,20 @@ module _ (n files : ℕ) where
         ap (λ v. entryAt v place) (then-world (on m) r (calls k) f es al) ∙ g .there (then (on m) r (calls k) f es al) (then-proper (on m) r (calls k) f es al) in
         subst (IsPageOf k) (sym p ∙ page-in n files (runs (after (on m) (calls k)) es) place (place-in .0) (place-in .1)) (writes-page k (g .page) (g .writes))
 
-    found-whole : (i : ℕ) → pageSize ≤ i → (es : List Event) → AllAllowed n files es → IsPageOf k (sealed files (sheetOf (runs (after (on m) (cuts k i)) es)) place)
-    found-whole i h es al =
-        let f = event-follows files n (r .sized) (on m) (r .ledger) (r .at) (r .sound) (cuts k i) t in
-        let g = cut-found n files w (r .ledger) (r .at) k place said i h in
+    found-whole : (i : ℕ → Bool) → Ordered i → i markAt ≡ true → (es : List Event) → AllAllowed n files es → IsPageOf k (sealed files (sheetOf (runs (after (on m) (cuts k i)) es)) place)
+    found-whole i o h es al =
+        let f = event-follows files n (r .sized) (on m) (r .ledger) (r .at) (r .sound) (cuts k i) (t, o) in
+        let g = cut-found n files w (r .ledger) (r .at) k place said (bytesOf i) (all-bytes i o h) in
         let p : entryAt (worldOf files n (runs (after (on m) (cuts k i)) es)) place ≡ g .page =
         ap (λ v. entryAt v place) (then-world (on m) r (cuts k i) f es al) ∙ g .there (then (on m) r (cuts k i) f es al) (then-proper (on m) r (cuts k i) f es al) in
         subst (IsPageOf k) (sym p ∙ page-in n files (runs (after (on m) (cuts k i)) es) place (place-in .0) (place-in .1)) (writes-page k (g .page) (g .writes))
 
-    found-torn : (i : ℕ) → 1 ≤ i → i < pageSize → (es : List Event) → AllAllowed n files es → sealed files (sheetOf (runs (after (on m) (cuts k i)) es)) place ≡ torn
-    found-torn i h j es al =
-        let f = event-follows files n (r .sized) (on m) (r .ledger) (r .at) (r .sound) (cuts k i) t in
+    found-torn : (i : ℕ → Bool) → Ordered i → i kindAt ≡ true → i markAt ≡ false → (es : List Event) → AllAllowed n files es → sealed files (sheetOf (runs (after (on m) (cuts k i)) es)) place ≡ torn
+    found-torn i o h j es al =
+        let f = event-follows files n (r .sized) (on m) (r .ledger) (r .at) (r .sound) (cuts k i) (t, o) in
         sym (page-in n files (runs (after (on m) (cuts k i)) es) place (place-in .0) (place-in .1))
         ∙ ap (λ v. entryAt v place) (then-world (on m) r (cuts k i) f es al)
-        ∙ cut-torn n files w (r .ledger) (r .at) k place said i h j (then (on m) r (cuts k i) f es al) (then-proper (on m) r (cuts k i) f es al)
+        ∙ cut-torn n files w (r .ledger) (r .at) k place said (bytesOf i) (some-bytes i h j .0) (some-bytes i h j .1) (then (on m) r (cuts k i) f es al) (then-proper (on m) r (cuts k i) f es al)
 
   -- what a box answers, its world answers
   pub heard-in : (b : Box) → Reached n files b → (k : Call) (x : Answer) → answerTo b (calls k) ≡ some x → (isOn files n b ≡ true) × (call (worldOf files n b) k .0 ≡ x)
@@ -112,18 +121,18 @@ module _ (n files : ℕ) where
         go (on m) r e = found-call m r k t place (some-is e) es al
         go (off s) r e = not-heard e
 
-    pub box-found-cut : (i : ℕ) → pageSize ≤ i → IsPageOf k (sealed files (sheetOf (runs (after b (cuts k i)) es)) place)
-    box-found-cut i h = go b r e
+    pub box-found-cut : (i : ℕ → Bool) → Ordered i → i markAt ≡ true → IsPageOf k (sealed files (sheetOf (runs (after b (cuts k i)) es)) place)
+    box-found-cut i o h = go b r e
       where
         go : (b : Box) → Reached n files b → answerTo b (calls k) ≡ some (Stored place) → IsPageOf k (sealed files (sheetOf (runs (after b (cuts k i)) es)) place)
-        go (on m) r e = found-whole m r k t place (some-is e) i h es al
+        go (on m) r e = found-whole m r k t place (some-is e) i o h es al
         go (off s) r e = not-heard e
 
-    pub box-torn : (i : ℕ) → 1 ≤ i → i < pageSize → sealed files (sheetOf (runs (after b (cuts k i)) es)) place ≡ torn
-    box-torn i h j = go b r e
+    pub box-torn : (i : ℕ → Bool) → Ordered i → i kindAt ≡ true → i markAt ≡ false → sealed files (sheetOf (runs (after b (cuts k i)) es)) place ≡ torn
+    box-torn i o h j = go b r e
       where
         go : (b : Box) → Reached n files b → answerTo b (calls k) ≡ some (Stored place) → sealed files (sheetOf (runs (after b (cuts k i)) es)) place ≡ torn
-        go (on m) r e = found-torn m r k t place (some-is e) i h j es al
+        go (on m) r e = found-torn m r k t place (some-is e) i o h j es al
         go (off s) r e = not-heard e
 
   -- ---- the fates

@@ -4,20 +4,24 @@ use mathlib.Core.Path.{_≡_, refl, sym, ap, _∙_, subst}
 use mathlib.Core.List.{List, [], _∷_, _++_}
 use mathlib.Core.Bool.{Bool, true, false}
 use native.Mathlib.Omega.{arith}
-use lib.ListN.{length, getD, take, drop, length-append, length-take, length-drop, take-append-drop, drop-of-length-le, List·getD-append, List·getD-eq-default}
-use lib.Seq.{ext-getD, getD-take, getD-drop}
+use lib.ListN.{length, getD, take, drop, length-append, length-take, length-drop, drop-of-length-le, List·getD-append}
+use lib.Seq.{ext-getD, getD-take, getD-drop, length-take-le}
 use lib.Dec.{leb}
 use borrow.Author.Tests.{leb-true, leb-false}
 use Rattle.encoding.proofs.Logic.{by-test}
-use Rattle.page.specs.Layout.{pageSize}
+use Rattle.page.specs.Layout.{pageSize, kindAt}
 use Rattle.recovery.specs.Log.{blank}
 use Rattle.recovery.specs.Sheet.{pageBytes, sealed}
 use Rattle.recovery.specs.World.{opened}
 use Rattle.recovery.specs.Numbers.{isRefused}
 use Rattle.recovery.specs.Lent.{Left, rowLength, rowsOf, pagesOf, whole, leaves, refused, closed, openLeaves}
 use Rattle.calls.specs.Calls.{Call}
+use Rattle.calls.specs.Effect.{withPage}
 use Rattle.calls.proofs.OnePage.{SameBut, only-one-page}
-use Rattle.promises.specs.Runs.{Box, on, off, sheetOf, Event, calls, opens, cuts, callOn, boxOf, storedTo, after, runs, AllAllowed}
+use Rattle.calls.specs.Cuts.{mixed, storedOf, Ordered}
+use Rattle.promises.specs.Runs.{Box, on, off, sheetOf, Event, calls, opens, cuts, callOn, boxOf, after, runs, AllAllowed}
+use Rattle.promises.proofs.Mixed.{mixed-long, mixed-none, none-kept}
+use Rattle.promises.proofs.ByteCalls.{page-back}
 use Rattle.promises.proofs.PageRuns as paged
 use Rattle.promises.proofs.PageRuns.{stands-off}
 use Rattle.promises.proofs.Extends.{ext-refl, extends}
@@ -50,33 +54,28 @@ module _ (m : Left) (k : Call) where
   call-same : SameTo (m .state .end) (m .sheet) (callOn m k .sheet)
   call-same = record { long = one .long; bytes = one .below }
 
-  stored-long : (i : ℕ) → length (storedTo i (callOn m k .sheet) (m .sheet)) ≡ length (m .sheet)
-  stored-long i = simp (length-append, length-take, length-drop) (omega (arith, one .long))
+  -- the page above the end, new and old
+  pages-long : length (pageBytes (m .sheet) (suc (m .state .end))) ≡ length (pageBytes (callOn m k .sheet) (suc (m .state .end)))
+  pages-long = rw (length-take, length-drop, length-take, length-drop, one .long)
 
-  cut-same : (i : ℕ) → SameTo (m .state .end) (m .sheet) (storedTo (pageSize * m .state .end + i) (callOn m k .sheet) (m .sheet))
-  cut-same i = record { long = stored-long (pageSize * m .state .end + i); bytes = λ j h. go j h (leb (suc j) (length (m .sheet))) refl }
-    where
-      go : (j : ℕ) → j < pageSize * m .state .end → (b : Bool) → leb (suc j) (length (m .sheet)) ≡ b
-          → getD (storedTo (pageSize * m .state .end + i) (callOn m k .sheet) (m .sheet)) j 0 ≡ getD (m .sheet) j 0
-      go j h true e =
-          let l : j < length (take (pageSize * m .state .end + i) (callOn m k .sheet)) = omega (arith, length-take (pageSize * m .state .end + i) (callOn m k .sheet), one .long, leb-true (suc j) (length (m .sheet)) e) in
-          List·getD-append (take (pageSize * m .state .end + i) (callOn m k .sheet)) (drop (pageSize * m .state .end + i) (m .sheet)) 0 j l
-          ∙ getD-take (pageSize * m .state .end + i) (callOn m k .sheet) j 0 (omega arith) ∙ one .below j h
-      go j h false e =
-          let o = leb-false (suc j) (length (m .sheet)) e in
-          List·getD-eq-default (storedTo (pageSize * m .state .end + i) (callOn m k .sheet) (m .sheet)) 0 (omega (arith, stored-long (pageSize * m .state .end + i)))
-          ∙ sym (List·getD-eq-default (m .sheet) 0 (omega arith))
+  cut-same : (kept : ℕ → Bool) → pageSize * m .state .end ≤ length (m .sheet) → SameTo (m .state .end) (m .sheet) (storedOf kept (m .state .end) (callOn m k .sheet) (m .sheet))
+  unfolding withPage
+  cut-same kept h =
+      let front : length (take (pageSize * m .state .end) (m .sheet)) ≡ pageSize * m .state .end = length-take-le (pageSize * m .state .end) (m .sheet) h in
+      let x : List ℕ = mixed kept (pageBytes (callOn m k .sheet) (suc (m .state .end))) (pageBytes (m .sheet) (suc (m .state .end))) in
+      let size : length x ≡ length (pageBytes (m .sheet) (suc (m .state .end))) = mixed-long kept (pageBytes (callOn m k .sheet) (suc (m .state .end))) (pageBytes (m .sheet) (suc (m .state .end))) pages-long ∙ sym pages-long in
+      let room : length (pageBytes (m .sheet) (suc (m .state .end))) ≡ min pageSize (length (m .sheet) - pageSize * m .state .end) = rw (length-take, length-drop) in
+      record {
+        long = simp (length-append, length-drop) (omega arith);
+        bytes = λ j u. List·getD-append (take (pageSize * m .state .end) (m .sheet)) (x ++ drop (pageSize * m .state .end + pageSize) (m .sheet)) 0 j (omega arith) ∙ getD-take (pageSize * m .state .end) (m .sheet) j 0 u;
+      }
 
   -- cut before the first byte
-  pub cut-none : storedTo (pageSize * m .state .end + 0) (callOn m k .sheet) (m .sheet) ≡ m .sheet
-  cut-none = let z : pageSize * m .state .end + 0 ≡ pageSize * m .state .end = omega arith in
-      rw z (ap (λ t. t ++ drop (pageSize * m .state .end) (m .sheet)) first ∙ take-append-drop (pageSize * m .state .end) (m .sheet))
-    where
-      first : take (pageSize * m .state .end) (callOn m k .sheet) ≡ take (pageSize * m .state .end) (m .sheet)
-      first = ext-getD 0 (take (pageSize * m .state .end) (callOn m k .sheet)) (take (pageSize * m .state .end) (m .sheet)) (rw (length-take, length-take, one .long))
-          (λ i u.
-          let v : i < pageSize * m .state .end = omega (arith, length-take (pageSize * m .state .end) (callOn m k .sheet)) in
-          getD-take (pageSize * m .state .end) (callOn m k .sheet) i 0 v ∙ one .below i v ∙ sym (getD-take (pageSize * m .state .end) (m .sheet) i 0 v))
+  pub cut-none : (kept : ℕ → Bool) → Ordered kept → kept kindAt ≡ false → storedOf kept (m .state .end) (callOn m k .sheet) (m .sheet) ≡ m .sheet
+  cut-none kept o e =
+      ap (withPage (m .sheet) (m .state .end)) (mixed-none kept (pageBytes (callOn m k .sheet) (suc (m .state .end))) (pageBytes (m .sheet) (suc (m .state .end))) pages-long
+      (λ i u. none-kept kept o e i (omega (arith, length-take pageSize (drop (pageSize * m .state .end) (callOn m k .sheet))))))
+      ∙ page-back (m .sheet) (m .state .end)
 
 -- an opening leaves the sheet
 open-sheet : (s fates rows : List ℕ) (floor : ℕ) → openLeaves s fates rows floor .sheet ≡ s
@@ -97,8 +96,10 @@ module _ (n files : ℕ) where
   event-same b r (opens floor fates rows) =
       let z = open-box (sheetOf b) fates rows floor in
       record { long = ap length z; bytes = λ i h. ap (λ t. getD t i 0) z }
-  event-same (on m) r (cuts k i) = subst (λ q. SameTo q (m .sheet) (storedTo (pageSize * m .state .end + i) (callOn m k .sheet) (m .sheet))) (r .at .stands .ends) (cut-same m k i)
-  event-same (off s) r (cuts k i) = record { long = refl; bytes = λ j h. refl }
+  event-same (on m) r (cuts k kept) =
+      subst (λ q. SameTo q (m .sheet) (storedOf kept (m .state .end) (callOn m k .sheet) (m .sheet))) (r .at .stands .ends)
+      (cut-same m k kept (omega (arith, r .at .stands .ends, r .at .stands .room, r .at .pages, r .sound .long)))
+  event-same (off s) r (cuts k kept) = record { long = refl; bytes = λ j h. refl }
 
   run-kept : (b : Box) (r : Reached n files b) (es : List Event) → AllAllowed n files es → (p : ℕ) → p ≤ length (r .ledger .log) → pageBytes (sheetOf (runs b es)) p ≡ pageBytes (sheetOf b) p
   run-kept b r [] al p h = refl
@@ -125,6 +126,6 @@ module _ (n files : ℕ) where
       go true e false f = absurd (h (sym (page-in n files b (suc q) (omega arith) (leb-true (suc q) n e))
           ∙ stands-off (isOn files n b) (worldOf files n b) (r .ledger) (r .at .stands) .holds .clean (suc q) (leb-false (suc q) (length (r .ledger .log)) f)))
 
-  pub box-lost : (b : Box) (k : Call) → sheetOf (after b (cuts k 0)) ≡ sheetOf b
-  box-lost (on m) k = cut-none m k
-  box-lost (off s) k = refl
+  pub box-lost : (b : Box) (k : Call) (kept : ℕ → Bool) → Ordered kept → kept kindAt ≡ false → sheetOf (after b (cuts k kept)) ≡ sheetOf b
+  box-lost (on m) k kept o e = cut-none m k kept o e
+  box-lost (off s) k kept o e = refl

@@ -1,14 +1,14 @@
 -- A call over bytes is the call over decoded pages: the bytes that it leaves, or that a cut leaves of it, are the pages that it
 -- leaves.
-use Prim.Native.Nat.{ℕ, zero, suc, _+_, _-_, _*_, min, _≤_, _<_}
+use Prim.Native.Nat.{ℕ, zero, suc, _-_, _*_, _≤_, _<_}
 use mathlib.Core.Path.{_≡_, refl, sym, ap, _∙_}
-use mathlib.Core.List.{List, [], _∷_, _++_, append-nil, append-assoc}
+use mathlib.Core.List.{List, [], _∷_, _++_}
 use mathlib.Core.Bool.{Bool, true, false, cond}
 use native.Mathlib.Omega.{arith}
-use lib.ListN.{length, getD, take, drop, replicate, length-append, length-take, length-drop, length-replicate, take-append-drop}
-use lib.Seq.{ext-getD, take-all, length-take-le, take-append-le, drop-append-le, take-append-add, drop-append-add, drop-drop}
+use lib.ListN.{length, getD, take, drop, replicate, length-take, length-drop, length-replicate, take-append-drop}
+use lib.Seq.{ext-getD, drop-drop}
 use lib.Dec.{eqb, leb, ltb}
-use borrow.Author.Tests.{eqb-true, leb-true, leb-false, eq-eqb, ne-eqb, le-ltb}
+use borrow.Author.Tests.{eqb-true, leb-true, leb-false, eq-eqb, ne-eqb}
 use Rattle.encoding.specs.Bytes.{zeros}
 use Rattle.encoding.proofs.Logic.{and-true}
 use Rattle.page.specs.declared.Unpacked.{Unpacked}
@@ -16,21 +16,20 @@ use Rattle.page.specs.declared.Unpacked.the-variants.{Refused, Blank, Torn, Ope
 use Rattle.page.specs.Layout.{pageSize, mostPlaces, mostFiles}
 use Rattle.page.specs.Answers.{tested, cut}
 use Rattle.page.proofs.Found.{found}
-use Rattle.page.proofs.RoundTrip.{cut-whole}
 use Rattle.recovery.specs.Places.{put}
 use Rattle.recovery.specs.Log.{Entry, blank, torn, bad, opening, image, outcome, fateOf, undecided}
 use Rattle.recovery.specs.Sheet.{pageBytes, entryOf, isOpening, decoded, seal, sealed, pages}
 use Rattle.recovery.specs.World.{World, entryAt}
 use Rattle.recovery.proofs.Pages.{page-at-place}
 use Rattle.calls.specs.Effect.{packedEntry, withPage, grown}
-use Rattle.promises.specs.Runs.{storedTo}
+use Rattle.calls.specs.Cuts.{mixed, storedOf, Ordered}
 use Rattle.promises.proofs.Logs.{entryIn, entry-top, Fits}
 use Rattle.promises.proofs.Fates.{entry-down}
 use Rattle.promises.proofs.Openings.{Holds}
-use Rattle.promises.proofs.Stored.{partial}
+use Rattle.promises.proofs.Mixed.{mixed-long, mixed-all, mixed-same}
 use Rattle.promises.proofs.Cuts.{holds-put}
-use Rattle.promises.proofs.Replaced.{replaced-long, unsealed, bad-blank, bad-opening, decoded-other, pages-replaced}
-use Rattle.promises.proofs.Stored.{Fitting, entry-long, partly-stored}
+use Rattle.promises.proofs.Replaced.{replaced-long, replaced-here, unsealed, bad-blank, bad-opening, decoded-other, pages-replaced}
+use Rattle.promises.proofs.Stored.{bytesOf, partial, Fitting, entry-long, partly-stored}
 use Rattle.promises.proofs.Appended.{live-place, live-opening, FitStep, fit-stay, fit-add}
 
 -- a sheet is determined by its size and its log
@@ -68,56 +67,16 @@ blank-zero files s p l e = go (tested (pageBytes s p) p files) refl e
     go (Outcome x) q k = let z : _≡_ {A = ℕ} 0 1 = cc in absurd (omega arith)
     go Unfit q k = let z : _≡_ {A = ℕ} 0 1 = cc in absurd (omega arith)
 
--- ---- the bytes when i of them are stored of a page at a blank place
+-- a page put where it was
+pub page-back : (s : List ℕ) (e : ℕ) → withPage s e (pageBytes s (suc e)) ≡ s
+unfolding withPage
+page-back s e =
+    ap (λ t. take (pageSize * e) s ++ (pageBytes s (suc e) ++ t)) (sym (drop-drop pageSize (pageSize * e) s))
+    ∙ ap (λ t. take (pageSize * e) s ++ t) (take-append-drop pageSize (drop (pageSize * e) s)) ∙ take-append-drop (pageSize * e) s
 
-module _ (s : List ℕ) (e : ℕ) (x : List ℕ) (k : length x ≡ pageSize) (room : pageSize * e + pageSize ≤ length s) (clean : pageBytes s (suc e) ≡ replicate pageSize 0) where
-  abbrev below : List ℕ
-  below = take (pageSize * e) s
-
-  abbrev above : List ℕ
-  above = drop (pageSize * e + pageSize) s
-
-  below-long : length below ≡ pageSize * e
-  below-long = length-take-le (pageSize * e) s (omega arith)
-
-  parts : s ≡ below ++ (replicate pageSize 0 ++ above)
-  parts =
-      sym (take-append-drop (pageSize * e) s)
-      ∙ ap (λ t. below ++ t) (sym (take-append-drop pageSize (drop (pageSize * e) s)) ∙ ap (λ t. pageBytes s (suc e) ++ t) (drop-drop pageSize (pageSize * e) s) ∙ ap (λ t. t ++ above) clean)
-
-  rest : (i : ℕ) → drop (pageSize * e + i) s ≡ drop i (replicate pageSize 0 ++ above)
-  rest i = ap (drop (pageSize * e + i)) parts ∙ ap (λ n. drop (n + i) (below ++ (replicate pageSize 0 ++ above))) (sym below-long)
-      ∙ drop-append-add below (replicate pageSize 0 ++ above) i
-
-  pub stored-to : (i : ℕ) → storedTo (pageSize * e + i) (withPage s e x) s ≡ withPage s e (cut (min i pageSize) x)
-  unfolding withPage
-  stored-to i =
-      ap (λ t. t ++ drop (pageSize * e + i) s) first ∙ append-assoc below (take i (x ++ above)) (drop (pageSize * e + i) s)
-      ∙ ap (λ t. below ++ (take i (x ++ above) ++ t)) (rest i) ∙ ap (λ t. below ++ t) (go (leb i pageSize) refl)
-    where
-      first : take (pageSize * e + i) (below ++ (x ++ above)) ≡ below ++ take i (x ++ above)
-      first = ap (λ n. take (n + i) (below ++ (x ++ above))) (sym below-long) ∙ take-append-add below (x ++ above) i
-
-      go : (b : Bool) → leb i pageSize ≡ b → take i (x ++ above) ++ drop i (replicate pageSize 0 ++ above) ≡ cut (min i pageSize) x ++ above
-      go true q =
-          let h : i ≤ pageSize = leb-true i pageSize q in
-          let m : min i pageSize ≡ i = omega arith in
-          rw (m, k, take-append-le i x above (omega arith), drop-append-le i (replicate pageSize 0) above (omega (arith, length-replicate {A = ℕ} pageSize 0)), drop-zeros i pageSize)
-          (sym (append-assoc (take i x) (replicate (pageSize - i) 0) above))
-      go false q =
-          let h : pageSize < i = leb-false i pageSize q in
-          let m : min i pageSize ≡ pageSize = omega arith in
-          let j : i ≡ length x + (i - pageSize) = omega arith in
-          let j′ : i ≡ length (replicate {A = ℕ} pageSize 0) + (i - pageSize) = omega (arith, length-replicate {A = ℕ} pageSize 0) in
-          let whole : cut pageSize x ≡ x = rw k (ap (λ t. t ++ []) (take-all pageSize x (omega arith)) ∙ append-nil x) in
-          rw m (
-          ap (λ n. take n (x ++ above) ++ drop i (replicate pageSize 0 ++ above)) j
-          ∙ ap (λ t. t ++ drop i (replicate pageSize 0 ++ above)) (take-append-add x above (i - pageSize))
-          ∙ ap (λ n. (x ++ take (i - pageSize) above) ++ drop n (replicate pageSize 0 ++ above)) j′
-          ∙ ap (λ t. (x ++ take (i - pageSize) above) ++ t) (drop-append-add (replicate pageSize 0) above (i - pageSize))
-          ∙ append-assoc x (take (i - pageSize) above) (drop (i - pageSize) above)
-          ∙ ap (λ t. x ++ t) (take-append-drop (i - pageSize) above)
-          ∙ ap (λ t. t ++ above) (sym whole))
+-- a cut of a call that stored nothing
+pub cut-same : (kept : ℕ → Bool) (s : List ℕ) (e : ℕ) → storedOf kept e s s ≡ s
+cut-same kept s e = ap (withPage s e) (mixed-same kept (pageBytes s (suc e))) ∙ page-back s e
 
 -- ---- a page stored above the end
 
@@ -150,39 +109,42 @@ module _ (files n : ℕ) (s : List ℕ) (l : List Entry) (h : Holds (pages files
     seal-new x (image i) k f = ap (λ y. cond (isOpening y) (image i) bad) (live x k (i .action) (f .live))
     seal-new x (outcome a c) k f = ap (λ y. cond (isOpening y) (outcome a c) bad) (live x k a f)
 
-    -- the pages, when i bytes of the page are stored
-    module _ (g : Entry) (f : Fits g l) (pk : Fitting files (suc (length l)) g) (i : ℕ) where
+    -- the pages, when these bytes of the page are stored
+    module _ (g : Entry) (f : Fits g l) (pk : Fitting files (suc (length l)) g) (kept : ℕ → Bool) (o : Ordered kept) where
       abbrev first : List ℕ
-      first = cut (min i pageSize) (packedEntry (suc (length l)) g)
+      first = mixed kept (packedEntry (suc (length l)) g) (replicate pageSize 0)
+
+      page-long : length (packedEntry (suc (length l)) g) ≡ pageSize
+      page-long = entry-long files (suc (length l)) g pk
 
       first-long : length first ≡ pageSize
-      first-long = simp (length-append, length-take, length-replicate) (omega (arith, entry-long files (suc (length l)) g pk))
+      first-long = mixed-long kept (packedEntry (suc (length l)) g) (replicate pageSize 0) (length-replicate {A = ℕ} pageSize 0 ∙ sym page-long) ∙ page-long
 
       seal-partial : (b c : Bool) → seal (decoded files (withPage s (length l) first)) (cond b blank (cond c torn g)) ≡ cond b blank (cond c torn g)
       seal-partial true c = refl
       seal-partial false true = refl
       seal-partial false false = seal-new first g first-long f
 
-      min-partial : cond (eqb (min i pageSize) 0) blank (cond (ltb (min i pageSize) pageSize) torn g) ≡ partial i g
-      min-partial = go (leb i pageSize) refl
-        where
-          go : (b : Bool) → leb i pageSize ≡ b → cond (eqb (min i pageSize) 0) blank (cond (ltb (min i pageSize) pageSize) torn g) ≡ partial i g
-          go true e = let m : min i pageSize ≡ i = omega (arith, leb-true i pageSize e) in rw m
-          go false e =
-              let m : min i pageSize ≡ pageSize = omega (arith, leb-false i pageSize e) in
-              rw (m, ne-eqb i 0 (λ z. omega (arith, leb-false i pageSize e)), le-ltb i pageSize (omega (arith, leb-false i pageSize e)))
+      pub stored-pages : pages files n (withPage s (length l) first) ≡ put (pages files n s) (suc (length l)) (partial (bytesOf kept) g)
+      stored-pages = pages-replaced files n s (length l) first long room first-long (λ p q r. h .clean p q) (partial (bytesOf kept) g)
+          (ap (seal (decoded files (withPage s (length l) first))) (partly-stored files (suc (length l)) (omega arith) (omega arith) some few g pk kept o)
+          ∙ seal-partial (eqb (bytesOf kept) 0) (ltb (bytesOf kept) pageSize))
 
-      pub stored-pages : pages files n (withPage s (length l) first) ≡ put (pages files n s) (suc (length l)) (partial i g)
-      stored-pages = pages-replaced files n s (length l) first long room first-long (λ p q r. h .clean p q) (partial i g)
-          (ap (seal (decoded files (withPage s (length l) first)))
-          (partly-stored files (suc (length l)) (omega arith) (omega arith) some few g pk (min i pageSize) (omega arith) ∙ min-partial)
-          ∙ seal-partial (eqb i 0) (ltb i pageSize))
+      -- what the cut leaves of them
+      cut-stored : storedOf kept (length l) (withPage s (length l) (packedEntry (suc (length l)) g)) s ≡ withPage s (length l) first
+      cut-stored =
+          ap (λ b. withPage s (length l) (mixed kept b (pageBytes s (suc (length l))))) (replaced-here s n (length l) (packedEntry (suc (length l)) g) long room page-long)
+          ∙ ap (λ b. withPage s (length l) (mixed kept (packedEntry (suc (length l)) g) b)) page-zero
+
+    every : Ordered (λ i. true)
+    every = record { first = λ i h e. refl; last = λ e i h. refl }
 
     stored-whole : (g : Entry) → Fits g l → Fitting files (suc (length l)) g
         → pages files n (withPage s (length l) (packedEntry (suc (length l)) g)) ≡ put (pages files n s) (suc (length l)) g
     stored-whole g f pk =
-        let z : cut pageSize (packedEntry (suc (length l)) g) ≡ packedEntry (suc (length l)) g = cut-whole pageSize (packedEntry (suc (length l)) g) (sym (entry-long files (suc (length l)) g pk)) in
-        rw z at (stored-pages g f pk pageSize)
+        let z : mixed (λ i. true) (packedEntry (suc (length l)) g) (replicate pageSize 0) ≡ packedEntry (suc (length l)) g =
+        mixed-all (λ i. true) (packedEntry (suc (length l)) g) (replicate pageSize 0) (length-replicate {A = ℕ} pageSize 0 ∙ sym (entry-long files (suc (length l)) g pk)) (λ i k. refl) in
+        ap (λ b. pages files n (withPage s (length l) b)) (sym z) ∙ stored-pages g f pk (λ i. true) every
 
   -- ---- the bytes that a call leaves, or that a cut leaves of it
 
@@ -202,22 +164,18 @@ module _ (files n : ℕ) (s : List ℕ) (l : List Entry) (h : Holds (pages files
       rw (e, ne-eqb (suc (length l)) (length l) (λ q. omega arith), new-page w g k)
       (replaced-long s n (length l) (packedEntry (suc (length l)) g) long (k .room) (entry-long files (suc (length l)) g (pk (k .lawful))))
 
-  cut-stored : (g : Entry) → length l < n → Fitting files (suc (length l)) g → (i : ℕ)
-      → storedTo (pageSize * length l + i) (withPage s (length l) (packedEntry (suc (length l)) g)) s ≡ withPage s (length l) (cut (min i pageSize) (packedEntry (suc (length l)) g))
-  cut-stored g room pk i = stored-to s (length l) (packedEntry (suc (length l)) g) (entry-long files (suc (length l)) g pk) (omega arith) (page-zero room) i
-
-  pub cut-pages : {l′ : List Entry} → FitStep files l l′ → (w : World) → Holds (w .sheet) n l′ → w .end ≡ length l′ → (i : ℕ)
-      → pages files n (storedTo (pageSize * length l + i) (grown s (length l) w) s)
-      ≡ cond (eqb (w .end) (length l)) (pages files n s) (put (pages files n s) (suc (length l)) (partial i (entryAt w (suc (length l)))))
-  cut-pages fit-stay w k e i = rw (e, eq-eqb (length l) (length l) refl) (ap (pages files n) (take-append-drop (pageSize * length l + i) s))
-  cut-pages (fit-add g pk) w k e i =
+  pub cut-pages : {l′ : List Entry} → FitStep files l l′ → (w : World) → Holds (w .sheet) n l′ → w .end ≡ length l′ → (kept : ℕ → Bool) → Ordered kept
+      → pages files n (storedOf kept (length l) (grown s (length l) w) s)
+      ≡ cond (eqb (w .end) (length l)) (pages files n s) (put (pages files n s) (suc (length l)) (partial (bytesOf kept) (entryAt w (suc (length l)))))
+  cut-pages fit-stay w k e kept o = rw (e, eq-eqb (length l) (length l) refl) (ap (pages files n) (cut-same kept s (length l)))
+  cut-pages (fit-add g pk) w k e kept o =
       rw (e, ne-eqb (suc (length l)) (length l) (λ q. omega arith), new-page w g k)
-      (ap (pages files n) (cut-stored g (k .room) (pk (k .lawful)) i) ∙ stored-pages (k .room) g (k .lawful .0) (pk (k .lawful)) i)
+      (ap (pages files n) (cut-stored (k .room) g (k .lawful .0) (pk (k .lawful)) kept o) ∙ stored-pages (k .room) g (k .lawful .0) (pk (k .lawful)) kept o)
 
-  pub cut-long : {l′ : List Entry} → FitStep files l l′ → (w : World) → Holds (w .sheet) n l′ → w .end ≡ length l′ → (i : ℕ)
-      → length (storedTo (pageSize * length l + i) (grown s (length l) w) s) ≡ pageSize * n
-  cut-long fit-stay w k e i = rw (e, eq-eqb (length l) (length l) refl) (ap length (take-append-drop (pageSize * length l + i) s) ∙ long)
-  cut-long (fit-add g pk) w k e i =
+  pub cut-long : {l′ : List Entry} → FitStep files l l′ → (w : World) → Holds (w .sheet) n l′ → w .end ≡ length l′ → (kept : ℕ → Bool) → Ordered kept
+      → length (storedOf kept (length l) (grown s (length l) w) s) ≡ pageSize * n
+  cut-long fit-stay w k e kept o = rw (e, eq-eqb (length l) (length l) refl) (ap length (cut-same kept s (length l)) ∙ long)
+  cut-long (fit-add g pk) w k e kept o =
       rw (e, ne-eqb (suc (length l)) (length l) (λ q. omega arith), new-page w g k)
-      (ap length (cut-stored g (k .room) (pk (k .lawful)) i)
-      ∙ replaced-long s n (length l) (cut (min i pageSize) (packedEntry (suc (length l)) g)) long (k .room) (first-long (k .room) g (k .lawful .0) (pk (k .lawful)) i))
+      (ap length (cut-stored (k .room) g (k .lawful .0) (pk (k .lawful)) kept o)
+      ∙ replaced-long s n (length l) (first (k .room) g (k .lawful .0) (pk (k .lawful)) kept o) long (k .room) (first-long (k .room) g (k .lawful .0) (pk (k .lawful)) kept o))

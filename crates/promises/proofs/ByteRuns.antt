@@ -1,5 +1,5 @@
 -- A run over bytes is a run over decoded pages: each event of a box is one of its world, or none if the box is off.
-use Prim.Native.Nat.{ℕ, suc, _+_, _*_, _/_, _%_, _≤_}
+use Prim.Native.Nat.{ℕ, suc, _*_, _/_, _%_, _≤_}
 use mathlib.Core.Path.{_≡_, refl, sym, ap, _∙_, subst}
 use mathlib.Core.List.{List, [], _∷_, _++_}
 use mathlib.Core.Bool.{Bool, true, false, cond, _&&_}
@@ -23,10 +23,11 @@ use Rattle.recovery.proofs.Sizes.{sizes-right}
 use Rattle.recovery.proofs.OpeningLaws.{open-refused}
 use Rattle.calls.specs.Calls.{Call, call}
 use Rattle.calls.specs.Effect.{grown, lower, callLeaves}
-use Rattle.promises.specs.Runs.{Box, on, off, sheetOf, Event, calls, opens, cuts, callOn, boxOf, storedTo, answerTo, after, runs, Typed, Allowed, AllAllowed}
+use Rattle.calls.specs.Cuts.{storedOf, Ordered}
+use Rattle.promises.specs.Runs.{Box, on, off, sheetOf, Event, calls, opens, cuts, callOn, boxOf, answerTo, after, runs, Typed, Allowed, AllAllowed}
 use Rattle.promises.proofs.Ledger.{Ledger, ledgerCall}
 use Rattle.promises.proofs.Openings.{Holds, sim-holds, sim-open}
-use Rattle.promises.proofs.Stored.{partial}
+use Rattle.promises.proofs.Stored.{bytesOf, partial}
 use Rattle.promises.proofs.Cuts.{cutSheet, moves}
 use Rattle.recovery.specs.Places.{put}
 use Rattle.promises.proofs.Sim.{Sim}
@@ -106,15 +107,15 @@ module _ (files n : ℕ) where
   abbrev pub onAfter : Bool → Event → Bool
   onAfter b (calls k) = b
   onAfter b (opens floor fates rows) = sizesRight (pageSize * n) (length fates) (length rows)
-  onAfter b (cuts k i) = false
+  onAfter b (cuts k kept) = false
 
   -- an opening that line 1 refuses leaves nothing of the fates and rows that it was lent
   abbrev pub eventsOf : Bool → Event → List paged.Event
   eventsOf true (calls k) = paged.calls k ∷ []
   eventsOf false (calls k) = []
   eventsOf b (opens floor fates rows) = cond (sizesRight (pageSize * n) (length fates) (length rows)) (paged.opens floor fates (rowsOf rows)) (paged.fails floor [] []) ∷ []
-  eventsOf true (cuts k i) = paged.cuts k i ∷ []
-  eventsOf false (cuts k i) = []
+  eventsOf true (cuts k kept) = paged.cuts k (bytesOf kept) ∷ []
+  eventsOf false (cuts k kept) = []
 
   abbrev pub answerIn : World → List paged.Event → Option Answer
   answerIn w [] = none
@@ -202,25 +203,25 @@ module _ (files n : ℕ) where
         powered = refl;
       }
 
-      cut-follows : (i : ℕ) → Follows (on m) (cuts k i)
+      cut-follows : (kept : ℕ → Bool) → Ordered kept → Follows (on m) (cuts k kept)
       unfolding cutSheet
-      cut-follows i = record {
+      cut-follows kept o = record {
         sound = record {
-          long = ap length bytes-are ∙ cut-long files n (m .sheet) (l .log) held (s .long) (z .most-pages) (z .some-files) (z .most-files) fits (call (worldIn m) k .1) held-after (after-call .ends) i;
+          long = ap length bytes-are ∙ cut-long files n (m .sheet) (l .log) held (s .long) (z .most-pages) (z .some-files) (z .most-files) fits (call (worldIn m) k .1) held-after (after-call .ends) kept o;
           rows = tt;
         };
         world = ap powerless (ap (pages files n) bytes-are
-            ∙ cut-pages files n (m .sheet) (l .log) held (s .long) (z .most-pages) (z .some-files) (z .most-files) fits (call (worldIn m) k .1) held-after (after-call .ends) i
-            ∙ ap (λ e. cond (eqb (call (worldIn m) k .1 .end) e) (pages files n (m .sheet)) (put (pages files n (m .sheet)) (suc e) (partial i (entryAt (call (worldIn m) k .1) (suc e))))) (sym end-is));
+            ∙ cut-pages files n (m .sheet) (l .log) held (s .long) (z .most-pages) (z .some-files) (z .most-files) fits (call (worldIn m) k .1) held-after (after-call .ends) kept o
+            ∙ ap (λ e. cond (eqb (call (worldIn m) k .1 .end) e) (pages files n (m .sheet)) (put (pages files n (m .sheet)) (suc e) (partial (bytesOf kept) (entryAt (call (worldIn m) k .1) (suc e))))) (sym end-is));
         power = refl;
         answer = refl;
         proper = (tt, tt);
         powered = refl;
       }
         where
-          bytes-are : storedTo (pageSize * m .state .end + i) (callOn m k .sheet) (m .sheet) ≡ storedTo (pageSize * length (l .log) + i) (grown (m .sheet) (length (l .log)) (call (worldIn m) k .1)) (m .sheet)
-          bytes-are = ap (λ t. storedTo (pageSize * m .state .end + i) t (m .sheet)) sheet-is
-              ∙ ap (λ e. storedTo (pageSize * e + i) (grown (m .sheet) (length (l .log)) (call (worldIn m) k .1)) (m .sheet)) end-is
+          bytes-are : storedOf kept (m .state .end) (callOn m k .sheet) (m .sheet) ≡ storedOf kept (length (l .log)) (grown (m .sheet) (length (l .log)) (call (worldIn m) k .1)) (m .sheet)
+          bytes-are = ap (λ t. storedOf kept (m .state .end) t (m .sheet)) sheet-is
+              ∙ ap (λ e. storedOf kept e (grown (m .sheet) (length (l .log)) (call (worldIn m) k .1)) (m .sheet)) end-is
 
     -- an opening: refused by line 1, or else accepted
     module _ (b : Box) (l : Ledger) (a : At n files (isOn b) (worldOf b) l) (s : Sound b) (floor : ℕ) (fates rows : List ℕ) where
@@ -301,8 +302,8 @@ module _ (files n : ℕ) where
     event-follows (on m) l a s (calls k) t = call-follows m l a s k t
     event-follows (off u) l a s (calls k) t = record { sound = s; world = refl; power = refl; answer = refl; proper = tt; powered = refl }
     event-follows b l a s (opens floor fates rows) t = open-follows b l a s floor fates rows t
-    event-follows (on m) l a s (cuts k i) t = cut-follows m l a s k t i
-    event-follows (off u) l a s (cuts k i) t = record { sound = s; world = refl; power = refl; answer = refl; proper = tt; powered = refl }
+    event-follows (on m) l a s (cuts k kept) t = cut-follows m l a s k (t .0) kept (t .1)
+    event-follows (off u) l a s (cuts k kept) t = record { sound = s; world = refl; power = refl; answer = refl; proper = tt; powered = refl }
 
     -- the ledger along an event
     pub at-next : (b : Box) (l : Ledger) → At n files (isOn b) (worldOf b) l → (e : Event) → Follows b e

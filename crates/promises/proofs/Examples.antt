@@ -1,20 +1,21 @@
--- Runs that meet the premises of the promises, with what they hear: document 01's listing, a change of two locks that is cut at every
--- byte, a read before and after a cut, and rows rebuilt in two orders.
-use Prim.Native.Nat.{ℕ, max, _*_, _≤_, _<_}
+-- Runs that meet the premises of the promises, with what they hear: document 01's listing, a change of two locks that is cut with any
+-- of its bytes stored, a read before and after a cut, and rows rebuilt in two orders.
+use Prim.Native.Nat.{ℕ, max, _*_, _≤_}
 use mathlib.Core.Path.{_≡_, refl, _∙_, subst}
 use mathlib.Core.List.{List, [], _∷_, _++_}
 use mathlib.Core.Bool.{Bool, true, false, cond}
 use mathlib.Core.Option.{Option, some, none}
 use native.Mathlib.Omega.{arith}
-use lib.ListN.{length, replicate}
-use lib.Dec.{eqb, ltb}
+use lib.ListN.{replicate}
 use Rattle.recovery.specs.declared.Answer.{Answer}
 use Rattle.recovery.specs.declared.Answer.the-variants.{Refused, Opened, Stored, Value, Nothing, Told}
 use Rattle.calls.specs.Calls.{Call, begin, write, read, test, decide, rebuild}
-use Rattle.promises.specs.Runs.{Box, Event, calls, opens, cuts, answerTo, after, runs, heard, Run, blankBox, Floors}
+use Rattle.calls.specs.Cuts.{Ordered, firstBytes}
+use Rattle.promises.specs.Runs.{Box, Event, calls, opens, cuts, after, heard, Run, blankBox, Floors}
 use Rattle.recovery.specs.Lent.{sizesRight}
 use Rattle.promises.specs.Model.{latest, blankModel, modelHeard}
 use Rattle.promises.specs.Promises.{othersHeard}
+use Rattle.promises.proofs.Mixed.{first-ordered}
 use Rattle.promises.proofs.Proved.{promised}
 
 -- an opening of a sheet of so many pages for so many files, lent zeros
@@ -33,7 +34,7 @@ listing n =
     ∷ calls (read 3 10 0)
     ∷ calls begin
     ∷ calls (write 3 12 4 (0x43 ∷ 0x44 ∷ []))
-    ∷ cuts (decide 4 true) 20
+    ∷ cuts (decide 4 true) (firstBytes 20)
     ∷ opening n 8 0
     ∷ calls (test 4)
     ∷ calls (read 3 11 0)
@@ -67,21 +68,21 @@ heard-by pages files es answers r e = promised pages files .as-model es r ∙ e
 
 listing-run : Run 256 8 (listing 256)
 unfolding sizesRight
-listing-run = record { sized = refl; allowed = (λ e. refl, (tt, (omega arith, (tt, (tt, (tt, (tt, (tt, (omega arith, (tt, (λ e. refl, (tt, (tt, (tt, (tt, tt))))))))))))))) }
+listing-run = record { sized = refl; allowed = (λ e. refl, (tt, (omega arith, (tt, (tt, (tt, (tt, (tt, (omega arith, ((tt, first-ordered 20), (λ e. refl, (tt, (tt, (tt, (tt, tt))))))))))))))) }
 
 pub listing-heard : heard (blankBox 256) (listing 256) ≡ told
 unfolding modelHeard latest sizesRight
 listing-heard = heard-by 256 8 (listing 256) told listing-run refl
 
--- ---- two locks changed in one action, and the supply pulled after i bytes of its outcome
+-- ---- two locks changed in one action, and the supply pulled when these bytes of its outcome are stored
 
-abbrev change : ℕ → List Event
-change i =
+abbrev change : (ℕ → Bool) → List Event
+change kept =
     opening 6 2 0
     ∷ calls begin
     ∷ calls (write 1 10 1 (7 ∷ []))
     ∷ calls (write 2 10 1 (8 ∷ []))
-    ∷ cuts (decide 1 true) i
+    ∷ cuts (decide 1 true) kept
     ∷ opening 6 2 0
     ∷ calls (read 1 10 1)
     ∷ calls (read 2 10 1)
@@ -93,26 +94,26 @@ change i =
 abbrev changed : Answer → Answer → Answer → Answer → Answer → List (Option Answer)
 changed o a b c d = some (Opened 0 0) ∷ some (Stored 1) ∷ some (Stored 2) ∷ some (Stored 3) ∷ none ∷ some o ∷ some a ∷ some b ∷ some c ∷ some d ∷ []
 
-change-run : (i : ℕ) → Run 6 2 (change i)
+change-run : (kept : ℕ → Bool) → Ordered kept → Run 6 2 (change kept)
 unfolding sizesRight
-change-run i = record { sized = refl; allowed = (λ e. refl, (tt, (omega arith, (omega arith, (tt, (λ e. refl, (tt, (tt, (tt, (tt, tt)))))))))) }
+change-run kept o = record { sized = refl; allowed = (λ e. refl, (tt, (omega arith, (omega arith, ((tt, o), (λ e. refl, (tt, (tt, (tt, (tt, tt)))))))))) }
 
 -- both or none: shown to all exactly if all 64 bytes are stored
-pub change-heard : (i : ℕ)
-    → heard (blankBox 6) (change i)
-    ≡ cond (eqb i 0) (changed (Opened 3 1) (Value 2 10 1) (Value 3 10 1) (Refused 9 1) (Refused 9 1))
-    (cond (ltb i 64) (changed (Opened 4 1) (Value 2 10 1) (Value 3 10 1) (Refused 9 1) (Refused 9 1))
-    (changed (Opened 4 0) (Refused 6 0) (Refused 6 0) (Value 2 10 1) (Value 3 10 1)))
+pub change-heard : (kept : ℕ → Bool) → Ordered kept
+    → heard (blankBox 6) (change kept)
+    ≡ cond (kept 0) (cond (kept 63) (changed (Opened 4 0) (Refused 6 0) (Refused 6 0) (Value 2 10 1) (Value 3 10 1))
+    (changed (Opened 4 1) (Value 2 10 1) (Value 3 10 1) (Refused 9 1) (Refused 9 1)))
+    (changed (Opened 3 1) (Value 2 10 1) (Value 3 10 1) (Refused 9 1) (Refused 9 1))
 unfolding modelHeard latest sizesRight
-change-heard i = heard-by 6 2 (change i) _ (change-run i) (go (eqb i 0) (ltb i 64) refl refl)
+change-heard kept o = heard-by 6 2 (change kept) _ (change-run kept o) (go (kept 0) (kept 63) refl refl)
   where
-    go : (b c : Bool) → eqb i 0 ≡ b → ltb i 64 ≡ c → modelHeard false (blankModel 6 2) (change i)
-        ≡ cond (eqb i 0) (changed (Opened 3 1) (Value 2 10 1) (Value 3 10 1) (Refused 9 1) (Refused 9 1))
-        (cond (ltb i 64) (changed (Opened 4 1) (Value 2 10 1) (Value 3 10 1) (Refused 9 1) (Refused 9 1))
-        (changed (Opened 4 0) (Refused 6 0) (Refused 6 0) (Value 2 10 1) (Value 3 10 1)))
-    go true c e f = rw e
-    go false true e f = rw (e, f)
-    go false false e f = rw (e, f)
+    go : (b c : Bool) → kept 0 ≡ b → kept 63 ≡ c → modelHeard false (blankModel 6 2) (change kept)
+        ≡ cond (kept 0) (cond (kept 63) (changed (Opened 4 0) (Refused 6 0) (Refused 6 0) (Value 2 10 1) (Value 3 10 1))
+        (changed (Opened 4 1) (Value 2 10 1) (Value 3 10 1) (Refused 9 1) (Refused 9 1)))
+        (changed (Opened 3 1) (Value 2 10 1) (Value 3 10 1) (Refused 9 1) (Refused 9 1))
+    go false c e f = rw e
+    go true true e f = rw (e, f)
+    go true false e f = rw (e, f)
 
 -- ---- floors, event by event
 
@@ -153,11 +154,11 @@ before = opening 10 2 0 ∷ calls begin ∷ calls (write 1 5 1 (7 ∷ [])) ∷ c
 
 -- between: a newer version, and one that is cut
 abbrev between : List Event
-between = calls begin ∷ calls (write 1 9 4 (8 ∷ [])) ∷ calls (decide 4 true) ∷ calls begin ∷ cuts (write 1 12 7 (9 ∷ [])) 30 ∷ opening 10 2 6 ∷ []
+between = calls begin ∷ calls (write 1 9 4 (8 ∷ [])) ∷ calls (decide 4 true) ∷ calls begin ∷ cuts (write 1 12 7 (9 ∷ [])) (firstBytes 30) ∷ opening 10 2 6 ∷ []
 
 again-run : Run 10 2 (before ++ calls (read 1 6 0) ∷ between)
 unfolding sizesRight
-again-run = record { sized = refl; allowed = (λ e. refl, (tt, (omega arith, (tt, (tt, (tt, (omega arith, (tt, (tt, (omega arith, (λ e. refl, tt))))))))))) }
+again-run = record { sized = refl; allowed = (λ e. refl, (tt, (omega arith, (tt, (tt, (tt, (omega arith, (tt, (tt, ((omega arith, first-ordered 30), (λ e. refl, tt))))))))))) }
 
 again-floors : Floors (blankBox 10) (before ++ calls (read 1 6 0) ∷ between)
 again-floors = checked-floors (blankBox 10) (before ++ calls (read 1 6 0) ∷ between) (omega arith, (omega arith, tt))
@@ -174,7 +175,7 @@ pub again-heard : heard (blankBox 10) (before ++ calls (read 1 6 0) ∷ (between
     ∷ some (Value 2 5 1) ∷ some (Refused 10 0) ∷ some (Stored 9) ∷ some (Told 2) ∷ some Nothing ∷ []
 unfolding modelHeard latest sizesRight
 again-heard = heard-by 10 2 (before ++ calls (read 1 6 0) ∷ (between ++ afterwards)) _
-    (record { sized = refl; allowed = (λ e. refl, (tt, (omega arith, (tt, (tt, (tt, (omega arith, (tt, (tt, (omega arith, (λ e. refl, (tt, (omega arith, (omega arith, (tt, (tt, tt)))))))))))))))) }) refl
+    (record { sized = refl; allowed = (λ e. refl, (tt, (omega arith, (tt, (tt, (tt, (omega arith, (tt, (tt, ((omega arith, first-ordered 30), (λ e. refl, (tt, (omega arith, (omega arith, (tt, (tt, tt)))))))))))))))) }) refl
 
 -- ---- one file asked for alone, then all: rows rebuilt in two orders, or none
 

@@ -1,23 +1,25 @@
 -- What the page test says of a page that a call appends, when all of its bytes are stored, or some, or none.
 use Prim.Native.Nat.{ℕ, _-_, _^_, _≤_, _<_}
-use mathlib.Core.Path.{_≡_, refl, ap, _∙_}
+use mathlib.Core.Path.{_≡_, refl, sym, ap, _∙_}
+use mathlib.Core.List.{List}
 use mathlib.Core.Bool.{Bool, true, false, cond}
 use native.Mathlib.Omega.{arith}
 use lib.ListN.{length, take, replicate, length-append, length-replicate}
 use lib.Seq.{take-at}
 use lib.Dec.{eqb, ltb}
-use borrow.Author.Tests.{ltb-false}
 use Rattle.page.specs.declared.Unpacked.the-variants.{Blank, Torn}
-use Rattle.page.specs.Layout.{pageSize, valueSize, mostPlaces, mostFiles}
+use Rattle.page.specs.Layout.{pageSize, valueSize, mostPlaces, mostFiles, kindAt, markAt}
 use Rattle.page.specs.Table.{meetsRules, valueOf}
-use Rattle.page.specs.Answers.{tested, byKind, cut}
+use Rattle.page.specs.Answers.{tested, byKind}
 use Rattle.page.proofs.Rules.{InBounds}
-use Rattle.page.proofs.RoundTrip.{length-packed, value-back, cut-tested, cut-whole}
+use Rattle.page.proofs.RoundTrip.{length-packed, value-back}
 use Rattle.page.proofs.Obeyed.{opening-rules, image-rules, outcome-rules}
 use Rattle.recovery.specs.Log.{Image, Entry, blank, torn, bad, opening, image, outcome}
 use Rattle.recovery.specs.Sheet.{entryOf}
 use Rattle.calls.specs.Effect.{padded, fieldsAt, valueAt, packedEntry}
 use Rattle.calls.proofs.WritePads.{pad-zeros}
+use Rattle.calls.specs.Cuts.{mixed, Ordered}
+use Rattle.promises.proofs.Mixed.{mixed-all, any-cut-tested}
 
 -- an entry whose page obeys the rules of its kind at a place
 pub record ImageFitting (files p : ℕ) (i : Image) : Type 0 where
@@ -37,6 +39,10 @@ Fitting files p bad = ⊥
 Fitting files p opening = Unit {0}
 Fitting files p (image i) = ImageFitting files p i
 Fitting files p (outcome a c) = (1 ≤ a) × (a < p)
+
+-- a number for the bytes that are stored: 0 for none, 64 for all, 1 for some
+abbrev pub bytesOf : (ℕ → Bool) → ℕ
+bytesOf kept = cond (kept kindAt) (cond (kept markAt) pageSize 1) 0
 
 -- the page of an entry when n of its bytes are stored
 abbrev pub partial : ℕ → Entry → Entry
@@ -87,18 +93,21 @@ module _ (files p : ℕ) where
     back (outcome a true) h = refl
     back (outcome a false) h = refl
 
-    test-is : (g : Entry) → Fitting files p g → (n : ℕ) → n ≤ pageSize
-        → tested (cut n (packedEntry p g)) p files ≡ cond (eqb n 0) Blank (cond (ltb n pageSize) Torn (byKind (fieldsAt p g)))
-    unfolding packedEntry
-    test-is g h n k = cut-tested (fieldsAt p g) (valueAt g) p files (value-long g h) bounds (rules g h) n k
+    -- any of its bytes stored at a blank place
+    abbrev bytesIn : (ℕ → Bool) → Entry → List ℕ
+    bytesIn kept g = mixed kept (packedEntry p g) (replicate pageSize 0)
 
-    pub partly-stored : (g : Entry) → Fitting files p g → (n : ℕ) → n ≤ pageSize
-        → entryOf (cut n (packedEntry p g)) (tested (cut n (packedEntry p g)) p files) ≡ partial n g
-    partly-stored g h n k = ap (entryOf (cut n (packedEntry p g))) (test-is g h n k) ∙ go (eqb n 0) (ltb n pageSize) refl
+    test-is : (g : Entry) → Fitting files p g → (kept : ℕ → Bool) → Ordered kept
+        → tested (bytesIn kept g) p files ≡ cond (kept kindAt) (cond (kept markAt) (byKind (fieldsAt p g)) Torn) Blank
+    unfolding packedEntry
+    test-is g h kept o = any-cut-tested (fieldsAt p g) (valueAt g) p files (value-long g h) bounds (rules g h) kept o
+
+    pub partly-stored : (g : Entry) → Fitting files p g → (kept : ℕ → Bool) → Ordered kept → entryOf (bytesIn kept g) (tested (bytesIn kept g) p files) ≡ partial (bytesOf kept) g
+    partly-stored g h kept o = ap (entryOf (bytesIn kept g)) (test-is g h kept o) ∙ go (kept kindAt) (kept markAt) refl
       where
-        go : (b c : Bool) → ltb n pageSize ≡ c → entryOf (cut n (packedEntry p g)) (cond b Blank (cond c Torn (byKind (fieldsAt p g)))) ≡ cond b blank (cond c torn g)
-        go true c e = refl
-        go false true e = refl
-        go false false e =
-            let z : cut n (packedEntry p g) ≡ packedEntry p g = cut-whole n (packedEntry p g) (omega (arith, entry-long g h, ltb-false n pageSize e)) in
+        go : (a b : Bool) → kept markAt ≡ b → entryOf (bytesIn kept g) (cond a (cond b (byKind (fieldsAt p g)) Torn) Blank) ≡ partial (cond a (cond b pageSize 1) 0) g
+        go false b e = refl
+        go true false e = refl
+        go true true e =
+            let z : bytesIn kept g ≡ packedEntry p g = mixed-all kept (packedEntry p g) (replicate pageSize 0) (length-replicate {A = ℕ} pageSize 0 ∙ sym (entry-long g h)) (λ i k. o .last e i (omega (arith, entry-long g h))) in
             ap (λ b. entryOf b (byKind (fieldsAt p g))) z ∙ back g h

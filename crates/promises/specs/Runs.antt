@@ -1,18 +1,18 @@
 -- Runs of a box: calls, openings and cuts of the supply, in any number and order, what each is answered and what it leaves.
-use Prim.Native.Nat.{ℕ, _+_, _*_, _^_, _≤_, _<_}
+use Prim.Native.Nat.{ℕ, _*_, _^_, _≤_, _<_}
 use mathlib.Core.Path.{_≡_}
 use mathlib.Core.List.{List, [], _∷_, _++_}
-use mathlib.Core.Bool.{true, false, cond}
+use mathlib.Core.Bool.{Bool, true, false, cond}
 use mathlib.Core.Option.{Option, some, none}
-use lib.ListN.{length, take, drop, replicate}
+use lib.ListN.{length, replicate}
 use Rattle.page.specs.Layout.{pageSize}
-use Rattle.recovery.specs.declared.State.{State}
 use Rattle.recovery.specs.declared.Answer.{Answer}
 use Rattle.recovery.specs.Numbers.{isRefused}
 use Rattle.recovery.specs.World.{sizes}
 use Rattle.recovery.specs.Lent.{Left, rowLength, sizesRight, openLeaves}
 use Rattle.calls.specs.Calls.{Call, begin, write, read, test, decide, rebuild}
 use Rattle.calls.specs.Effect.{callLeaves}
+use Rattle.calls.specs.Cuts.{Ordered, storedOf}
 
 -- a box is on, with all that the last call left it, or off, with its sheet alone
 pub data Box : Type 0 where
@@ -23,12 +23,12 @@ abbrev pub sheetOf : Box → List ℕ
 sheetOf (on m) = m .sheet
 sheetOf (off s) = s
 
--- a call; an opening, with its floor and with the fates and rows that it is lent, as they are found; a call that is cut when so
--- many bytes of the page that it appends are stored
+-- a call; an opening, with its floor and with the fates and rows that it is lent, as they are found; a call that is cut when these
+-- bytes of the page that it appends, of 0 to 63, are stored
 pub data Event : Type 0 where
   calls : Call → Event
   opens : ℕ → List ℕ → List ℕ → Event
-  cuts : Call → ℕ → Event
+  cuts : Call → (ℕ → Bool) → Event
 
 -- a call gets what the last one left, and leaves what its contract says
 abbrev pub callOn : Left → Call → Left
@@ -38,23 +38,19 @@ callOn m k = callLeaves (m .sheet) (m .fates) (m .rows) (m .state) k
 abbrev pub boxOf : Left → Box
 boxOf x = cond (isRefused (x .answer)) (off (x .sheet)) (on x)
 
--- a page's bytes are stored first to last
-abbrev pub storedTo : ℕ → List ℕ → List ℕ → List ℕ
-storedTo i new old = take i new ++ drop i old
-
 -- a box that is off answers no call
 abbrev pub answerTo : Box → Event → Option Answer
 answerTo (on m) (calls k) = some (callOn m k .answer)
 answerTo (off s) (calls k) = none
 answerTo b (opens floor fates rows) = some (openLeaves (sheetOf b) fates rows floor .answer)
-answerTo b (cuts k n) = none
+answerTo b (cuts k kept) = none
 
 abbrev pub after : Box → Event → Box
 after (on m) (calls k) = on (callOn m k)
 after (off s) (calls k) = off s
 after b (opens floor fates rows) = boxOf (openLeaves (sheetOf b) fates rows floor)
-after (on m) (cuts k n) = off (storedTo (pageSize * m .state .end + n) (callOn m k .sheet) (m .sheet))
-after (off s) (cuts k n) = off s
+after (on m) (cuts k kept) = off (storedOf kept (m .state .end) (callOn m k .sheet) (m .sheet))
+after (off s) (cuts k kept) = off s
 
 abbrev pub runs : Box → List Event → Box
 runs b [] = b
@@ -79,7 +75,7 @@ Typed (rebuild file) = Unit {0}
 abbrev pub Allowed : ℕ → ℕ → Event → Type 0
 Allowed pages files (calls k) = Typed k
 Allowed pages files (opens floor fates rows) = sizesRight (pageSize * pages) (length fates) (length rows) ≡ true → length rows ≡ rowLength * files
-Allowed pages files (cuts k n) = Typed k
+Allowed pages files (cuts k kept) = Typed k × Ordered kept
 
 abbrev pub AllAllowed : ℕ → ℕ → List Event → Type 0
 AllAllowed pages files [] = Unit {0}
