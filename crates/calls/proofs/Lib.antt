@@ -3,6 +3,8 @@ pub mod Appends
 pub mod EveryCall
 pub mod Refusals
 pub mod OnePage
+pub mod OtherRows
+pub mod Rebuilding
 pub mod Once
 pub mod DecideLines
 pub mod DecideRows

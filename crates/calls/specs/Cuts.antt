@@ -1,10 +1,8 @@
 -- What a cut of the supply leaves of the page that a call appends (a torn write).
-use Prim.Native.Nat.{ℕ, suc, _<_}
-use mathlib.Core.Path.{_≡_}
+use Prim.Native.Nat.{ℕ, suc}
 use mathlib.Core.List.{List, [], _∷_}
-use mathlib.Core.Bool.{Bool, true, cond}
+use mathlib.Core.Bool.{Bool, cond}
 use lib.Dec.{ltb}
-use Rattle.page.specs.Layout.{pageSize, kindAt, markAt}
 use Rattle.recovery.specs.Sheet.{pageBytes}
 use Rattle.calls.specs.Effect.{withPage}
 
@@ -21,8 +19,3 @@ storedOf kept q new old = withPage old q (mixed kept (pageBytes new (suc q)) (pa
 -- the first n bytes: what is stored when a page's bytes are stored first to last, and the supply is cut after n of them
 abbrev pub firstBytes : ℕ → ℕ → Bool
 firstBytes n i = ltb i n
-
--- any of a page's bytes may be stored, as long as byte 0 is if any is, and byte 63 only if all are
-pub record Ordered (kept : ℕ → Bool) : Type 0 where
-  pub first : (i : ℕ) → i < pageSize → kept i ≡ true → kept kindAt ≡ true
-  pub last : kept markAt ≡ true → (i : ℕ) → i < pageSize → kept i ≡ true

@@ -15,9 +15,10 @@ use Rattle.recovery.specs.Lawful.{token}
 use Rattle.recovery.specs.World.{isFile}
 use Rattle.recovery.proofs.Lookups.{is-file}
 use Rattle.calls.specs.Calls.{Call, begin, write, read, test, decide, rebuild, isDecided}
+use Rattle.recovery.proofs.Spots.{entryIn, entry-cons, spots}
 use Rattle.promises.specs.Runs.{Typed}
-use Rattle.promises.proofs.Logs.{entryIn, entry-cons, Lawful, not-undecided, known-place, verdict-decided}
-use Rattle.promises.proofs.Chains.{spots, current-high}
+use Rattle.promises.proofs.Logs.{Lawful, not-undecided, known-place, verdict-decided}
+use Rattle.promises.proofs.Chains.{current-high}
 use Rattle.promises.proofs.Ledger.{Ledger, LedgerResult, ledgerForUndecided, ledgerWrite, ledgerRead, ledgerCall, ledgerKnows, ledgerRoom, ledgerUndecided}
 use Rattle.promises.proofs.Stored.{Fitting}
 

@@ -14,8 +14,7 @@ use Rattle.recovery.specs.declared.Answer.{Answer}
 use Rattle.recovery.specs.declared.Answer.the-variants.{Stored, Told}
 use Rattle.recovery.specs.Lent.{Left}
 use Rattle.calls.specs.Calls.{Call, begin, write, read, test, decide, rebuild, call}
-use Rattle.calls.specs.Cuts.{Ordered}
-use Rattle.promises.specs.Runs.{Box, on, off, sheetOf, Event, calls, cuts, callOn, answerTo, after, runs, Typed, AllAllowed}
+use Rattle.promises.specs.Runs.{Ordered, Box, on, off, sheetOf, Event, calls, cuts, callOn, answerTo, after, runs, Typed, AllAllowed}
 use Rattle.promises.specs.Promises.{IsPageOf}
 use Rattle.promises.proofs.Ledger.{ledgerCall}
 use Rattle.promises.proofs.Stored.{bytesOf}

@@ -18,8 +18,8 @@ use Rattle.recovery.specs.Lent.{Left, rowLength, rowsOf, pagesOf, whole, leaves
 use Rattle.calls.specs.Calls.{Call}
 use Rattle.calls.specs.Effect.{withPage}
 use Rattle.calls.proofs.OnePage.{SameBut, only-one-page}
-use Rattle.calls.specs.Cuts.{mixed, storedOf, Ordered}
-use Rattle.promises.specs.Runs.{Box, on, off, sheetOf, Event, calls, opens, cuts, callOn, boxOf, after, runs, AllAllowed}
+use Rattle.calls.specs.Cuts.{mixed, storedOf}
+use Rattle.promises.specs.Runs.{Ordered, Box, on, off, sheetOf, Event, calls, opens, cuts, callOn, boxOf, after, runs, AllAllowed}
 use Rattle.promises.proofs.Mixed.{mixed-long, mixed-none, none-kept}
 use Rattle.promises.proofs.ByteCalls.{page-back}
 use Rattle.promises.proofs.PageRuns as paged

@@ -26,6 +26,7 @@ use Rattle.promises.proofs.FatesTold.{test-known}
 use Rattle.promises.proofs.Replaced.{unsealed, bad-image, lies-below, Below}
 use Rattle.promises.proofs.ByteRuns.{worldIn, answer-is}
 use Rattle.promises.proofs.Reached.{Reached, page-in, page-lies}
+use Rattle.promises.proofs.Heard.{answered, hears}
 use Rattle.promises.proofs.BoxFound.{some-is, not-heard}
 
 -- what a test tells is the fate
@@ -140,12 +141,12 @@ module _ (n files : ℕ) where
         let v = read-shows (worldIn files n m) (r .ledger) (r .at .stands) f t a p s l (said (Value p s l) e) in
         let inside : (1 ≤ p) × (p ≤ n) = place-in p (v .seen) (v .here) in
         let here : sealed files (m .sheet) p ≡ image (v .seen) = sym (page-in n files (on m) p (inside .0) (inside .1)) ∙ v .here in
-        record { seen = v .seen; here = here; is = (v .file, v .start, v .len, v .inTime, numbers m r p (v .seen) here .1); whose = λ o. (here, v .file, ap some (committed-told (v .seen) (v .whose) o)) }
+        record { seen = v .seen; here = here; is = (v .file, v .start, v .len, v .inTime, numbers m r p (v .seen) here .1); whose = λ o. (here, v .file, hears (on m) (calls (test (v .seen .action))) (Told 2) (ap some (committed-told (v .seen) (v .whose) o))) }
 
     -- the highest start that is not above the time
     module _ (q : ℕ) (i : Image) (v : IsVersion n files (on m) f q i) where
       fate : fateAt (worldIn files n m) (i .action) ≡ committed
-      fate = committed-is (fateAt (worldIn files n m) (i .action)) (fate-is m r q i (v .0) 2 (some-is (v .2)))
+      fate = committed-is (fateAt (worldIn files n m) (i .action)) (fate-is m r q i (v .0) 2 (some-is (answered (on m) (calls (test (i .action))) (Told 2) (v .2))))
 
       highest-on : (p s l : ℕ) → callOn m (read f t a) .answer ≡ Value p s l → i .start ≤ t → i .start ≤ s
       highest-on p s l e k =

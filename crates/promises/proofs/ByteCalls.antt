@@ -22,15 +22,16 @@ use Rattle.recovery.specs.Sheet.{pageBytes, entryOf, isOpening, decoded, seal, 
 use Rattle.recovery.specs.World.{World, entryAt}
 use Rattle.recovery.proofs.Pages.{page-at-place}
 use Rattle.calls.specs.Effect.{packedEntry, withPage, grown}
-use Rattle.calls.specs.Cuts.{mixed, storedOf, Ordered}
-use Rattle.promises.proofs.Logs.{entryIn, entry-top, Fits}
-use Rattle.promises.proofs.Fates.{entry-down}
+use Rattle.calls.specs.Cuts.{mixed, storedOf}
+use Rattle.recovery.proofs.Spots.{entryIn, entry-top, entry-down}
+use Rattle.promises.proofs.Logs.{Fits}
 use Rattle.promises.proofs.Openings.{Holds}
 use Rattle.promises.proofs.Mixed.{mixed-long, mixed-all, mixed-same}
 use Rattle.promises.proofs.Cuts.{holds-put}
 use Rattle.promises.proofs.Replaced.{replaced-long, replaced-here, unsealed, bad-blank, bad-opening, decoded-other, pages-replaced}
 use Rattle.promises.proofs.Stored.{bytesOf, partial, Fitting, entry-long, partly-stored}
 use Rattle.promises.proofs.Appended.{live-place, live-opening, FitStep, fit-stay, fit-add}
+use Rattle.promises.specs.Runs.{Ordered}
 
 -- a sheet is determined by its size and its log
 pub holds-unique : (s s′ : List Entry) (n : ℕ) (l : List Entry) → Holds s n l → Holds s′ n l → s ≡ s′

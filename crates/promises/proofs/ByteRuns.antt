@@ -23,8 +23,8 @@ use Rattle.recovery.proofs.Sizes.{sizes-right}
 use Rattle.recovery.proofs.OpeningLaws.{open-refused}
 use Rattle.calls.specs.Calls.{Call, call}
 use Rattle.calls.specs.Effect.{grown, lower, callLeaves}
-use Rattle.calls.specs.Cuts.{storedOf, Ordered}
-use Rattle.promises.specs.Runs.{Box, on, off, sheetOf, Event, calls, opens, cuts, callOn, boxOf, answerTo, after, runs, Typed, Allowed, AllAllowed}
+use Rattle.calls.specs.Cuts.{storedOf}
+use Rattle.promises.specs.Runs.{Ordered, Box, on, off, sheetOf, Event, calls, opens, cuts, callOn, boxOf, answerTo, after, runs, Typed, Allowed, AllAllowed}
 use Rattle.promises.proofs.Ledger.{Ledger, ledgerCall}
 use Rattle.promises.proofs.Openings.{Holds, sim-holds, sim-open}
 use Rattle.promises.proofs.Stored.{bytesOf, partial}

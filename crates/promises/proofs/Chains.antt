@@ -11,7 +11,8 @@ use borrow.Author.Tests.{eqb-true}
 use Rattle.encoding.proofs.Logic.{by-test}
 use Rattle.recovery.specs.Log.{Image, Entry, blank, torn, bad, opening, image, outcome, Fate, unknown, undecided, committed, aborted, Placed, fateOf, imagesOf, currentStep, tokenStep, currentOf, tokenOf, placeOf, startOf}
 use Rattle.recovery.proofs.InspectFates.{undecided-known, All, current-keeps}
-use Rattle.promises.proofs.Logs.{entryIn, entry-cons, entry-top, ImageFits, Fits, Lawful, Known, Decided, Keeps, fate-keeps, fate-knows}
+use Rattle.recovery.proofs.Spots.{entryIn, entry-cons, entry-top, Spots, spots}
+use Rattle.promises.proofs.Logs.{ImageFits, Fits, Lawful, Known, Decided, Keeps, fate-keeps, fate-knows}
 
 -- the images of a file, with the fates that count: all but the newest are decided, each is linked to the newest version
 -- below it and starts later
@@ -59,44 +60,6 @@ chain-keeps φ ψ k n (x ∷ xs) h = (
   decided-keeps φ ψ k xs (h .1),
   chain-keeps φ ψ k n xs (h .2),
 )
-
--- where a file's images lie
-pub record Spot (l : List Entry) (f : ℕ) (x : Placed) : Type 0 where
-  pub here : entryIn l (x .place) ≡ image (x .image)
-  pub mine : x .image .file ≡ f
-  pub low : 1 ≤ x .place
-  pub high : x .place ≤ length l
-
-abbrev pub Spots : List Entry → ℕ → List Placed → Type 0
-Spots l f [] = Unit {0}
-Spots l f (x ∷ xs) = Spot l f x × Spots l f xs
-
-spots-cons : (g : Entry) (l : List Entry) (f : ℕ) (xs : List Placed) → Spots l f xs → Spots (g ∷ l) f xs
-spots-cons g l f [] h = tt
-spots-cons g l f (x ∷ xs) h = (
-  record {
-    here = entry-cons g l (x .place) (h .0 .high) ∙ h .0 .here;
-    mine = h .0 .mine;
-    low = h .0 .low;
-    high = omega arith;
-  },
-  spots-cons g l f xs (h .1),
-)
-
-pub spots : (l : List Entry) (f : ℕ) → Spots l f (imagesOf l f)
-unfolding imagesOf
-spots [] f = tt
-spots (blank ∷ l) f = spots-cons blank l f (imagesOf l f) (spots l f)
-spots (torn ∷ l) f = spots-cons torn l f (imagesOf l f) (spots l f)
-spots (bad ∷ l) f = spots-cons bad l f (imagesOf l f) (spots l f)
-spots (opening ∷ l) f = spots-cons opening l f (imagesOf l f) (spots l f)
-spots (outcome b c ∷ l) f = spots-cons (outcome b c) l f (imagesOf l f) (spots l f)
-spots (image i ∷ l) f = by-test (Spots (image i ∷ l) f) (eqb (i .file) f)
-    (λ e. (
-      record { here = entry-top (image i) l; mine = eqb-true (i .file) f e; low = omega arith; high = omega arith },
-      spots-cons (image i) l f (imagesOf l f) (spots l f),
-    ))
-    (λ e. spots-cons (image i) l f (imagesOf l f) (spots l f))
 
 pub current-high : (φ : ℕ → Fate) (l : List Entry) (f : ℕ) (xs : List Placed) → Spots l f xs → placeOf (currentOf φ xs) ≤ length l
 unfolding currentOf

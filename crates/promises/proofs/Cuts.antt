@@ -14,9 +14,10 @@ use Rattle.recovery.specs.Log.{Entry, blank, torn}
 use Rattle.recovery.specs.World.{World, entryAt, down}
 use Rattle.recovery.proofs.Places.{nth-put-same, nth-put-other, length-put}
 use Rattle.calls.specs.Calls.{Call, begin, write, read, test, decide, rebuild, call}
+use Rattle.recovery.proofs.Spots.{entryIn, entry-top, entry-down}
 use Rattle.promises.proofs.Stored.{partial}
-use Rattle.promises.proofs.Logs.{entryIn, entry-top, Fits}
-use Rattle.promises.proofs.Fates.{entry-down, down-put}
+use Rattle.promises.proofs.Logs.{Fits}
+use Rattle.promises.proofs.Fates.{down-put}
 use Rattle.promises.proofs.Ledger.{Ledger, LedgerResult, withEnds, ledgerGrown, ledgerCall}
 use Rattle.promises.proofs.LedgerCalls.{begins, writes, reads, tests, decides, rebuilds}
 use Rattle.promises.proofs.Sim.{Sim}

@@ -1,49 +1,62 @@
--- Runs that meet the premises of the promises, with what they hear: document 01's listing, a change of two locks that is cut with any
--- of its bytes stored, a read before and after a cut, and rows rebuilt in two orders.
-use Prim.Native.Nat.{ℕ, max, _*_, _≤_}
-use mathlib.Core.Path.{_≡_, refl, _∙_, subst}
+-- Runs that meet the premises of each promise, with what they hear: document 01's listing, a change of two locks that is cut with any
+-- of its bytes stored, one life of a box with each promise asked of it, rows rebuilt in two orders, the reserve kept and used up, a
+-- floor that is too low, and a lawful sheet that no run of this store makes. Each premise is proved, so no promise is empty.
+use Prim.Native.Nat.{ℕ, _≤_, _<_}
+use mathlib.Core.Path.{_≡_, refl, sym, ap, _∙_}
 use mathlib.Core.List.{List, [], _∷_, _++_}
 use mathlib.Core.Bool.{Bool, true, false, cond}
 use mathlib.Core.Option.{Option, some, none}
+use mathlib.Core.Logic.{_⊎_}
 use native.Mathlib.Omega.{arith}
-use lib.ListN.{replicate}
+use lib.ListN.{length, replicate}
+use Rattle.page.specs.Layout.{pageSize}
+use Rattle.page.specs.Table as table
+use Rattle.page.specs.Table.{head, front, packed, fieldsOf, lowest, highest, within, between, meetsRules, isPageOf}
+use Rattle.page.specs.Answers.{tested, inBounds}
+use Rattle.recovery.specs.Log.{Image, blank, torn, image, fateOf, imagesOf, tokenOf, currentOf}
+use Rattle.recovery.specs.Lawful.{lowestUnlawful}
+use Rattle.recovery.specs.Places.{tabulate}
+use Rattle.recovery.specs.Sheet.{pageBytes, sealed, decoded, pages}
+use Rattle.recovery.specs.World.{down, endOf, undecidedOf}
 use Rattle.recovery.specs.declared.Answer.{Answer}
 use Rattle.recovery.specs.declared.Answer.the-variants.{Refused, Opened, Stored, Value, Nothing, Told}
+use Rattle.recovery.specs.declared.Inspected.the-variants.{Lowest}
+use Rattle.recovery.specs.Lent.{inspectable, inspected, openLeaves}
+use Rattle.recovery.specs.Numbers.{isRefused}
 use Rattle.calls.specs.Calls.{Call, begin, write, read, test, decide, rebuild}
-use Rattle.calls.specs.Cuts.{Ordered, firstBytes}
-use Rattle.promises.specs.Runs.{Box, Event, calls, opens, cuts, after, heard, Run, blankBox, Floors}
-use Rattle.recovery.specs.Lent.{sizesRight}
-use Rattle.promises.specs.Model.{latest, blankModel, modelHeard}
-use Rattle.promises.specs.Promises.{othersHeard}
-use Rattle.promises.proofs.Mixed.{first-ordered}
+use Rattle.calls.specs.Cuts.{firstBytes}
+use Rattle.promises.specs.Runs.{Ordered, Box, off, sheetOf, Event, calls, opens, cuts, after, heard, Hears, Run, blankBox}
+use Rattle.promises.specs.Model.{latest, blankModel, modelHeard, modelRuns}
+use Rattle.promises.specs.FromLog.{historyOf}
+use Rattle.promises.specs.Promises.{boxAfter, pageIn, IsPageOf, IsVersion, Shown, ShowsAt, Did, WasWritten, AllShow, NoneShows, Falls, others, othersHeard}
 use Rattle.promises.proofs.Proved.{promised}
+use Rattle.promises.proofs.Trying.{Step, does, opened, cut, events, eventOf, is-run, has-floors, none-torn, hears-by, blank-above, inNumbers}
 
--- an opening of a sheet of so many pages for so many files, lent zeros
-abbrev opening : ℕ → ℕ → ℕ → Event
-opening pages files floor = opens floor (replicate pages 0) (replicate (5 * files) 0)
+clash : {A : Type 0} → _≡_ {A = ℕ} 0 1 → A
+clash z = absurd (omega arith)
 
--- "AB" and "CD"
-abbrev listing : ℕ → List Event
-listing n =
-    opening n 8 0
-    ∷ calls begin
-    ∷ calls (write 3 10 1 (0x41 ∷ 0x42 ∷ []))
-    ∷ calls (read 3 10 0)
-    ∷ calls (read 3 9 0)
-    ∷ calls (decide 1 true)
-    ∷ calls (read 3 10 0)
-    ∷ calls begin
-    ∷ calls (write 3 12 4 (0x43 ∷ 0x44 ∷ []))
-    ∷ cuts (decide 4 true) (firstBytes 20)
-    ∷ opening n 8 0
-    ∷ calls (test 4)
-    ∷ calls (read 3 11 0)
-    ∷ calls (decide 4 false)
-    ∷ calls (read 3 12 0)
+-- ---- document 01's listing, with "AB" and "CD"
+
+abbrev listing : List Step
+listing =
+    opened 0
+    ∷ does begin
+    ∷ does (write 3 10 1 (0x41 ∷ 0x42 ∷ []))
+    ∷ does (read 3 10 0)
+    ∷ does (read 3 9 0)
+    ∷ does (decide 1 true)
+    ∷ does (read 3 10 0)
+    ∷ does begin
+    ∷ does (write 3 12 4 (0x43 ∷ 0x44 ∷ []))
+    ∷ cut (decide 4 true) 20
+    ∷ opened 0
+    ∷ does (test 4)
+    ∷ does (read 3 11 0)
+    ∷ does (decide 4 false)
+    ∷ does (read 3 12 0)
     ∷ []
 
-abbrev told : List (Option Answer)
-told =
+pub listing-heard : heard (blankBox 256) (events 256 8 listing) ≡ inNumbers (
     some (Opened 0 0)
     ∷ some (Stored 1)
     ∷ some (Stored 2)
@@ -59,44 +72,22 @@ told =
     ∷ some (Value 2 10 2)
     ∷ some (Stored 7)
     ∷ some (Value 2 10 2)
-    ∷ []
-
--- ---- what such a run hears, by the object model
-
-heard-by : (pages files : ℕ) (es : List Event) (answers : List (Option Answer)) → Run pages files es → modelHeard false (blankModel pages files) es ≡ answers → heard (blankBox pages) es ≡ answers
-heard-by pages files es answers r e = promised pages files .as-model es r ∙ e
-
-listing-run : Run 256 8 (listing 256)
-unfolding sizesRight
-listing-run = record { sized = refl; allowed = (λ e. refl, (tt, (omega arith, (tt, (tt, (tt, (tt, (tt, (omega arith, ((tt, first-ordered 20), (λ e. refl, (tt, (tt, (tt, (tt, tt))))))))))))))) }
-
-pub listing-heard : heard (blankBox 256) (listing 256) ≡ told
-unfolding modelHeard latest sizesRight
-listing-heard = heard-by 256 8 (listing 256) told listing-run refl
+    ∷ [])
+unfolding modelHeard latest
+listing-heard = promised 256 8 .as-model (events 256 8 listing) (is-run 256 8 listing refl) ∙ refl
 
 -- ---- two locks changed in one action, and the supply pulled when these bytes of its outcome are stored
 
 abbrev change : (ℕ → Bool) → List Event
-change kept =
-    opening 6 2 0
-    ∷ calls begin
-    ∷ calls (write 1 10 1 (7 ∷ []))
-    ∷ calls (write 2 10 1 (8 ∷ []))
-    ∷ cuts (decide 1 true) kept
-    ∷ opening 6 2 0
-    ∷ calls (read 1 10 1)
-    ∷ calls (read 2 10 1)
-    ∷ calls (read 1 10 0)
-    ∷ calls (read 2 10 0)
-    ∷ []
-
--- the opening's answer, and those of the reads within and without the action
-abbrev changed : Answer → Answer → Answer → Answer → Answer → List (Option Answer)
-changed o a b c d = some (Opened 0 0) ∷ some (Stored 1) ∷ some (Stored 2) ∷ some (Stored 3) ∷ none ∷ some o ∷ some a ∷ some b ∷ some c ∷ some d ∷ []
+change kept = events 6 2 (opened 0 ∷ does begin ∷ does (write 1 10 1 (7 ∷ [])) ∷ does (write 2 10 1 (8 ∷ [])) ∷ [])
+    ++ cuts (decide 1 true) kept ∷ events 6 2 (opened 0 ∷ does (read 1 10 1) ∷ does (read 2 10 1) ∷ does (read 1 10 0) ∷ does (read 2 10 0) ∷ [])
 
 change-run : (kept : ℕ → Bool) → Ordered kept → Run 6 2 (change kept)
-unfolding sizesRight
 change-run kept o = record { sized = refl; allowed = (λ e. refl, (tt, (omega arith, (omega arith, ((tt, o), (λ e. refl, (tt, (tt, (tt, (tt, tt)))))))))) }
+
+-- the opening's answer, and those of the reads within and without the action
+abbrev changed : Answer → Answer → Answer → Answer → Answer → List (Option (List ℕ))
+changed o a b c d = inNumbers (some (Opened 0 0) ∷ some (Stored 1) ∷ some (Stored 2) ∷ some (Stored 3) ∷ none ∷ some o ∷ some a ∷ some b ∷ some c ∷ some d ∷ [])
 
 -- both or none: shown to all exactly if all 64 bytes are stored
 pub change-heard : (kept : ℕ → Bool) → Ordered kept
@@ -104,8 +95,8 @@ pub change-heard : (kept : ℕ → Bool) → Ordered kept
     ≡ cond (kept 0) (cond (kept 63) (changed (Opened 4 0) (Refused 6 0) (Refused 6 0) (Value 2 10 1) (Value 3 10 1))
     (changed (Opened 4 1) (Value 2 10 1) (Value 3 10 1) (Refused 9 1) (Refused 9 1)))
     (changed (Opened 3 1) (Value 2 10 1) (Value 3 10 1) (Refused 9 1) (Refused 9 1))
-unfolding modelHeard latest sizesRight
-change-heard kept o = heard-by 6 2 (change kept) _ (change-run kept o) (go (kept 0) (kept 63) refl refl)
+unfolding modelHeard latest
+change-heard kept o = promised 6 2 .as-model (change kept) (change-run kept o) ∙ go (kept 0) (kept 63) refl refl
   where
     go : (b c : Bool) → kept 0 ≡ b → kept 63 ≡ c → modelHeard false (blankModel 6 2) (change kept)
         ≡ cond (kept 0) (cond (kept 63) (changed (Opened 4 0) (Refused 6 0) (Refused 6 0) (Value 2 10 1) (Value 3 10 1))
@@ -115,82 +106,266 @@ change-heard kept o = heard-by 6 2 (change kept) _ (change-run kept o) (go (kept
     go true true e f = rw (e, f)
     go true false e f = rw (e, f)
 
--- ---- floors, event by event
+-- ---- one life of a box of twelve pages and two files: a version of file 1 from 5 on, read at 6; a newer one from 9 on; a token of
+-- file 2, whose commit is cut after 20 bytes; the box is opened again with a floor of 6
 
--- the time that a read outside any action asks, and every opening's floor at least a time
-abbrev timeOf : Call → ℕ
-timeOf begin = 0
-timeOf (write f s a v) = 0
-timeOf (read f t a) = t
-timeOf (test a) = 0
-timeOf (decide a c) = 0
-timeOf (rebuild f) = 0
+abbrev begun : List Step
+begun = opened 0 ∷ does begin ∷ []
 
-abbrev Checked : ℕ → List Event → Type 0
-Checked t [] = Unit {0}
-Checked t (calls k ∷ es) = Checked (max t (timeOf k)) es
-Checked t (opens floor fates rows ∷ es) = (t ≤ floor) × Checked t es
-Checked t (cuts k i ∷ es) = Checked t es
+abbrev older : Call
+older = write 1 5 1 (7 ∷ [])
 
-first-floor : (u t floor : ℕ) (fates rows : List ℕ) (es₂ es₃ : List Event) → u ≤ t → Checked t (es₂ ++ opens floor fates rows ∷ es₃) → u ≤ floor
-first-floor u t floor fates rows [] es₃ h c = omega (arith, c .0)
-first-floor u t floor fates rows (calls k ∷ es₂) es₃ h c = first-floor u (max t (timeOf k)) floor fates rows es₂ es₃ (omega arith) c
-first-floor u t floor fates rows (opens f a b ∷ es₂) es₃ h c = first-floor u t floor fates rows es₂ es₃ h (c .1)
-first-floor u t floor fates rows (cuts k i ∷ es₂) es₃ h c = first-floor u t floor fates rows es₂ es₃ h c
+abbrev first : List Step
+first = begun ++ does older ∷ does (decide 1 true) ∷ []
 
-floors-in : (t time floor : ℕ) (file : ℕ) (fates rows : List ℕ) (es₁ es₂ es₃ : List Event) → Checked t (es₁ ++ calls (read file time 0) ∷ (es₂ ++ opens floor fates rows ∷ es₃)) → time ≤ floor
-floors-in t time floor file fates rows [] es₂ es₃ c = first-floor time (max t time) floor fates rows es₂ es₃ (omega arith) c
-floors-in t time floor file fates rows (calls k ∷ es₁) es₂ es₃ c = floors-in (max t (timeOf k)) time floor file fates rows es₁ es₂ es₃ c
-floors-in t time floor file fates rows (opens f a b ∷ es₁) es₂ es₃ c = floors-in t time floor file fates rows es₁ es₂ es₃ (c .1)
-floors-in t time floor file fates rows (cuts k i ∷ es₁) es₂ es₃ c = floors-in t time floor file fates rows es₁ es₂ es₃ c
+abbrev newer : List Step
+newer = does begin ∷ does (write 1 9 4 (8 ∷ [])) ∷ does (decide 4 true) ∷ does begin ∷ []
 
-checked-floors : (b : Box) (es : List Event) → Checked 0 es → Floors b es
-checked-floors b es c es₁ es₂ es₃ file time floor fates rows x e h ok = floors-in 0 time floor file fates rows es₁ es₂ es₃ (subst (Checked 0) e c)
+abbrev token : Call
+token = write 2 9 7 (9 ∷ [])
 
--- ---- the same past time read before and after the supply is pulled
+-- until the token is written, until the supply is cut, and until the box is opened again
+abbrev before : List Step
+before = first ++ does (read 1 6 0) ∷ newer
 
-abbrev before : List Event
-before = opening 10 2 0 ∷ calls begin ∷ calls (write 1 5 1 (7 ∷ [])) ∷ calls (decide 1 true) ∷ []
+abbrev life : List Step
+life = before ++ does token ∷ []
 
--- between: a newer version, and one that is cut
-abbrev between : List Event
-between = calls begin ∷ calls (write 1 9 4 (8 ∷ [])) ∷ calls (decide 4 true) ∷ calls begin ∷ cuts (write 1 12 7 (9 ∷ [])) (firstBytes 30) ∷ opening 10 2 6 ∷ []
+abbrev tail : List Step
+tail = cut (decide 7 true) 20 ∷ opened 6 ∷ []
 
-again-run : Run 10 2 (before ++ calls (read 1 6 0) ∷ between)
-unfolding sizesRight
-again-run = record { sized = refl; allowed = (λ e. refl, (tt, (omega arith, (tt, (tt, (tt, (omega arith, (tt, (tt, ((omega arith, first-ordered 30), (λ e. refl, tt))))))))))) }
+abbrev late : List Step
+late = life ++ tail
 
-again-floors : Floors (blankBox 10) (before ++ calls (read 1 6 0) ∷ between)
-again-floors = checked-floors (blankBox 10) (before ++ calls (read 1 6 0) ∷ between) (omega arith, (omega arith, tt))
+abbrev at : List Step → List Event
+at xs = events 12 2 xs
 
--- and after it: the same read, a write at its time and one above it, a test of the action that was committed first, and a
--- read before its version
-abbrev afterwards : List Event
-afterwards = calls (read 1 6 0) ∷ calls (write 1 6 7 (9 ∷ [])) ∷ calls (write 1 13 7 (9 ∷ [])) ∷ calls (test 1) ∷ calls (read 1 4 0) ∷ []
+abbrev boxAt : List Step → Box
+boxAt xs = boxAfter 12 2 (at xs)
 
--- answered, and answered alike: the version from 5, though 9 is the newest
-pub again-heard : heard (blankBox 10) (before ++ calls (read 1 6 0) ∷ (between ++ afterwards))
-    ≡ some (Opened 0 0) ∷ some (Stored 1) ∷ some (Stored 2) ∷ some (Stored 3) ∷ some (Value 2 5 1)
-    ∷ some (Stored 4) ∷ some (Stored 5) ∷ some (Stored 6) ∷ some (Stored 7) ∷ none ∷ some (Opened 8 1)
-    ∷ some (Value 2 5 1) ∷ some (Refused 10 0) ∷ some (Stored 9) ∷ some (Told 2) ∷ some Nothing ∷ []
-unfolding modelHeard latest sizesRight
-again-heard = heard-by 10 2 (before ++ calls (read 1 6 0) ∷ (between ++ afterwards)) _
-    (record { sized = refl; allowed = (λ e. refl, (tt, (omega arith, (tt, (tt, (tt, (omega arith, (tt, (tt, ((omega arith, first-ordered 30), (λ e. refl, (tt, (omega arith, (omega arith, (tt, (tt, tt)))))))))))))))) }) refl
+late-run : Run 12 2 (at late)
+late-run = is-run 12 2 late refl
 
--- ---- one file asked for alone, then all: rows rebuilt in two orders, or none
+-- the opening, lent zeros
+abbrev fates : List ℕ
+fates = replicate 12 0
+
+abbrev rows : List ℕ
+rows = replicate 10 0
+
+-- what is heard on the way
+abbrev Told-of : List Step → Step → Answer → Type 0
+Told-of xs x a = Hears (boxAt xs) (eventOf 12 2 x) a
+
+begins : Told-of (opened 0 ∷ []) (does begin) (Stored 1)
+unfolding modelHeard latest
+begins = hears-by 12 2 (at (opened 0 ∷ [])) (calls begin) (Stored 1) (is-run 12 2 (opened 0 ∷ does begin ∷ []) refl) refl
+
+writes : Told-of begun (does older) (Stored 2)
+unfolding modelHeard latest
+writes = hears-by 12 2 (at begun) (calls older) (Stored 2) (is-run 12 2 (begun ++ does older ∷ []) refl) refl
+
+commits : Told-of (begun ++ does older ∷ []) (does (decide 1 true)) (Stored 3)
+unfolding modelHeard latest
+commits = hears-by 12 2 (at (begun ++ does older ∷ [])) (calls (decide 1 true)) (Stored 3) (is-run 12 2 first refl) refl
+
+reads : Told-of first (does (read 1 6 0)) (Value 2 5 1)
+unfolding modelHeard latest
+reads = hears-by 12 2 (at first) (calls (read 1 6 0)) (Value 2 5 1) (is-run 12 2 (first ++ does (read 1 6 0) ∷ []) refl) refl
+
+writes-token : Told-of before (does token) (Stored 8)
+unfolding modelHeard latest
+writes-token = hears-by 12 2 (at before) (calls token) (Stored 8) (is-run 12 2 life refl) refl
+
+tells-open : Told-of life (does (test 7)) (Told 1)
+unfolding modelHeard latest
+tells-open = hears-by 12 2 (at life) (calls (test 7)) (Told 1) (is-run 12 2 (life ++ does (test 7) ∷ []) refl) refl
+
+would-commit : Told-of life (does (decide 7 true)) (Stored 9)
+unfolding modelHeard latest
+would-commit = hears-by 12 2 (at life) (calls (decide 7 true)) (Stored 9) (is-run 12 2 (life ++ does (decide 7 true) ∷ []) refl) refl
+
+would-open : Told-of life (opened 6) (Opened 8 1)
+unfolding modelHeard latest
+would-open = hears-by 12 2 (at life) (eventOf 12 2 (opened 6)) (Opened 8 1) (is-run 12 2 (life ++ opened 6 ∷ []) refl) refl
+
+opens-after : Told-of (life ++ cut (decide 7 true) 20 ∷ []) (opened 6) (Opened 9 1)
+unfolding modelHeard latest
+opens-after = hears-by 12 2 (at (life ++ cut (decide 7 true) 20 ∷ [])) (eventOf 12 2 (opened 6)) (Opened 9 1) (is-run 12 2 late refl) refl
+
+late-reads : Told-of late (does (read 1 6 0)) (Value 2 5 1)
+unfolding modelHeard latest
+late-reads = hears-by 12 2 (at late) (calls (read 1 6 0)) (Value 2 5 1) (is-run 12 2 (late ++ does (read 1 6 0) ∷ []) refl) refl
+
+late-none : Told-of late (does (read 1 4 0)) Nothing
+unfolding modelHeard latest
+late-none = hears-by 12 2 (at late) (calls (read 1 4 0)) Nothing (is-run 12 2 (late ++ does (read 1 4 0) ∷ []) refl) refl
+
+late-committed : Told-of late (does (test 1)) (Told 2)
+unfolding modelHeard latest
+late-committed = hears-by 12 2 (at late) (calls (test 1)) (Told 2) (is-run 12 2 (late ++ does (test 1) ∷ []) refl) refl
+
+late-open : Told-of late (does (test 7)) (Told 1)
+unfolding modelHeard latest
+late-open = hears-by 12 2 (at late) (calls (test 7)) (Told 1) (is-run 12 2 (late ++ does (test 7) ∷ []) refl) refl
+
+late-writes : Told-of late (does (write 1 13 7 [])) (Stored 10)
+unfolding modelHeard latest
+late-writes = hears-by 12 2 (at late) (calls (write 1 13 7 [])) (Stored 10) (is-run 12 2 (late ++ does (write 1 13 7 []) ∷ []) refl) refl
+
+-- ---- each promise of it
+
+-- the page of the older version, found at the end; it is committed
+pub found-met : IsPageOf older (pageIn 12 2 (boxAt late) 2)
+found-met = promised 12 2 .found (at begun) (at (does (decide 1 true) ∷ does (read 1 6 0) ∷ newer ++ does token ∷ tail)) older 2 late-run writes
+
+abbrev seen : Image
+seen = record { file = 1; action = 1; link = found-met .0; start = 5; value = 7 ∷ [] }
+
+version-met : IsVersion 12 2 (boxAt late) 1 2 seen
+version-met = (found-met .1, refl, late-committed)
+
+pub highest-met : 5 ≤ 5
+highest-met = promised 12 2 .highest (at late) 1 6 0 2 5 1 late-run late-reads 2 seen version-met (omega arith)
+
+pub nothing-yet-met : 4 < 5
+nothing-yet-met = promised 12 2 .nothing-yet (at late) 1 4 0 late-run late-none 2 seen version-met
+
+pub nothing-below-met : 6 < 13
+unfolding isRefused
+nothing-below-met = promised 12 2 .nothing-below (at first) (at (newer ++ does token ∷ tail)) 1 6 13 7 10 [] (Value 2 5 1) late-run (has-floors 12 2 late refl) reads refl late-writes
+
+pub was-written-met : WasWritten 12 2 (at late) 1 0 2 5 1
+was-written-met = promised 12 2 .was-written (at late) 1 6 0 2 5 1 late-run late-reads
+
+pub lawful-met : inspected (sheetOf (boxAt late)) 2 ≡ Lowest 0
+lawful-met = promised 12 2 .lawful (at late) late-run
+
+pub opened-met : isRefused (openLeaves (sheetOf (boxAt late)) fates rows 0 .answer) ≡ false
+opened-met = promised 12 2 .opened (at late) 0 fates rows late-run refl refl
+
+-- the commit cut after all 64 bytes, after 20, after none
+pub found-cut-met : IsPageOf (decide 7 true) (pageIn 12 2 (boxAt (life ++ cut (decide 7 true) 64 ∷ [])) 9)
+found-cut-met = promised 12 2 .found-cut (at life) [] (decide 7 true) 9 (firstBytes 64) (is-run 12 2 (life ++ cut (decide 7 true) 64 ∷ []) refl) refl would-commit
+
+pub torn-cut-met : pageIn 12 2 (boxAt late) 9 ≡ torn
+torn-cut-met = promised 12 2 .torn-cut (at life) (at (opened 6 ∷ [])) (decide 7 true) 9 (firstBytes 20) late-run refl refl would-commit
+
+pub lost-cut-met : sheetOf (boxAt (life ++ cut (decide 7 true) 0 ∷ [])) ≡ sheetOf (boxAt life)
+lost-cut-met = promised 12 2 .lost-cut (at life) (decide 7 true) (firstBytes 0) (is-run 12 2 (life ++ cut (decide 7 true) 0 ∷ []) refl) refl
+
+pub kept-met : pageBytes (sheetOf (boxAt late)) 2 ≡ pageBytes (sheetOf (boxAt first)) 2
+kept-met = promised 12 2 .kept (at first) (at (does (read 1 6 0) ∷ newer ++ does token ∷ tail)) 2 late-run
+    (λ e. let p = promised 12 2 .found (at begun) (at (does (decide 1 true) ∷ [])) older 2 (is-run 12 2 first refl) writes in let z : image _ ≡ blank = sym (p .1) ∙ e in clash cc)
+
+pub as-answered-met : boxAt (life ++ cut (decide 7 true) 64 ∷ opened 6 ∷ []) ≡ boxAt (life ++ does (decide 7 true) ∷ opened 6 ∷ [])
+as-answered-met = promised 12 2 .as-answered (at life) (decide 7 true) (firstBytes 64) 6 fates rows (is-run 12 2 (life ++ cut (decide 7 true) 64 ∷ []) refl) refl
+
+abbrev looks : List Step
+looks = does (read 2 9 0) ∷ does (read 2 9 7) ∷ does (test 7) ∷ does (rebuild 1) ∷ []
+
+pub as-unasked-met : heard (boxAt late) (at looks) ≡ heard (boxAt (life ++ opened 6 ∷ [])) (at looks)
+as-unasked-met = promised 12 2 .as-unasked (at life) (at looks) (decide 7 true) (firstBytes 20) 6 fates rows late-run refl (λ g h. h, (λ g h. h, (λ g h. h, (λ g h. h, tt))))
+
+pub same-count-met : (_≡_ {A = ℕ} 1 1) × (8 ≤ 9) × (9 ≤ 9)
+same-count-met = promised 12 2 .same-count (at life) (decide 7 true) (firstBytes 20) 6 fates rows 8 9 1 1 late-run refl would-open opens-after
+
+pub same-fate-met : (x : Answer) → Hears (boxAt late) (calls (test 7)) x → x ≡ Told 1
+same-fate-met x h = promised 12 2 .same-fate (at life) (decide 7 true) (firstBytes 20) 6 fates rows 7 1 x late-run refl tells-open h
+
+pub begun-met : (fate : ℕ) × (1 ≤ fate) × (fate ≤ 3) × (Told 2 ≡ Told fate)
+begun-met = promised 12 2 .begun (at (opened 0 ∷ [])) (at (does older ∷ does (decide 1 true) ∷ does (read 1 6 0) ∷ newer ++ does token ∷ tail)) 1 (Told 2) late-run begins late-committed
+
+pub decided-met : Told 2 ≡ Told 2
+decided-met = promised 12 2 .decided (at (begun ++ does older ∷ [])) (at (does (read 1 6 0) ∷ newer ++ does token ∷ tail)) 1 3 true (Told 2) late-run commits late-committed
+
+pub begun-only-met : Did 12 2 (at late) begin 7
+begun-only-met = promised 12 2 .begun-only (at late) 7 1 late-run late-open
+
+pub decided-only-met : (place : ℕ) × Did 12 2 (at late) (decide 1 true) place
+decided-only-met = promised 12 2 .decided-only (at late) 1 true late-run late-committed
+
+pub can-be-decided-met : (place : ℕ) × Hears (boxAt late) (calls (decide 7 true)) (Stored place)
+can-be-decided-met = promised 12 2 .can-be-decided (at late) 7 true late-run late-open (blank-above 12 2 (at late) late-run 12 (omega arith) (omega arith))
+
+pub whole-or-none-met : AllShow 12 2 (boxAt late) 7 ⊎ NoneShows 12 2 (boxAt late) 7
+whole-or-none-met = promised 12 2 .whole-or-none (at late) 7 late-run
+
+pub all-shown-met : ShowsAt 12 2 (boxAt late) 2 seen
+all-shown-met = promised 12 2 .all-shown (at late) 2 seen late-run (found-met .1) late-committed
+
+pub none-shown-met : Shown 12 2 (boxAt late) 1 6 0 2 5 1
+none-shown-met = promised 12 2 .none-shown (at late) 1 6 0 2 5 1 late-run late-reads
+
+pub own-shown-met : Hears (boxAt late) (calls (read 2 9 7)) (Value 8 9 1)
+own-shown-met =
+    let p = promised 12 2 .found (at before) (at tail) token 8 late-run writes-token in
+    promised 12 2 .own-shown (at late) 8 9 (record { file = 2; action = 7; link = p .0; start = 9; value = 9 ∷ [] }) late-run (p .1) late-open (omega arith)
+
+pub alike-met : Value 2 5 1 ≡ Value 2 5 1
+unfolding isRefused
+alike-met = promised 12 2 .alike (at first) (at (newer ++ does token ∷ tail)) 1 6 (Value 2 5 1) (Value 2 5 1) late-run (has-floors 12 2 late refl) reads refl late-reads
+
+pub falling-met : Falls (modelRuns false (blankModel 12 2) (at late) .object 1 .history)
+falling-met = promised 12 2 .falling (at late) 1 late-run
+
+-- ---- one file asked for alone, then all: rows rebuilt in two orders, or none, and an opening that is lent other bytes
 
 abbrev asked : List Event
 asked = calls (read 1 6 0) ∷ calls (read 2 6 0) ∷ []
 
-abbrev alone : List Event
-alone = before ++ opening 10 2 0 ∷ calls (rebuild 2) ∷ asked
-
-abbrev together : List Event
-together = before ++ opens 0 (replicate 10 3) (replicate 10 7) ∷ calls (rebuild 1) ∷ calls (rebuild 2) ∷ asked
-
-pub order-unseen : othersHeard (blankBox 10) alone ≡ othersHeard (blankBox 10) together
-unfolding sizesRight
-order-unseen = promised 10 2 .unseen alone together
-    (record { sized = refl; allowed = (λ e. refl, (tt, (omega arith, (tt, (λ e. refl, (tt, (tt, (tt, tt)))))))) })
+pub unseen-met : othersHeard (blankBox 12) (at (first ++ opened 0 ∷ does (rebuild 2) ∷ []) ++ asked)
+    ≡ othersHeard (blankBox 12) (at first ++ opens 0 (replicate 12 3) (replicate 10 7) ∷ calls (rebuild 1) ∷ calls (rebuild 2) ∷ asked)
+unseen-met = promised 12 2 .unseen (at (first ++ opened 0 ∷ does (rebuild 2) ∷ []) ++ asked) (at first ++ opens 0 (replicate 12 3) (replicate 10 7) ∷ calls (rebuild 1) ∷ calls (rebuild 2) ∷ asked)
+    (is-run 12 2 (first ++ opened 0 ∷ does (rebuild 2) ∷ does (read 1 6 0) ∷ does (read 2 6 0) ∷ []) refl)
     (record { sized = refl; allowed = (λ e. refl, (tt, (omega arith, (tt, (λ e. refl, (tt, (tt, (tt, (tt, tt))))))))) })
     refl
+
+-- ---- the reserve of a page for each undecided action: three pages, of which two are used and the third is kept for the outcome
+
+abbrev three : List Step
+three = opened 0 ∷ does begin ∷ does (write 1 1 1 []) ∷ []
+
+three-tells : Hears (boxAfter 3 2 (events 3 2 three)) (calls (test 1)) (Told 1)
+unfolding modelHeard latest
+three-tells = hears-by 3 2 (events 3 2 three) (calls (test 1)) (Told 1) (is-run 3 2 (three ++ does (test 1) ∷ []) refl) refl
+
+three-full : Hears (boxAfter 3 2 (events 3 2 three)) (calls (write 2 1 1 [])) (Refused 11 0)
+unfolding modelHeard latest
+three-full = hears-by 3 2 (events 3 2 three) (calls (write 2 1 1 [])) (Refused 11 0) (is-run 3 2 (three ++ does (write 2 1 1 []) ∷ []) refl) refl
+
+pub reserved-met : (place : ℕ) × Hears (boxAfter 3 2 (events 3 2 three)) (calls (decide 1 true)) (Stored place)
+reserved-met = promised 3 2 .reserved (events 3 2 three) 1 true (is-run 3 2 three refl) (none-torn 3 2 three refl) three-tells
+
+-- it is for one outcome: a commit that is torn uses it up, and the action stays undecided. So `reserved` asks that no outcome was torn
+abbrev two : List Step
+two = opened 0 ∷ does begin ∷ cut (decide 1 true) 20 ∷ opened 0 ∷ does (test 1) ∷ does (decide 1 true) ∷ does (decide 1 false) ∷ []
+
+pub reserve-gone : heard (blankBox 2) (events 2 1 two) ≡ inNumbers (some (Opened 0 0) ∷ some (Stored 1) ∷ none ∷ some (Opened 2 1) ∷ some (Told 1) ∷ some (Refused 11 0) ∷ some (Refused 11 0) ∷ [])
+unfolding modelHeard latest
+reserve-gone = promised 2 1 .as-model (events 2 1 two) (is-run 2 1 two refl) ∙ refl
+
+-- ---- with a lower floor a repeated read can change: read at 60, a cut, an opening with floor 0, a version from 52 on. So `alike` asks
+-- for the floor
+
+abbrev backdated : List Step
+backdated = opened 0 ∷ does (read 1 60 0) ∷ does begin ∷ cut begin 0 ∷ opened 0 ∷ does (write 1 52 1 (7 ∷ [])) ∷ does (decide 1 true) ∷ does (read 1 60 0) ∷ []
+
+pub floor-needed : heard (blankBox 8) (events 8 1 backdated) ≡ inNumbers (
+    some (Opened 0 0) ∷ some Nothing ∷ some (Stored 1) ∷ none ∷ some (Opened 1 1) ∷ some (Stored 2) ∷ some (Stored 3) ∷ some (Value 2 52 1) ∷ [])
+unfolding modelHeard latest
+floor-needed = promised 8 1 .as-model (events 8 1 backdated) (is-run 8 1 backdated refl) ∙ refl
+
+-- ---- a lawful sheet that no run of this store makes: two pages, both openings; begin keeps a page for the first one's outcome
+
+abbrev foreign : List ℕ
+foreign = packed (table.opening 1) (replicate 32 0) 1 ++ packed (table.opening 2) (replicate 32 0) 2
+
+foreign-lawful : inspected foreign 1 ≡ Lowest 0
+unfolding head front packed fieldsOf lowest highest within between meetsRules isPageOf table.torn inBounds tested tabulate fateOf imagesOf currentOf tokenOf decoded sealed pages down endOf lowestUnlawful inspectable inspected
+foreign-lawful = refl
+
+pub any-sheet-met : heard (off foreign) (events 2 1 (opened 0 ∷ does (test 2) ∷ does (decide 1 true) ∷ []))
+    ≡ inNumbers (some (Opened 2 2) ∷ some (Told 1) ∷ some (Refused 11 0) ∷ [])
+unfolding head front packed fieldsOf lowest highest within between meetsRules isPageOf table.torn inBounds tested tabulate fateOf imagesOf currentOf tokenOf decoded sealed pages down endOf undecidedOf historyOf modelHeard
+any-sheet-met = promised 2 1 .any-sheet foreign (events 2 1 (opened 0 ∷ does (test 2) ∷ does (decide 1 true) ∷ [])) refl refl foreign-lawful (is-run 2 1 (opened 0 ∷ does (test 2) ∷ does (decide 1 true) ∷ []) refl .allowed) ∙ refl

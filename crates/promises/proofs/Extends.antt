@@ -10,8 +10,8 @@ use borrow.Author.Tests.{eq-eqb, ne-eqb}
 use Rattle.page.specs.Layout.{pageSize}
 use Rattle.recovery.specs.Log.{Entry, blank, torn, fateOf}
 use Rattle.recovery.specs.World.{World, entryAt}
-use Rattle.promises.proofs.Logs.{entryIn, entry-cons, entry-top, Fits, Lawful, Known, Keeps, fate-keeps, fate-knows}
-use Rattle.promises.proofs.Fates.{entry-down}
+use Rattle.recovery.proofs.Spots.{entryIn, entry-cons, entry-top, entry-down}
+use Rattle.promises.proofs.Logs.{Fits, Lawful, Known, Keeps, fate-keeps, fate-knows}
 use Rattle.promises.proofs.Ledger.{Ledger, ledgerCall}
 use Rattle.promises.proofs.SimCalls.{sim-call}
 use Rattle.promises.proofs.Cuts.{cutLog, Step, stay, add, moves}

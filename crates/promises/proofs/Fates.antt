@@ -14,7 +14,8 @@ use Rattle.recovery.proofs.Places.{nth-put-other, length-tabulate, getD-tabulat
 use Rattle.recovery.proofs.Pages.{length-down}
 use Rattle.recovery.proofs.InspectSlots.{cond≡}
 use Rattle.recovery.proofs.InspectFates.{undecided-known}
-use Rattle.promises.proofs.Logs.{entryIn, Lawful, known-place, fate-above, fate-zero}
+use Rattle.recovery.proofs.Spots.{entryIn}
+use Rattle.promises.proofs.Logs.{Lawful, known-place, fate-above, fate-zero}
 
 from-number : (x : Fate) → fateFrom (fateNumber x) ≡ x
 from-number unknown = refl
@@ -96,15 +97,6 @@ undecided-low n (bad ∷ l) w h = absurd (w .0)
 undecided-low n (opening ∷ l) w h = omega (arith, opening-undecided n l (w .1) (omega arith), undecided-low n l (w .1) (omega arith))
 undecided-low n (image i ∷ l) w h = omega (arith, undecided-low n l (w .1) (omega arith))
 undecided-low n (outcome a c ∷ l) w h = omega (arith, outcome-undecided n l a c (w .1) (omega arith) (w .0), undecided-low n l (w .1) (omega arith))
-
--- the pages of a sheet from a place downward
-pub entry-down : (s : List Entry) (e p : ℕ) → p ≤ e → entryIn (down s e) p ≡ nth blank s p
-unfolding down
-entry-down s zero zero h = refl
-entry-down s zero (suc p) h = absurd (omega arith)
-entry-down s (suc e) p h =
-    rw (length-down s e)
-    (cond≡ (eqb p (suc e)) (λ q. rw (eqb-true p (suc e) q)) (λ q. entry-down s e p (omega (arith, eqb-false p (suc e) q))))
 
 pub down-put : (s : List Entry) (e p : ℕ) (g : Entry) → e < p → down (put s p g) e ≡ down s e
 unfolding down

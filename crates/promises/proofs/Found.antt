@@ -11,7 +11,7 @@ use Rattle.recovery.specs.Log.{Entry, torn}
 use Rattle.recovery.specs.World.{World, entryAt}
 use Rattle.recovery.specs.declared.Answer.the-variants.{Stored}
 use Rattle.calls.specs.Calls.{Call, call}
-use Rattle.promises.proofs.Logs.{entryIn, entry-top}
+use Rattle.recovery.proofs.Spots.{entryIn, entry-top}
 use Rattle.promises.proofs.Ledger.{Ledger, ledgerCall}
 use Rattle.promises.proofs.LedgerCalls.{writes}
 use Rattle.promises.proofs.SimCalls.{sim-call}

@@ -9,51 +9,46 @@ use borrow.Author.Tests.{eqb-true, eq-eqb}
 use Rattle.encoding.proofs.Logic.{by-test}
 use Rattle.recovery.specs.Log.{Image, Entry, opening, image, outcome, Fate, unknown, undecided, committed, aborted, Placed, fateOf, imagesOf, currentStep, currentOf, tokenOf}
 use Rattle.recovery.specs.Lawful.{token}
+use Rattle.recovery.specs.World.{fateNumber}
 use Rattle.recovery.proofs.InspectFates.{All}
-use Rattle.promises.specs.Model.{latest, newest}
+use Rattle.promises.specs.Model.{Version, latest, newest}
+use Rattle.promises.specs.FromLog.{versionOf, versionIn, historyOf}
 use Rattle.promises.proofs.Logs.{ImageFits, Lawful, Keeps}
 use Rattle.promises.proofs.Chains.{Chain, chain}
 use Rattle.promises.proofs.Appends.{Agree, agree-keeps, opening-agree, owns, turned, turn-keeps, token-other}
-use Rattle.promises.proofs.Versions.{versionStep, versionOf, version}
+use Rattle.promises.proofs.Versions as found
+use Rattle.promises.proofs.Versions.{versionStep}
 
-abbrev pub historyStep : Fate → Placed → List Placed → List Placed
-historyStep unknown x vs = vs
-historyStep undecided x vs = vs
-historyStep committed x vs = x ∷ vs
-historyStep aborted x vs = vs
-
-unfoldable pub historyOf : (ℕ → Fate) → List Placed → List Placed
-historyOf φ [] = []
-historyOf φ (x ∷ xs) = historyStep (φ (x .image .action)) x (historyOf φ xs)
-
-abbrev pub history : List Entry → ℕ → List Placed
+abbrev pub history : List Entry → ℕ → List Version
 history l f = historyOf (fateOf l) (imagesOf l f)
 
 -- ---- reading it
 
 module _ (φ : ℕ → Fate) where
-  pub newest-is : (xs : List Placed) → newest (historyOf φ xs) ≡ currentOf φ xs
+  pub newest-is : (xs : List Placed) → newest (historyOf φ xs) ≡ versionIn (currentOf φ xs)
   unfolding historyOf currentOf
   newest-is [] = refl
   newest-is (x ∷ xs) = go (φ (x .image .action)) (newest-is xs)
     where
-      go : (y : Fate) → newest (historyOf φ xs) ≡ currentOf φ xs → newest (historyStep y x (historyOf φ xs)) ≡ currentStep y x (currentOf φ xs)
+      go : (y : Fate) → newest (historyOf φ xs) ≡ versionIn (currentOf φ xs)
+          → newest (cond (eqb (fateNumber y) 2) (versionOf x ∷ historyOf φ xs) (historyOf φ xs)) ≡ versionIn (currentStep y x (currentOf φ xs))
       go unknown r = r
       go undecided r = r
       go committed r = refl
       go aborted r = r
 
-  pub latest-is : (t : ℕ) (xs : List Placed) → latest t (historyOf φ xs) ≡ versionOf φ t xs
-  unfolding historyOf versionOf latest
+  pub latest-is : (t : ℕ) (xs : List Placed) → latest t (historyOf φ xs) ≡ versionIn (found.versionOf φ t xs)
+  unfolding historyOf found.versionOf latest
   latest-is t [] = refl
   latest-is t (x ∷ xs) = go (φ (x .image .action)) (latest-is t xs)
     where
-      go : (y : Fate) → latest t (historyOf φ xs) ≡ versionOf φ t xs → latest t (historyStep y x (historyOf φ xs)) ≡ versionStep y t x (versionOf φ t xs)
+      go : (y : Fate) → latest t (historyOf φ xs) ≡ versionIn (found.versionOf φ t xs)
+          → latest t (cond (eqb (fateNumber y) 2) (versionOf x ∷ historyOf φ xs) (historyOf φ xs)) ≡ versionIn (versionStep y t x (found.versionOf φ t xs))
       go unknown r = r
       go undecided r = r
       go committed r = pick (leb (x .image .start) t)
         where
-          pick : (b : Bool) → cond b (some x) (latest t (historyOf φ xs)) ≡ cond b (some x) (versionOf φ t xs)
+          pick : (b : Bool) → cond b (some (versionOf x)) (latest t (historyOf φ xs)) ≡ versionIn (cond b (some x) (found.versionOf φ t xs))
           pick true = refl
           pick false = r
       go aborted r = r
@@ -79,9 +74,9 @@ unfolding imagesOf fateOf historyOf
 image-history i l f h = by-test (λ xs. historyOf (fateOf l) xs ≡ history l f) (eqb (i .file) f) (λ e. rw (h .live)) (λ e. refl)
 
 -- a commit makes the action's token the newest version
-abbrev pub longer : Bool → Option Placed → List Placed → List Placed
+abbrev pub longer : Bool → Option Placed → List Version → List Version
 longer c none vs = vs
-longer true (some x) vs = x ∷ vs
+longer true (some x) vs = versionOf x ∷ vs
 longer false (some x) vs = vs
 
 turn-history : (a : ℕ) (c : Bool) (φ : ℕ → Fate) (xs : List Placed) → φ a ≡ undecided → Chain φ xs

@@ -13,7 +13,8 @@ use Rattle.recovery.specs.Log.{Entry, blank, torn, image, outcome, Placed, star
 use Rattle.recovery.specs.Lawful.{current, token}
 use Rattle.recovery.specs.World.{World}
 use Rattle.calls.specs.Calls.{Call, begin, write, read, test, decide, rebuild}
-use Rattle.promises.proofs.Logs.{entry-top, Lawful}
+use Rattle.recovery.proofs.Spots.{entry-top}
+use Rattle.promises.proofs.Logs.{Lawful}
 use Rattle.promises.proofs.Appends.{opening-token, torn-token, image-token, owns, outcome-token}
 use Rattle.promises.proofs.Versions.{version, shows, Clear, version-keeps}
 use Rattle.promises.proofs.Ledger.{Ledger, LedgerResult, endAt, ledgerGrown, ledgerRefuse, ledgerImage, within, raised, ledgerVersions, currentDecided, tokenDecided, ledgerCall}

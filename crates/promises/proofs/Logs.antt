@@ -16,17 +16,6 @@ use Rattle.recovery.proofs.InspectLaw.{lawful-parts, lawful-more, lawful-none}
 use Rattle.recovery.proofs.InspectFates.{undecided-is, fate-place}
 use Rattle.recovery.proofs.InspectFates as inspected
 
--- the page at a place
-abbrev pub entryIn : List Entry → ℕ → Entry
-entryIn [] p = blank
-entryIn (g ∷ l) p = cond (eqb p (suc (length l))) g (entryIn l p)
-
-pub entry-cons : (g : Entry) (l : List Entry) (p : ℕ) → p ≤ length l → entryIn (g ∷ l) p ≡ entryIn l p
-entry-cons g l p h = rw (ne-eqb p (suc (length l)) (λ e. omega arith))
-
-pub entry-top : (g : Entry) (l : List Entry) → entryIn (g ∷ l) (suc (length l)) ≡ g
-entry-top g l = rw (eq-eqb (suc (length l)) (suc (length l)) refl)
-
 -- ---- lawful, as a type: a page fits the log below it, and so does every page of a lawful log
 
 pub record ImageFits (i : Image) (l : List Entry) : Type 0 where

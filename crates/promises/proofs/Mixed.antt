@@ -19,7 +19,8 @@ use Rattle.page.specs.Answers.{tested, byKind, cut}
 use Rattle.page.proofs.Rules.{within-true, within-both, InBounds, are-in-bounds}
 use Rattle.page.proofs.Found.{found}
 use Rattle.page.proofs.RoundTrip.{length-packed, cut-tested, cut-whole}
-use Rattle.calls.specs.Cuts.{mixed, Ordered, firstBytes}
+use Rattle.calls.specs.Cuts.{mixed, firstBytes}
+use Rattle.promises.specs.Runs.{Ordered}
 
 -- ---- bytes mixed
 

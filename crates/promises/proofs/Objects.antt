@@ -7,36 +7,45 @@ use mathlib.Core.Option.{Option, some, none}
 use native.Mathlib.Omega.{arith}
 use lib.ListN.{length}
 use lib.Dec.{eqb, leb, ltb}
-use borrow.Author.Tests.{eqb-true, eqb-false, eq-eqb, ne-eqb, leb-true, le-leb}
+use borrow.Author.Tests.{eqb-true, eqb-false, eq-eqb, ne-eqb, leb-true, le-leb, ltb-true, ltb-false, lt-ltb, le-ltb}
 use Rattle.encoding.proofs.Logic.{bool-ext, and-true}
 use Rattle.page.specs.Layout.{valueSize}
 use Rattle.recovery.specs.Log.{Image, Entry, opening, image, outcome, Fate, unknown, undecided, committed, aborted, Placed, fateOf, imagesOf, verdict, placeOf, startOf}
 use Rattle.recovery.specs.Lawful.{current, token}
 use Rattle.recovery.specs.World.{isFile, fateNumber, fatesOf, undecidedOf}
+use Rattle.recovery.specs.declared.Answer.the-variants.{Rebuilt}
 use Rattle.calls.specs.Calls.{Call, begin, write, read, test, decide, rebuild, isKnown, isDecided}
-use Rattle.promises.specs.Model.{Object, object, Model, Reply, latest, newest, answerOf, refuses, changed, withObject, stored, hasRoom, ofFile, ofAction, ofUndecided, writing, readHistory, reading, ended, endedBy, modelCall}
+use Rattle.promises.specs.Model.{Version, Object, object, Status, pending, Model, Reply, latest, newest, placed, since, shows, refuses, changed, withObject, stored, hasRoom, ofFile, ofPending, writing, readHistory, reading, testing, decidedAs, ended, endedBy, modelCall}
+use Rattle.promises.specs.FromLog.{statusOf, versionOf, versionIn}
 use Rattle.promises.proofs.Logs.{Lawful, known-place}
 use Rattle.promises.proofs.Appends.{opening-token, image-token, owns, outcome-token}
 use Rattle.promises.proofs.Fates.{opening-undecided, outcome-undecided}
 use Rattle.promises.proofs.Versions.{version}
-use Rattle.promises.proofs.Ledger.{Ledger, LedgerResult, endAt, withEnds, ledgerGrown, ledgerRefuse, ledgerUndecided, ledgerRoom, ledgerKnows, ledgerForAction, ledgerForUndecided, ledgerForFile, ledgerImage, ledgerWrite, foundAnswer, within, raised, currentRead, tokenRead, ledgerVersions, ledgerRead, currentDecided, tokenDecided, ledgerCall}
+use Rattle.promises.proofs.Ledger.{Ledger, LedgerResult, endAt, withEnds, ledgerGrown, ledgerRefuse, ledgerUndecided, ledgerRoom, ledgerKnows, ledgerForAction, ledgerForUndecided, ledgerForFile, ledgerImage, ledgerWrite, foundAnswer, within, raised, currentRead, tokenRead, ledgerVersions, ledgerRead, currentDecided, tokenDecided, toldFate, ledgerCall}
 use Rattle.promises.proofs.Histories.{history, newest-is, latest-is, opening-history, image-history, longer, outcome-history}
 
 -- ---- a ledger stands for a model; the ends count only while the box is on
 
+-- an object's ends: where its newest version and its token start, or when they were asked for last
+abbrev pub currentEnd : Object → ℕ
+currentEnd x = max (since (newest (x .history))) (x .asked)
+
+abbrev pub tokenEnd : Object → ℕ
+tokenEnd x = max (since (x .token)) (x .tokenasked)
+
 pub record Ends (l : Ledger) (m : Model) : Type 0 where
   pub floor : m .floor ≡ l .floor
-  pub current : (f : ℕ) → m .object f .currentend ≡ l .currentend f
-  pub token : (f : ℕ) → m .object f .tokenend ≡ l .tokenend f
+  pub current : (f : ℕ) → currentEnd (m .object f) ≡ l .currentend f
+  pub token : (f : ℕ) → tokenEnd (m .object f) ≡ l .tokenend f
 
 pub record Stands (on : Bool) (l : Ledger) (m : Model) : Type 0 where
   pub pages : m .pages ≡ l .pages
   pub files : m .files ≡ l .files
   pub used : m .used ≡ length (l .log)
   pub undecided : m .undecided ≡ ledgerUndecided l
-  pub fate : (a : ℕ) → m .fate a ≡ fateOf (l .log) a
+  pub status : (a : ℕ) → m .status a ≡ statusOf (fateOf (l .log) a)
   pub history : (f : ℕ) → m .object f .history ≡ history (l .log) f
-  pub token : (f : ℕ) → m .object f .token ≡ token (l .log) f
+  pub token : (f : ℕ) → m .object f .token ≡ versionIn (token (l .log) f)
   pub ends : on ≡ true → Ends l m
 
 pub record Alike (r : LedgerResult) (s : Reply) : Type 0 where
@@ -84,6 +93,36 @@ fates-image : (n : ℕ) (i : Image) (l : List Entry) → fatesOf n (image i ∷ 
 unfolding fateOf
 fates-image n i l = refl
 
+-- ---- what the log has, as the model has it
+
+pub status-cond : (b : Bool) (x y : Fate) → statusOf (cond b x y) ≡ cond b (statusOf x) (statusOf y)
+status-cond true x y = refl
+status-cond false x y = refl
+
+verdict-status : (c : Bool) → statusOf (verdict c) ≡ some (decidedAs c)
+verdict-status true = refl
+verdict-status false = refl
+
+version-cond : (b : Bool) (x y : Option Placed) → versionIn (cond b x y) ≡ cond b (versionIn x) (versionIn y)
+version-cond true x y = refl
+version-cond false x y = refl
+
+pub since-is : (z : Option Placed) → since (versionIn z) ≡ startOf z
+since-is none = refl
+since-is (some x) = refl
+
+placed-is : (z : Option Placed) → placed (versionIn z) ≡ placeOf z
+placed-is none = refl
+placed-is (some x) = refl
+
+max-below : (a b s : ℕ) → ltb (max a b) s ≡ (ltb a s && ltb b s)
+max-below a b s = go (ltb a s) (ltb b s) refl refl
+  where
+    go : (x y : Bool) → ltb a s ≡ x → ltb b s ≡ y → ltb (max a b) s ≡ (x && y)
+    go true true p q = lt-ltb (max a b) s (omega (arith, ltb-true a s p, ltb-true b s q))
+    go true false p q = le-ltb (max a b) s (omega (arith, ltb-false b s q))
+    go false y p q = le-ltb (max a b) s (omega (arith, ltb-false a s p))
+
 -- ---- every call
 
 known-bool : (x : Fate) → isKnown x ≡ true → 1 ≤ fateNumber x
@@ -100,28 +139,38 @@ module _ (l : Ledger) (m : Model) (w : Lawful (l .log)) (room : length (l .log) 
   room-is : (n n′ : ℕ) → n′ ≡ n → ledgerRoom l n ≡ hasRoom m n′
   room-is n n′ q = rw (s .pages, s .used, q)
 
-  knows-is : (a : ℕ) → ledgerKnows l a ≡ isKnown (m .fate a)
-  knows-is a = rw (s .fate a) (bool-ext (ledgerKnows l a) (isKnown (fateOf (l .log) a)) (λ q. and-true (leb 1 a && leb a (length (l .log))) (isKnown (fateOf (l .log) a)) q .1) (λ q.
+  knows-is : (a : ℕ) → ledgerKnows l a ≡ isKnown (fateOf (l .log) a)
+  knows-is a = bool-ext (ledgerKnows l a) (isKnown (fateOf (l .log) a)) (λ q. and-true (leb 1 a && leb a (length (l .log))) (isKnown (fateOf (l .log) a)) q .1) (λ q.
       let p = known-place (l .log) a w (known-bool (fateOf (l .log) a) q) in
-      rw (le-leb 1 a (p .0), le-leb a (length (l .log)) (p .1)) q))
+      rw (le-leb 1 a (p .0), le-leb a (length (l .log)) (p .1)) q)
 
   refused : (n p p′ : ℕ) → p ≡ p′ → Alike (ledgerRefuse n p l) (refuses n p′ m)
   refused n p p′ q = record { answer = rw q; after = λ k. s }
 
   of-file : (f : ℕ) (r : LedgerResult) (r′ : Reply) → Alike r r′ → Alike (ledgerForFile l f r) (ofFile m f r′)
-  of-file f r r′ h = alike-cond (isFile (l .files) f) (isFile (m .files) f) (rw (s .files)) (λ q. h) (λ q. refused 3 0 0 refl)
+  of-file f r r′ h = alike-cond (isFile (l .files) f) (leb 1 f && leb f (m .files)) (rw (s .files)) (λ q. h) (λ q. refused 3 0 0 refl)
 
-  of-action : (a : ℕ) (r : LedgerResult) (r′ : Reply) → Alike r r′ → Alike (ledgerForAction l a r) (ofAction m a r′)
-  of-action a r r′ h = alike-cond (ledgerKnows l a) (isKnown (m .fate a)) (knows-is a) (λ q. h) (λ q. refused 5 0 0 refl)
+  of-pending : (a : ℕ) (r : LedgerResult) (r′ : Reply) → Alike r r′ → Alike (ledgerForUndecided l a r) (ofPending m (m .status a) r′)
+  of-pending a r r′ h = subst (λ z. Alike (ledgerForUndecided l a r) (ofPending m z r′)) (sym (s .status a)) (go (fateOf (l .log) a) refl)
+    where
+      go : (x : Fate) → fateOf (l .log) a ≡ x → Alike (ledgerForUndecided l a r) (ofPending m (statusOf x) r′)
+      go unknown q = rw (knows-is a, q) (refused 5 0 0 refl)
+      go undecided q = rw (knows-is a, q) h
+      go committed q = rw (knows-is a, q) (refused 6 0 0 refl)
+      go aborted q = rw (knows-is a, q) (refused 6 0 0 refl)
 
-  of-undecided : (a : ℕ) (r : LedgerResult) (r′ : Reply) → Alike r r′ → Alike (ledgerForUndecided l a r) (ofUndecided m a r′)
-  of-undecided a r r′ h =
-      of-action a (cond (isDecided (fateOf (l .log) a)) (ledgerRefuse 6 0 l) r) (cond (isDecided (m .fate a)) (refuses 6 0 m) r′)
-      (alike-cond (isDecided (fateOf (l .log) a)) (isDecided (m .fate a)) (rw (s .fate a)) (λ q. refused 6 0 0 refl) (λ q. h))
+  tests : (a : ℕ) → Alike (ledgerForAction l a (toldFate (fateOf (l .log) a), l)) (testing m (m .status a))
+  tests a = subst (λ z. Alike (ledgerForAction l a (toldFate (fateOf (l .log) a), l)) (testing m z)) (sym (s .status a)) (go (fateOf (l .log) a) refl)
+    where
+      go : (x : Fate) → fateOf (l .log) a ≡ x → Alike (ledgerForAction l a (toldFate (fateOf (l .log) a), l)) (testing m (statusOf x))
+      go unknown q = rw (knows-is a, q) (refused 5 0 0 refl)
+      go undecided q = rw (knows-is a, q) (record { answer = refl; after = λ k. s })
+      go committed q = rw (knows-is a, q) (record { answer = refl; after = λ k. s })
+      go aborted q = rw (knows-is a, q) (record { answer = refl; after = λ k. s })
 
   -- begin
   begins : ledgerRoom l (ledgerUndecided l + 2) ≡ true
-      → Alike (ledgerGrown l opening (l .currentend) (l .tokenend)) (stored m (suc (m .undecided)) (changed (m .fate) (suc (m .used)) undecided) (m .object))
+      → Alike (ledgerGrown l opening (l .currentend) (l .tokenend)) (stored m (suc (m .undecided)) (changed (m .status) (suc (m .used)) (some pending)) (m .object))
   begins q = record {
     answer = rw (s .used);
     after = λ k. record {
@@ -129,9 +178,9 @@ module _ (l : Ledger) (m : Model) (w : Lawful (l .log)) (room : length (l .log) 
       files = s .files;
       used = ap suc (s .used);
       undecided = ap suc (s .undecided) ∙ sym (opening-undecided (l .pages) (l .log) w (omega (arith, leb-true (ledgerUndecided l + 2) (l .pages - length (l .log)) q)));
-      fate = λ a. rw (s .used, s .fate a) (sym (fate-opening (l .log) a));
+      status = λ a. rw (s .used, s .status a) (sym (ap statusOf (fate-opening (l .log) a) ∙ status-cond (eqb a (suc (length (l .log)))) undecided (fateOf (l .log) a)));
       history = λ f. s .history f ∙ sym (opening-history (l .log) f w);
-      token = λ f. s .token f ∙ sym (opening-token (l .log) f w);
+      token = λ f. s .token f ∙ ap versionIn (sym (opening-token (l .log) f w));
       ends = λ o. record { floor = e .floor; current = e .current; token = e .token };
     };
   }
@@ -139,21 +188,19 @@ module _ (l : Ledger) (m : Model) (w : Lawful (l .log)) (room : length (l .log) 
   -- write
   module _ (f start a : ℕ) (v : List ℕ) where
     -- the token as the model has it, and as the ledger has it
-    abbrev made : Placed
-    made = record { place = suc (m .used); image = record { file = f; action = a; link = placeOf (newest (m .object f .history)); start = start; value = v } }
+    abbrev made : Version
+    made = record { place = suc (m .used); action = a; start = start; value = v }
 
     abbrev given : Placed
     given = record { place = suc (length (l .log)); image = ledgerImage l f start a v }
 
-    made-is : made ≡ given
-    made-is =
-        let link : placeOf (newest (m .object f .history)) ≡ placeOf (current (l .log) f) = ap (λ xs. placeOf (newest xs)) (s .history f) ∙ ap placeOf (newest-is (fateOf (l .log)) (imagesOf (l .log) f)) in
-        λ i. record { place = suc (s .used i); image = record { file = f; action = a; link = link i; start = start; value = v } }
+    made-is : made ≡ versionOf given
+    made-is = λ i. record { place = suc (s .used i); action = a; start = start; value = v }
 
     abbrev written : Object
-    written = object (m .object f .history) (m .object f .currentend) (some made) start
+    written = object (m .object f .history) (m .object f .asked) (some made) 0
 
-    writes : Alike (ledgerGrown l (image (ledgerImage l f start a v)) (l .currentend) (endAt (l .tokenend) f start)) (stored m (m .undecided) (m .fate) (changed (m .object) f written))
+    writes : Alike (ledgerGrown l (image (ledgerImage l f start a v)) (l .currentend) (endAt (l .tokenend) f start)) (stored m (m .undecided) (m .status) (changed (m .object) f written))
     writes = record {
       answer = rw (s .used);
       after = λ k. record {
@@ -161,28 +208,32 @@ module _ (l : Ledger) (m : Model) (w : Lawful (l .log)) (room : length (l .log) 
         files = s .files;
         used = ap suc (s .used);
         undecided = s .undecided ∙ ap undecidedOf (sym (fates-image (l .pages) (ledgerImage l f start a v) (l .log)));
-        fate = λ b. s .fate b ∙ sym (fate-image (ledgerImage l f start a v) (l .log) b);
+        status = λ b. s .status b ∙ ap statusOf (sym (fate-image (ledgerImage l f start a v) (l .log) b));
         history = λ g. changed-not (λ x. x .history) (m .object) f written (history (l .log)) (s .history) (s .history f) g ∙ sym (image-history (ledgerImage l f start a v) (l .log) g (k .0));
         token = λ g.
-            changed-at (λ x. x .token) (m .object) f written (token (l .log)) (s .token) (some given) (ap some made-is) g ∙ sym (image-token (ledgerImage l f start a v) (l .log) g (k .0));
+            changed-at (λ x. x .token) (m .object) f written (λ h. versionIn (token (l .log) h)) (s .token) (some (versionOf given)) (ap some made-is) g
+            ∙ sym (ap versionIn (image-token (ledgerImage l f start a v) (l .log) g (k .0)) ∙ version-cond (eqb f g) (some given) (token (l .log) g));
         ends = λ o. record {
           floor = e .floor;
-          current = changed-not (λ x. x .currentend) (m .object) f written (l .currentend) (e .current) (e .current f);
-          token = changed-at (λ x. x .tokenend) (m .object) f written (l .tokenend) (e .token) start refl;
+          current = changed-not currentEnd (m .object) f written (l .currentend) (e .current) (e .current f);
+          token = changed-at tokenEnd (m .object) f written (l .tokenend) (e .token) start (omega arith);
         };
       };
     }
 
-    write-token : (z : Option Placed) → Alike (ledgerWrite l f start a v z) (writing m f start a v (m .object f) z)
+    above : (ltb (l .currentend f) start && ltb (l .floor) start) ≡ (ltb (since (newest (m .object f .history))) start && ltb (m .object f .asked) start && ltb (m .floor) start)
+    above = rw (← e .current f, ← e .floor, max-below (since (newest (m .object f .history))) (m .object f .asked) start)
+
+    write-token : (z : Option Placed) → Alike (ledgerWrite l f start a v z) (writing m f start a v (m .object f) (versionIn z))
     write-token none =
-        alike-cond (ltb (l .currentend f) start && ltb (l .floor) start) (ltb (m .object f .currentend) start && ltb (m .floor) start) (rw (e .current f, e .floor))
+        alike-cond (ltb (l .currentend f) start && ltb (l .floor) start) (ltb (since (newest (m .object f .history))) start && ltb (m .object f .asked) start && ltb (m .floor) start) above
         (λ q. alike-cond (ledgerRoom l (ledgerUndecided l + 1)) (hasRoom m (m .undecided + 1)) (room-is (ledgerUndecided l + 1) (m .undecided + 1) (ap (λ n. n + 1) (s .undecided)))
         (λ q. writes) (λ q. refused 11 0 0 refl)) (λ q. refused 10 0 0 refl)
     write-token (some x) = refused 8 (x .image .action) (x .image .action) refl
 
   -- read
   module _ (f time a : ℕ) where
-    found-is : (z : Option Placed) → foundAnswer z ≡ answerOf z
+    found-is : (z : Option Placed) → foundAnswer z ≡ shows (versionIn z)
     found-is none = refl
     found-is (some x) = refl
 
@@ -193,42 +244,52 @@ module _ (l : Ledger) (m : Model) (w : Lawful (l .log)) (room : length (l .log) 
     abbrev x : Object
     x = m .object f
 
-    -- an object with other ends
-    read-ends : (c t : ℕ) (ce te : ℕ → ℕ) → ((g : ℕ) → changed (m .object) f (object (x .history) c (x .token) t) g .currentend ≡ ce g)
-        → ((g : ℕ) → changed (m .object) f (object (x .history) c (x .token) t) g .tokenend ≡ te g)
+    newest-since : since (newest (x .history)) ≡ startOf (current (l .log) f)
+    newest-since = ap (λ h. since (newest h)) (s .history f) ∙ ap since (newest-is (fateOf (l .log)) (imagesOf (l .log) f)) ∙ since-is (current (l .log) f)
+
+    -- an object asked for at other times
+    read-ends : (c t : ℕ) (ce te : ℕ → ℕ) → ((g : ℕ) → currentEnd (changed (m .object) f (object (x .history) c (x .token) t) g) ≡ ce g)
+        → ((g : ℕ) → tokenEnd (changed (m .object) f (object (x .history) c (x .token) t) g) ≡ te g)
         → Stands true (withEnds l ce te) (withObject m f (object (x .history) c (x .token) t))
     read-ends c t ce te hc ht = record {
       pages = s .pages;
       files = s .files;
       used = s .used;
       undecided = s .undecided;
-      fate = s .fate;
+      status = s .status;
       history = changed-not (λ x. x .history) (m .object) f (object (x .history) c (x .token) t) (history (l .log)) (s .history) (s .history f);
-      token = changed-not (λ x. x .token) (m .object) f (object (x .history) c (x .token) t) (λ g. token (l .log) g) (s .token) (s .token f);
+      token = changed-not (λ x. x .token) (m .object) f (object (x .history) c (x .token) t) (λ g. versionIn (token (l .log) g)) (s .token) (s .token f);
       ends = λ o. record { floor = e .floor; current = hc; token = ht };
     }
 
-    raised-is : cond (leb (startOf (newest (x .history))) time) (max (x .currentend) time) (x .currentend) ≡ raised (within time (current (l .log) f)) time (l .currentend f)
-    raised-is = rw (s .history f, newest-is (fateOf (l .log)) (imagesOf (l .log) f), e .current f, within-is (current (l .log) f))
+    abbrev asked : ℕ
+    asked = cond (leb (since (newest (x .history))) time) (max (x .asked) time) (x .asked)
+
+    raised-is : max (since (newest (x .history))) asked ≡ raised (within time (current (l .log) f)) time (l .currentend f)
+    raised-is = go (leb (since (newest (x .history))) time) (within-is (current (l .log) f) ∙ ap (λ n. leb n time) (sym newest-since))
+      where
+        go : (b : Bool) → within time (current (l .log) f) ≡ b → max (since (newest (x .history))) (cond b (max (x .asked) time) (x .asked)) ≡ raised (within time (current (l .log) f)) time (l .currentend f)
+        go true q = rw (q, ← e .current f) (omega arith)
+        go false q = rw q (e .current f)
 
     read-versions : Alike (ledgerVersions l f time) (readHistory m f time x)
     read-versions = record {
-      answer = found-is (version (l .log) f time) ∙ ap answerOf (sym (latest-is (fateOf (l .log)) time (imagesOf (l .log) f))) ∙ ap (λ vs. answerOf (latest time vs)) (sym (s .history f));
-      after = λ k. read-ends (cond (leb (startOf (newest (x .history))) time) (max (x .currentend) time) (x .currentend)) (x .tokenend) (currentRead l f time) (l .tokenend)
-          (changed-at (λ x. x .currentend) (m .object) f _ (l .currentend) (e .current) (raised (within time (current (l .log) f)) time (l .currentend f)) raised-is)
-          (changed-not (λ x. x .tokenend) (m .object) f _ (l .tokenend) (e .token) (e .token f));
+      answer = found-is (version (l .log) f time) ∙ ap shows (sym (latest-is (fateOf (l .log)) time (imagesOf (l .log) f))) ∙ ap (λ vs. shows (latest time vs)) (sym (s .history f));
+      after = λ k. read-ends asked (x .tokenasked) (currentRead l f time) (l .tokenend)
+          (changed-at currentEnd (m .object) f _ (l .currentend) (e .current) (raised (within time (current (l .log) f)) time (l .currentend f)) raised-is)
+          (changed-not tokenEnd (m .object) f _ (l .tokenend) (e .token) (e .token f));
     }
 
-    read-token : (z : Option Placed) → Alike (ledgerRead l f time a z) (reading m f time a x z)
+    read-token : (z : Option Placed) → Alike (ledgerRead l f time a z) (reading m f time a x (versionIn z))
     read-token none = read-versions
     read-token (some y) =
         alike-cond (leb (y .image .start) time) (leb (y .image .start) time) refl
         (λ q. alike-cond (eqb (y .image .action) a) (eqb (y .image .action) a) refl
         (λ q. record {
           answer = refl;
-          after = λ k. read-ends (x .currentend) (max (x .tokenend) time) (l .currentend) (tokenRead l f time)
-              (changed-not (λ x. x .currentend) (m .object) f _ (l .currentend) (e .current) (e .current f))
-              (changed-at (λ x. x .tokenend) (m .object) f _ (l .tokenend) (e .token) (max (l .tokenend f) time) (rw (e .token f)));
+          after = λ k. read-ends (x .asked) (max (x .tokenasked) time) (l .currentend) (tokenRead l f time)
+              (changed-not currentEnd (m .object) f _ (l .currentend) (e .current) (e .current f))
+              (changed-at tokenEnd (m .object) f _ (l .tokenend) (e .token) (max (l .tokenend f) time) (rw (← e .token f) (omega arith)));
         })
         (λ q. refused 9 (y .image .action) (y .image .action) refl))
         (λ q. read-versions)
@@ -240,46 +301,46 @@ module _ (l : Ledger) (m : Model) (w : Lawful (l .log)) (room : length (l .log) 
 
     -- what an outcome leaves of an object, by its token
     module _ (x : Object) where
-      left-history : (z : Option Placed) → endedBy a c x z .history ≡ cond (owns a z) (longer c z (x .history)) (x .history)
+      left-history : (z : Option Placed) → endedBy a c x (versionIn z) .history ≡ cond (owns a z) (longer c z (x .history)) (x .history)
       left-history none = refl
       left-history (some y) = go (eqb (y .image .action) a) c
         where
-          go : (b c : Bool) → cond b (ended c x y) x .history ≡ cond b (longer c (some y) (x .history)) (x .history)
+          go : (b c : Bool) → cond b (ended c x (versionOf y)) x .history ≡ cond b (longer c (some y) (x .history)) (x .history)
           go true true = refl
           go true false = refl
           go false c = refl
 
-      left-token : (z : Option Placed) → x .token ≡ z → endedBy a c x z .token ≡ cond (owns a z) none z
+      left-token : (z : Option Placed) → x .token ≡ versionIn z → endedBy a c x (versionIn z) .token ≡ versionIn (cond (owns a z) none z)
       left-token none q = q
       left-token (some y) q = go (eqb (y .image .action) a) c
         where
-          go : (b c : Bool) → cond b (ended c x y) x .token ≡ cond b none (some y)
+          go : (b c : Bool) → cond b (ended c x (versionOf y)) x .token ≡ versionIn (cond b none (some y))
           go true true = refl
           go true false = refl
           go false c = q
 
-      left-current : (z : Option Placed) → endedBy a c x z .currentend ≡ cond (owns a z) (cond c (x .tokenend) (x .currentend)) (x .currentend)
-      left-current none = refl
-      left-current (some y) = go (eqb (y .image .action) a) c
+      left-current : (z : Option Placed) → x .token ≡ versionIn z → currentEnd (endedBy a c x (versionIn z)) ≡ cond (owns a z) (cond c (tokenEnd x) (currentEnd x)) (currentEnd x)
+      left-current none q = refl
+      left-current (some y) q = go (eqb (y .image .action) a) c
         where
-          go : (b c : Bool) → cond b (ended c x y) x .currentend ≡ cond b (cond c (x .tokenend) (x .currentend)) (x .currentend)
-          go true true = refl
+          go : (b c : Bool) → currentEnd (cond b (ended c x (versionOf y)) x) ≡ cond b (cond c (tokenEnd x) (currentEnd x)) (currentEnd x)
+          go true true = ap (λ t. max (since t) (x .tokenasked)) (sym q)
           go true false = refl
           go false c = refl
 
-      left-end : (z : Option Placed) → endedBy a c x z .tokenend ≡ cond (owns a z) 0 (x .tokenend)
+      left-end : (z : Option Placed) → tokenEnd (endedBy a c x (versionIn z)) ≡ cond (owns a z) 0 (tokenEnd x)
       left-end none = refl
       left-end (some y) = go (eqb (y .image .action) a) c
         where
-          go : (b c : Bool) → cond b (ended c x y) x .tokenend ≡ cond b 0 (x .tokenend)
+          go : (b c : Bool) → tokenEnd (cond b (ended c x (versionOf y)) x) ≡ cond b 0 (tokenEnd x)
           go true true = refl
           go true false = refl
           go false c = refl
 
-    left-is : (f : ℕ) → left f ≡ endedBy a c (m .object f) (token (l .log) f)
+    left-is : (f : ℕ) → left f ≡ endedBy a c (m .object f) (versionIn (token (l .log) f))
     left-is f = ap (endedBy a c (m .object f)) (s .token f)
 
-    decides : Alike (ledgerGrown l (outcome a c) (currentDecided l a c) (tokenDecided l a)) (stored m (pred (m .undecided)) (changed (m .fate) a (verdict c)) left)
+    decides : Alike (ledgerGrown l (outcome a c) (currentDecided l a c) (tokenDecided l a)) (stored m (pred (m .undecided)) (changed (m .status) a (some (decidedAs c))) left)
     decides = record {
       answer = rw (s .used);
       after = λ k. record {
@@ -287,16 +348,17 @@ module _ (l : Ledger) (m : Model) (w : Lawful (l .log)) (room : length (l .log) 
         files = s .files;
         used = ap suc (s .used);
         undecided = ap pred (s .undecided ∙ sym (outcome-undecided (l .pages) (l .log) a c w room (k .0)));
-        fate = λ b. ap (λ x. cond (eqb b a) (verdict c) x) (s .fate b) ∙ sym (fate-outcome a c (l .log) b);
+        status = λ b. ap (λ x. cond (eqb b a) (some (decidedAs c)) x) (s .status b)
+            ∙ sym (ap statusOf (fate-outcome a c (l .log) b) ∙ status-cond (eqb b a) (verdict c) (fateOf (l .log) b) ∙ ap (λ x. cond (eqb b a) x (statusOf (fateOf (l .log) b))) (verdict-status c));
         history = λ f.
             ap (λ x. x .history) (left-is f) ∙ left-history (m .object f) (token (l .log) f)
             ∙ ap (λ vs. cond (owns a (token (l .log) f)) (longer c (token (l .log) f) vs) vs) (s .history f) ∙ sym (outcome-history a c (l .log) f (k .0) w);
         token = λ f.
-            ap (λ x. x .token) (left-is f) ∙ left-token (m .object f) (token (l .log) f) (s .token f) ∙ sym (outcome-token a c (l .log) f (k .0) w);
+            ap (λ x. x .token) (left-is f) ∙ left-token (m .object f) (token (l .log) f) (s .token f) ∙ ap versionIn (sym (outcome-token a c (l .log) f (k .0) w));
         ends = λ o. record {
           floor = e .floor;
-          current = λ f. ap (λ x. x .currentend) (left-is f) ∙ left-current (m .object f) (token (l .log) f) ∙ rw (e .current f, e .token f);
-          token = λ f. ap (λ x. x .tokenend) (left-is f) ∙ left-end (m .object f) (token (l .log) f) ∙ rw (e .token f);
+          current = λ f. ap currentEnd (left-is f) ∙ left-current (m .object f) (token (l .log) f) (s .token f) ∙ rw (e .current f, e .token f);
+          token = λ f. ap tokenEnd (left-is f) ∙ left-end (m .object f) (token (l .log) f) ∙ rw (e .token f);
         };
       };
     }
@@ -307,21 +369,20 @@ module _ (l : Ledger) (m : Model) (w : Lawful (l .log)) (room : length (l .log) 
       (λ q. begins (room-is (ledgerUndecided l + 2) (m .undecided + 2) (ap (λ n. n + 2) (s .undecided)) ∙ q)) (λ q. refused 11 0 0 refl)
   call-alike (write f start a v) =
       of-file f _ _ (alike-cond (leb (length v) valueSize) (leb (length v) valueSize) refl
-      (λ q. of-undecided a _ _ (subst (λ z. Alike (ledgerWrite l f start a v (token (l .log) f)) (writing m f start a v (m .object f) z)) (sym (s .token f)) (write-token f start a v (token (l .log) f))))
+      (λ q. of-pending a _ _ (subst (λ z. Alike (ledgerWrite l f start a v (token (l .log) f)) (writing m f start a v (m .object f) z)) (sym (s .token f)) (write-token f start a v (token (l .log) f))))
       (λ q. refused 4 0 0 refl))
   call-alike (read f time a) =
       let r = subst (λ z. Alike (ledgerRead l f time a (token (l .log) f)) (reading m f time a (m .object f) z)) (sym (s .token f)) (read-token f time a (token (l .log) f)) in
-      of-file f _ _ (alike-cond (eqb a 0) (eqb a 0) refl (λ q. r) (λ q. of-undecided a _ _ r))
-  call-alike (test a) = of-action a _ _ (record { answer = rw (s .fate a); after = λ k. s })
+      of-file f _ _ (alike-cond (eqb a 0) (eqb a 0) refl (λ q. r) (λ q. of-pending a _ _ r))
+  call-alike (test a) = tests a
   call-alike (decide a c) =
-      of-undecided a _ _ (alike-cond (ledgerRoom l 1) (hasRoom m 1) (room-is 1 1 refl) (λ q. decides a c) (λ q. refused 11 0 0 refl))
-  call-alike (rebuild f) = of-file f _ _ (record {
-    answer = rw (
-      s .history f,
-      newest-is (fateOf (l .log)) (imagesOf (l .log) f),
-      s .token f,
-      e .current f,
-      e .token f,
-    );
-    after = λ k. s;
-  })
+      of-pending a _ _ (alike-cond (ledgerRoom l 1) (hasRoom m 1) (room-is 1 1 refl) (λ q. decides a c) (λ q. refused 11 0 0 refl))
+  call-alike (rebuild f) = of-file f _ _ (record { answer = rebuilt; after = λ k. s })
+    where
+      rebuilt : Rebuilt (placeOf (current (l .log) f)) (l .currentend f) (placeOf (token (l .log) f)) (l .tokenend f)
+          ≡ Rebuilt (placed (newest (m .object f .history))) (currentEnd (m .object f)) (placed (m .object f .token)) (tokenEnd (m .object f))
+      rebuilt =
+          let p : placed (newest (m .object f .history)) ≡ placeOf (current (l .log) f) =
+          ap (λ h. placed (newest h)) (s .history f) ∙ ap placed (newest-is (fateOf (l .log)) (imagesOf (l .log) f)) ∙ placed-is (current (l .log) f) in
+          let q : placed (m .object f .token) ≡ placeOf (token (l .log) f) = ap placed (s .token f) ∙ placed-is (token (l .log) f) in
+          λ i. Rebuilt (sym p i) (sym (e .current f) i) (sym q i) (sym (e .token f) i)

@@ -14,8 +14,8 @@ use Rattle.recovery.specs.World.{World, down, sizes, cold, isBlank, endOf, high
 use Rattle.recovery.specs.declared.Row.{Row}
 use Rattle.recovery.specs.declared.Answer.the-variants.{Opened}
 use Rattle.recovery.proofs.InspectLaw.{lowest-none}
-use Rattle.promises.proofs.Logs.{entryIn, entry-top, Lawful, lawful-test}
-use Rattle.promises.proofs.Fates.{entry-down}
+use Rattle.recovery.proofs.Spots.{entryIn, entry-top, entry-down}
+use Rattle.promises.proofs.Logs.{Lawful, lawful-test}
 use Rattle.promises.proofs.Ledger.{Ledger, ledgerOpened}
 use Rattle.promises.proofs.Sim.{Sim, Agrees}
 

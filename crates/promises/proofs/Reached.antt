@@ -1,5 +1,5 @@
 -- Boxes that a run reaches: each stands for a ledger. Where a run goes on from one, and what its pages are.
-use Prim.Native.Nat.{ℕ, zero, suc, _-_, _*_, _≤_, _<_}
+use Prim.Native.Nat.{ℕ, zero, suc, _-_, _*_, _/_, _%_, _≤_, _<_}
 use mathlib.Core.Path.{_≡_, refl, sym, ap, _∙_, subst}
 use mathlib.Core.List.{List, [], _∷_, _++_}
 use mathlib.Core.Bool.{Bool, true, false}
@@ -15,6 +15,7 @@ use Rattle.recovery.specs.Places.{nth}
 use Rattle.recovery.specs.Log.{Entry, blank, bad}
 use Rattle.recovery.specs.Sheet.{pageBytes, entryOf, decoded, seal, sealed, pages}
 use Rattle.recovery.specs.World.{entryAt, down, sizes}
+use Rattle.recovery.specs.Lent.{rowLength, sizesRight}
 use Rattle.recovery.proofs.Pages.{page-at-place, pages-long, test-out}
 use Rattle.promises.specs.Runs.{Box, on, off, sheetOf, Event, after, runs, AllAllowed, blankBox, Run}
 use Rattle.promises.proofs.Ledger.{Ledger}
@@ -74,6 +75,17 @@ module _ (files n : ℕ) (sz : sizes n n files ≡ true) where
       fits = sz;
     };
   }
+
+-- ---- the lengths of what an opening is lent
+
+pub sizes-are : (n files : ℕ) (fates rows : List ℕ) → sizes n n files ≡ true → length fates ≡ n → length rows ≡ rowLength * files → sizesRight (pageSize * n) (length fates) (length rows) ≡ true
+unfolding sizesRight
+sizes-are n files fates rows sz f r =
+    let a : (pageSize * n) % pageSize ≡ 0 = omega arith in
+    let b : length rows % rowLength ≡ 0 = omega arith in
+    let c : (pageSize * n) / pageSize ≡ n = omega arith in
+    let d : length rows / rowLength ≡ files = omega arith in
+    rw (a, b, c, d, f) sz
 
 -- ---- a box that stands for a ledger
 

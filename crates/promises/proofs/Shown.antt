@@ -15,7 +15,8 @@ use Rattle.recovery.specs.World.{World, entryAt, fateAt, isFile}
 use Rattle.recovery.specs.declared.Answer.the-variants.{Value}
 use Rattle.recovery.proofs.InspectFates.{undecided-known, All, decided-free}
 use Rattle.calls.specs.Calls.{read, call}
-use Rattle.promises.proofs.Logs.{entryIn, Known, Decided, not-undecided, known-place}
+use Rattle.recovery.proofs.Spots.{entryIn}
+use Rattle.promises.proofs.Logs.{Known, Decided, not-undecided, known-place}
 use Rattle.promises.proofs.Chains.{Chain, chain}
 use Rattle.promises.proofs.Versions.{version, Among, first, next, newest, shown}
 use Rattle.promises.proofs.Ledger.{Ledger, ledgerCall}

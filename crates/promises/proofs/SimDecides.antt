@@ -18,11 +18,12 @@ use Rattle.recovery.proofs.Lookups.{is-file}
 use Rattle.recovery.proofs.InspectFates.{undecided-known}
 use Rattle.calls.specs.Calls.{hasRoom, append, imageOf, decided, isTokenOf, settled, eachRow, onDecide}
 use Rattle.calls.proofs.DecideRows.{row-each, row-each-long}
+use Rattle.recovery.proofs.Spots.{Lies}
 use Rattle.promises.proofs.Logs.{known-place}
 use Rattle.promises.proofs.Appends.{owns, outcome-current, outcome-token}
 use Rattle.promises.proofs.Fates.{outcome-fates, outcome-undecided}
 use Rattle.promises.proofs.Ledger.{Ledger, ledgerGrown, ledgerRoom, currentDecided, tokenDecided, ledgerDecide, ledgerRow}
-use Rattle.promises.proofs.Sim.{warmOf, Reach, Sim, Agrees, agrees-cond, Lies, token-lies, room-eq, blank-ok, lies-at, sim-append}
+use Rattle.promises.proofs.Sim.{warmOf, Reach, Sim, Agrees, agrees-cond, token-lies, room-eq, blank-ok, lies-at, sim-append}
 
 nth-each : (k : ℕ → Row → Row) (rs : List Row) (f : ℕ) → 1 ≤ f → f ≤ length rs → nth cold (eachRow k 0 rs) f ≡ k f (nth cold rs f)
 nth-each k rs zero h l = absurd (omega arith)

@@ -14,11 +14,12 @@ use Rattle.recovery.specs.Lawful.{current, token}
 use Rattle.recovery.specs.World.{World, entryAt, withRow, isFile}
 use Rattle.recovery.specs.declared.Row.{Row}
 use Rattle.calls.specs.Calls.{imageOf, walkFrom, answerWalk, reaches, readCurrent, readToken, onVersions, onToken, onRead}
-use Rattle.promises.proofs.Chains.{Spots, spots, chain}
+use Rattle.recovery.proofs.Spots.{Spots, spots, Lies}
+use Rattle.promises.proofs.Chains.{chain}
 use Rattle.promises.proofs.Versions.{version, version-none}
 use Rattle.promises.proofs.Links.{walked, AllSeen, walk-finds}
 use Rattle.promises.proofs.Ledger.{Ledger, endAt, withEnds, foundAnswer, within, raised, currentRead, tokenRead, ledgerVersions, ledgerRead, ledgerRow}
-use Rattle.promises.proofs.Sim.{Reach, Sim, Agrees, agrees-cond, Lies, current-lies, token-lies, lies-at, row-holds, sim-set}
+use Rattle.promises.proofs.Sim.{Reach, Sim, Agrees, agrees-cond, current-lies, token-lies, lies-at, row-holds, sim-set}
 
 pub raised-low : (b : Bool) (t e k : ℕ) → k ≤ e → k ≤ raised b t e
 raised-low true t e k h = omega arith

@@ -18,11 +18,12 @@ use Rattle.recovery.specs.declared.Answer.the-variants.{Stored}
 use Rattle.recovery.proofs.Places.{nth-put-same, nth-put-other, length-put}
 use Rattle.recovery.proofs.Lookups.{is-file}
 use Rattle.calls.specs.Calls.{begin, hasRoom, append, store, onBegin, imageOf, actionOf, onWrite}
+use Rattle.recovery.proofs.Spots.{Lies}
 use Rattle.promises.proofs.Logs.{ImageFits}
 use Rattle.promises.proofs.Appends.{opening-current, opening-token, image-current, image-token}
 use Rattle.promises.proofs.Fates.{opening-fates, opening-undecided}
 use Rattle.promises.proofs.Ledger.{Ledger, endAt, ledgerGrown, ledgerUndecided, ledgerRoom, ledgerImage, ledgerWrite, ledgerRow, ledgerCall}
-use Rattle.promises.proofs.Sim.{warmOf, Sim, Agrees, agrees-cond, Lies, token-lies, room-eq, blank-ok, lies-at, row-holds, sim-append}
+use Rattle.promises.proofs.Sim.{warmOf, Sim, Agrees, agrees-cond, token-lies, room-eq, blank-ok, lies-at, row-holds, sim-append}
 
 -- begin
 module _ (w : World) (m : Ledger) (s : Sim w m) where

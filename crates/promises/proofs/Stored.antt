@@ -18,8 +18,9 @@ use Rattle.recovery.specs.Log.{Image, Entry, blank, torn, bad, opening, image, 
 use Rattle.recovery.specs.Sheet.{entryOf}
 use Rattle.calls.specs.Effect.{padded, fieldsAt, valueAt, packedEntry}
 use Rattle.calls.proofs.WritePads.{pad-zeros}
-use Rattle.calls.specs.Cuts.{mixed, Ordered}
+use Rattle.calls.specs.Cuts.{mixed}
 use Rattle.promises.proofs.Mixed.{mixed-all, any-cut-tested}
+use Rattle.promises.specs.Runs.{Ordered}
 
 -- an entry whose page obeys the rules of its kind at a place
 pub record ImageFitting (files p : ℕ) (i : Image) : Type 0 where

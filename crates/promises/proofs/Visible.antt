@@ -13,8 +13,9 @@ use Rattle.recovery.specs.declared.Answer.the-variants.{Value, Nothing}
 use Rattle.recovery.proofs.InspectFates.{undecided-known}
 use Rattle.calls.specs.Walk.{nothing}
 use Rattle.calls.specs.Calls.{read, valueOf, call}
+use Rattle.recovery.proofs.Spots.{Spot, Spots, spots}
 use Rattle.promises.proofs.Logs.{known-place}
-use Rattle.promises.proofs.Chains.{Spot, Spots, spots, chain, token-live}
+use Rattle.promises.proofs.Chains.{chain, token-live}
 use Rattle.promises.proofs.Versions.{version, Among, first, next, newest, Shows, shows, highest, all-later}
 use Rattle.promises.proofs.Ledger.{Ledger, LedgerResult, ledgerRefuse, foundAnswer, ledgerCall}
 use Rattle.promises.proofs.LedgerCalls.{reads}

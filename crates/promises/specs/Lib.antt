@@ -1,3 +1,4 @@
 pub mod Runs
 pub mod Model
+pub mod FromLog
 pub mod Promises

@@ -5,14 +5,14 @@ use mathlib.Core.List.{List, [], _∷_, _++_}
 use mathlib.Core.Bool.{Bool, true, false, cond}
 use mathlib.Core.Option.{Option, some, none}
 use lib.ListN.{length, replicate}
-use Rattle.page.specs.Layout.{pageSize}
+use Rattle.page.specs.Layout.{pageSize, kindAt, markAt}
 use Rattle.recovery.specs.declared.Answer.{Answer}
-use Rattle.recovery.specs.Numbers.{isRefused}
+use Rattle.recovery.specs.Numbers.{numbersOf, isRefused}
 use Rattle.recovery.specs.World.{sizes}
 use Rattle.recovery.specs.Lent.{Left, rowLength, sizesRight, openLeaves}
 use Rattle.calls.specs.Calls.{Call, begin, write, read, test, decide, rebuild}
 use Rattle.calls.specs.Effect.{callLeaves}
-use Rattle.calls.specs.Cuts.{Ordered, storedOf}
+use Rattle.calls.specs.Cuts.{storedOf}
 
 -- a box is on, with all that the last call left it, or off, with its sheet alone
 pub data Box : Type 0 where
@@ -56,9 +56,17 @@ abbrev pub runs : Box → List Event → Box
 runs b [] = b
 runs b (e ∷ es) = runs (after b e) es
 
-unfoldable pub heard : Box → List Event → List (Option Answer)
+-- what is heard, in document 01's numbers
+abbrev pub numbered : Option Answer → Option (List ℕ)
+numbered none = none
+numbered (some x) = some (numbersOf x)
+
+abbrev pub Hears : Box → Event → Answer → Type 0
+Hears b e x = numbered (answerTo b e) ≡ some (numbersOf x)
+
+unfoldable pub heard : Box → List Event → List (Option (List ℕ))
 heard b [] = []
-heard b (e ∷ es) = answerTo b e ∷ heard (after b e) es
+heard b (e ∷ es) = numbered (answerTo b e) ∷ heard (after b e) es
 
 -- ---- the premises
 
@@ -70,6 +78,11 @@ Typed (read file time action) = Unit {0}
 Typed (test action) = Unit {0}
 Typed (decide action committed) = Unit {0}
 Typed (rebuild file) = Unit {0}
+
+-- a cut: any of a page's bytes may be stored, as long as byte 0 is if any is, and byte 63 only if all are
+pub record Ordered (kept : ℕ → Bool) : Type 0 where
+  pub first : (i : ℕ) → i < pageSize → kept i ≡ true → kept kindAt ≡ true
+  pub last : kept markAt ≡ true → (i : ℕ) → i < pageSize → kept i ≡ true
 
 -- the file count stays: an opening that line 1 lets pass is lent the rows of that many files
 abbrev pub Allowed : ℕ → ℕ → Event → Type 0
@@ -92,4 +105,4 @@ pub record Run (pages files : ℕ) (es : List Event) : Type 0 where
 -- each opening's floor is at least every time asked in earlier reads outside any action that were answered without a refusal
 abbrev pub Floors : Box → List Event → Type 0
 Floors b es = (es₁ es₂ es₃ : List Event) (file time floor : ℕ) (fates rows : List ℕ) (x : Answer) → es ≡ es₁ ++ calls (read file time 0) ∷ (es₂ ++ opens floor fates rows ∷ es₃)
-    → answerTo (runs b es₁) (calls (read file time 0)) ≡ some x → isRefused x ≡ false → time ≤ floor
+    → Hears (runs b es₁) (calls (read file time 0)) x → isRefused x ≡ false → time ≤ floor

@@ -12,6 +12,8 @@ pub mod OpeningFates
 pub mod OpeningPass
 pub mod OpeningSteps
 pub mod OpeningLaws
+pub mod Spots
+pub mod Refused
 pub mod Once
 pub mod InspectLaw
 pub mod InspectFates

@@ -1,0 +1,192 @@
+-- How a run is tried on the promises: its steps as a list, the premises by a test that computes, what is heard by the object model.
+use Prim.Native.Nat.{ℕ, max, _*_, _^_, _≤_, _<_}
+use mathlib.Core.Path.{_≡_, refl, sym, ap, _∙_, subst}
+use mathlib.Core.List.{List, [], _∷_, _++_}
+use mathlib.Core.Bool.{Bool, true, false, _&&_, false≢true}
+use mathlib.Core.Option.{Option, some, none}
+use native.Mathlib.Omega.{arith}
+use lib.ListN.{length, replicate, length-replicate}
+use lib.Dec.{leb, ltb}
+use borrow.Author.Tests.{leb-true, ltb-true}
+use Rattle.encoding.proofs.Logic.{and-true}
+use Rattle.recovery.specs.declared.Answer.{Answer}
+use Rattle.recovery.specs.Numbers.{numbersOf}
+use Rattle.recovery.specs.Log.{blank}
+use Rattle.recovery.specs.Sheet.{sealed}
+use Rattle.recovery.specs.World.{sizes}
+use Rattle.recovery.specs.Lent.{rowLength}
+use Rattle.calls.specs.Calls.{Call, begin, write, read, test, decide, rebuild}
+use Rattle.calls.specs.Cuts.{firstBytes}
+use Rattle.promises.specs.Runs.{Box, sheetOf, Event, calls, opens, cuts, answerTo, after, runs, numbered, Hears, heard, Typed, AllAllowed, Run, blankBox, Floors}
+use Rattle.promises.specs.Model.{Model, blankModel, modelHeard, modelRuns}
+use Rattle.promises.specs.Promises.{boxAfter, NoTornOutcome}
+use Rattle.promises.proofs.Mixed.{first-ordered}
+use Rattle.promises.proofs.PageRuns.{stands-off}
+use Rattle.promises.proofs.ByteRuns.{isOn, worldOf}
+use Rattle.promises.proofs.Reached.{page-in}
+use Rattle.promises.proofs.Modelled.{modelled-blank}
+use Rattle.promises.proofs.Fallen.{ends}
+use Rattle.promises.proofs.Proved.{promised}
+
+clash : {A : Type 0} → _≡_ {A = ℕ} 0 1 → A
+clash z = absurd (omega arith)
+
+-- ---- the steps of a run: a call; an opening with a floor, lent zeros; a call cut after so many bytes
+
+pub data Step : Type 0 where
+  does : Call → Step
+  opened : ℕ → Step
+  cut : Call → ℕ → Step
+
+module _ (pages files : ℕ) where
+  abbrev pub eventOf : Step → Event
+  eventOf (does k) = calls k
+  eventOf (opened floor) = opens floor (replicate pages 0) (replicate (rowLength * files) 0)
+  eventOf (cut k n) = cuts k (firstBytes n)
+
+  abbrev pub events : List Step → List Event
+  events [] = []
+  events (x ∷ xs) = eventOf x ∷ events xs
+
+  -- ---- the premises of a run
+
+  abbrev isTyped : Call → Bool
+  isTyped begin = true
+  isTyped (write f start a v) = ltb start (2 ^ 64)
+  isTyped (read f t a) = true
+  isTyped (test a) = true
+  isTyped (decide a c) = true
+  isTyped (rebuild f) = true
+
+  abbrev typedIn : List Step → Bool
+  typedIn [] = true
+  typedIn (does k ∷ xs) = isTyped k && typedIn xs
+  typedIn (opened floor ∷ xs) = typedIn xs
+  typedIn (cut k n ∷ xs) = isTyped k && typedIn xs
+
+  typed : (k : Call) → isTyped k ≡ true → Typed k
+  typed begin h = tt
+  typed (write f start a v) h = ltb-true start (2 ^ 64) h
+  typed (read f t a) h = tt
+  typed (test a) h = tt
+  typed (decide a c) h = tt
+  typed (rebuild f) h = tt
+
+  allowed : (xs : List Step) → typedIn xs ≡ true → AllAllowed pages files (events xs)
+  allowed [] h = tt
+  allowed (does k ∷ xs) h = let p = and-true (isTyped k) (typedIn xs) h in (typed k (p .0), allowed xs (p .1))
+  allowed (opened floor ∷ xs) h = (λ e. length-replicate {A = ℕ} (rowLength * files) 0, allowed xs h)
+  allowed (cut k n ∷ xs) h = let p = and-true (isTyped k) (typedIn xs) h in ((typed k (p .0), first-ordered n), allowed xs (p .1))
+
+  pub is-run : (xs : List Step) → (sizes pages pages files && typedIn xs) ≡ true → Run pages files (events xs)
+  is-run xs h = let p = and-true (sizes pages pages files) (typedIn xs) h in record { sized = p .0; allowed = allowed xs (p .1) }
+
+  -- ---- floors: every opening's is at least every time read before it
+
+  abbrev timeOf : Call → ℕ
+  timeOf begin = 0
+  timeOf (write f s a v) = 0
+  timeOf (read f t a) = t
+  timeOf (test a) = 0
+  timeOf (decide a c) = 0
+  timeOf (rebuild f) = 0
+
+  abbrev floored : ℕ → List Step → Bool
+  floored t [] = true
+  floored t (does k ∷ xs) = floored (max t (timeOf k)) xs
+  floored t (opened floor ∷ xs) = leb t floor && floored t xs
+  floored t (cut k n ∷ xs) = floored t xs
+
+  same-floor : {f g : ℕ} {a b c d : List ℕ} → opens f a b ≡ opens g c d → f ≡ g
+  same-floor e = cc
+
+  same-time : {f g t u a b : ℕ} → calls (read f t a) ≡ calls (read g u b) → t ≡ u
+  same-time e = cc
+
+  same-call : {k q : Call} → calls k ≡ calls q → k ≡ q
+  same-call e = cc
+
+  head-is : {x y : Event} {xs ys : List Event} → x ∷ xs ≡ y ∷ ys → x ≡ y
+  head-is e = cc
+
+  tail-is : {x y : Event} {xs ys : List Event} → x ∷ xs ≡ y ∷ ys → xs ≡ ys
+  tail-is e = cc
+
+  -- an opening behind
+  floor-then : (u t : ℕ) (xs : List Step) → u ≤ t → floored t xs ≡ true → (es₂ es₃ : List Event) (floor : ℕ) (fates rows : List ℕ)
+      → events xs ≡ es₂ ++ opens floor fates rows ∷ es₃ → u ≤ floor
+  floor-then u t [] h c [] es₃ floor fates rows q = clash cc
+  floor-then u t [] h c (x ∷ es₂) es₃ floor fates rows q = clash cc
+  floor-then u t (does k ∷ xs) h c [] es₃ floor fates rows q = let z = head-is q in clash cc
+  floor-then u t (does k ∷ xs) h c (x ∷ es₂) es₃ floor fates rows q = floor-then u (max t (timeOf k)) xs (omega arith) c es₂ es₃ floor fates rows (tail-is q)
+  floor-then u t (opened f ∷ xs) h c [] es₃ floor fates rows q =
+      omega (arith, leb-true t f (and-true (leb t f) (floored t xs) c .0), same-floor (head-is q))
+  floor-then u t (opened f ∷ xs) h c (x ∷ es₂) es₃ floor fates rows q = floor-then u t xs h (and-true (leb t f) (floored t xs) c .1) es₂ es₃ floor fates rows (tail-is q)
+  floor-then u t (cut k n ∷ xs) h c [] es₃ floor fates rows q = let z = head-is q in clash cc
+  floor-then u t (cut k n ∷ xs) h c (x ∷ es₂) es₃ floor fates rows q = floor-then u t xs h c es₂ es₃ floor fates rows (tail-is q)
+
+  floor-from : (t : ℕ) (xs : List Step) → floored t xs ≡ true → (es₁ es₂ es₃ : List Event) (file time floor : ℕ) (fates rows : List ℕ)
+      → events xs ≡ es₁ ++ calls (read file time 0) ∷ (es₂ ++ opens floor fates rows ∷ es₃) → time ≤ floor
+  floor-from t [] c [] es₂ es₃ file time floor fates rows q = clash cc
+  floor-from t [] c (x ∷ es₁) es₂ es₃ file time floor fates rows q = clash cc
+  floor-from t (does k ∷ xs) c [] es₂ es₃ file time floor fates rows q =
+      let z : timeOf k ≡ time = ap timeOf (same-call (head-is q)) in
+      floor-then time (max t (timeOf k)) xs (omega arith) c es₂ es₃ floor fates rows (tail-is q)
+  floor-from t (does k ∷ xs) c (x ∷ es₁) es₂ es₃ file time floor fates rows q = floor-from (max t (timeOf k)) xs c es₁ es₂ es₃ file time floor fates rows (tail-is q)
+  floor-from t (opened f ∷ xs) c [] es₂ es₃ file time floor fates rows q = let z = head-is q in clash cc
+  floor-from t (opened f ∷ xs) c (x ∷ es₁) es₂ es₃ file time floor fates rows q = floor-from t xs (and-true (leb t f) (floored t xs) c .1) es₁ es₂ es₃ file time floor fates rows (tail-is q)
+  floor-from t (cut k n ∷ xs) c [] es₂ es₃ file time floor fates rows q = let z = head-is q in clash cc
+  floor-from t (cut k n ∷ xs) c (x ∷ es₁) es₂ es₃ file time floor fates rows q = floor-from t xs c es₁ es₂ es₃ file time floor fates rows (tail-is q)
+
+  pub has-floors : (xs : List Step) → floored 0 xs ≡ true → Floors (blankBox pages) (events xs)
+  has-floors xs c es₁ es₂ es₃ file time floor fates rows x e h ok = floor-from 0 xs c es₁ es₂ es₃ file time floor fates rows e
+
+  -- ---- no outcome is torn, since nothing is cut
+
+  abbrev uncut : List Step → Bool
+  uncut [] = true
+  uncut (does k ∷ xs) = uncut xs
+  uncut (opened floor ∷ xs) = uncut xs
+  uncut (cut k n ∷ xs) = false
+
+  pub none-torn : (xs : List Step) → uncut xs ≡ true → NoTornOutcome (events xs)
+  none-torn [] h [] es₂ a c kept q = clash cc
+  none-torn [] h (x ∷ es₁) es₂ a c kept q = clash cc
+  none-torn (does k ∷ xs) h [] es₂ a c kept q = let z = head-is q in clash cc
+  none-torn (does k ∷ xs) h (x ∷ es₁) es₂ a c kept q = none-torn xs h es₁ es₂ a c kept (tail-is q)
+  none-torn (opened floor ∷ xs) h [] es₂ a c kept q = let z = head-is q in clash cc
+  none-torn (opened floor ∷ xs) h (x ∷ es₁) es₂ a c kept q = none-torn xs h es₁ es₂ a c kept (tail-is q)
+  none-torn (cut k n ∷ xs) h es₁ es₂ a c kept q = absurd (false≢true h)
+
+  -- ---- what is heard, by the object model
+
+  abbrev pub last : List (Option (List ℕ)) → Option (List ℕ)
+  last [] = none
+  last (x ∷ []) = x
+  last (x ∷ (y ∷ ys)) = last (y ∷ ys)
+
+  last-heard : (b : Box) (es : List Event) (e : Event) → last (heard b (es ++ e ∷ [])) ≡ numbered (answerTo (runs b es) e)
+  unfolding heard
+  last-heard b [] e = refl
+  last-heard b (d ∷ []) e = refl
+  last-heard b (d ∷ (d′ ∷ es)) e = last-heard (after b d) (d′ ∷ es) e
+
+  pub hears-by : (es : List Event) (e : Event) (x : Answer) → Run pages files (es ++ e ∷ []) → last (modelHeard false (blankModel pages files) (es ++ e ∷ [])) ≡ some (numbersOf x)
+      → Hears (boxAfter pages files es) e x
+  hears-by es e x r h = sym (last-heard (blankBox pages) es e) ∙ ap last (promised pages files .as-model (es ++ e ∷ []) r) ∙ h
+
+  -- ---- above the pages that the model has used all are blank
+
+  pub blank-above : (es : List Event) → Run pages files es → (p : ℕ) → modelRuns false (blankModel pages files) es .used < p → p ≤ pages → sealed files (sheetOf (boxAfter pages files es)) p ≡ blank
+  blank-above es r p low high =
+      let x = ends pages files (blankBox pages) (modelled-blank pages files (r .sized)) es (r .allowed) in
+      let b : Box = boxAfter pages files es in
+      let m = x .with in
+      let used : length (m .reached .ledger .log) ≡ modelRuns false (blankModel pages files) es .used = sym (m .stands .used) ∙ ap (λ (y : Model). y .used) (x .is) in
+      sym (page-in pages files b p (omega arith) high)
+      ∙ stands-off (isOn files pages b) (worldOf files pages b) (m .reached .ledger) (m .reached .at .stands) .holds .clean p (omega arith)
+
+-- answers in numbers
+abbrev pub inNumbers : List (Option Answer) → List (Option (List ℕ))
+inNumbers [] = []
+inNumbers (x ∷ xs) = numbered x ∷ inNumbers xs
