@@ -22,11 +22,8 @@ use Rattle.calls.specs.Cuts.{mixed, storedOf}
 use Rattle.promises.specs.Runs.{Ordered, Box, on, off, sheetOf, Event, calls, opens, cuts, callOn, boxOf, after, runs, AllAllowed}
 use Rattle.promises.proofs.Mixed.{mixed-long, mixed-none, none-kept}
 use Rattle.promises.proofs.ByteCalls.{page-back}
-use Rattle.promises.proofs.PageRuns as paged
-use Rattle.promises.proofs.PageRuns.{stands-off}
-use Rattle.promises.proofs.Extends.{ext-refl, extends}
-use Rattle.promises.proofs.ByteRuns.{worldOf, isOn, event-follows, eventsOf}
-use Rattle.promises.proofs.Reached.{Reached, reached-next, follows, page-in}
+use Rattle.promises.proofs.Extends.{ext-refl, event-extends}
+use Rattle.promises.proofs.Boxes.{Reached, end-is, reached-next, reached-on, page-above}
 
 -- sheets as long, with the same bytes up to a place
 pub record SameTo (q : ℕ) (s t : List ℕ) : Type 0 where
@@ -91,22 +88,21 @@ open-box s fates rows floor = by-test (λ (b : Box). sheetOf b ≡ s) (isRefused
 
 module _ (n files : ℕ) where
   event-same : (b : Box) (r : Reached n files b) (e : Event) → SameTo (length (r .ledger .log)) (sheetOf b) (sheetOf (after b e))
-  event-same (on m) r (calls k) = subst (λ q. SameTo q (m .sheet) (callOn m k .sheet)) (r .at .stands .ends) (call-same m k)
+  event-same (on m) r (calls k) = subst (λ q. SameTo q (m .sheet) (callOn m k .sheet)) (end-is n files m r) (call-same m k)
   event-same (off s) r (calls k) = record { long = refl; bytes = λ i h. refl }
   event-same b r (opens floor fates rows) =
       let z = open-box (sheetOf b) fates rows floor in
       record { long = ap length z; bytes = λ i h. ap (λ t. getD t i 0) z }
   event-same (on m) r (cuts k kept) =
-      subst (λ q. SameTo q (m .sheet) (storedOf kept (m .state .end) (callOn m k .sheet) (m .sheet))) (r .at .stands .ends)
-      (cut-same m k kept (omega (arith, r .at .stands .ends, r .at .stands .room, r .at .pages, r .sound .long)))
+      subst (λ q. SameTo q (m .sheet) (storedOf kept (m .state .end) (callOn m k .sheet) (m .sheet))) (end-is n files m r)
+      (cut-same m k kept (omega (arith, end-is n files m r, r .at .holds .room, r .at .long)))
   event-same (off s) r (cuts k kept) = record { long = refl; bytes = λ j h. refl }
 
   run-kept : (b : Box) (r : Reached n files b) (es : List Event) → AllAllowed n files es → (p : ℕ) → p ≤ length (r .ledger .log) → pageBytes (sheetOf (runs b es)) p ≡ pageBytes (sheetOf b) p
   run-kept b r [] al p h = refl
   run-kept b r (e ∷ es) al p h =
-      let f = event-follows files n (r .sized) b (r .ledger) (r .at) (r .sound) e (al .0) in
-      let g = extends n files (isOn files n b) (worldOf files n b) (r .ledger) (r .ledger .log) (eventsOf files n (isOn files n b) e) (r .at) (f .proper) (ext-refl (r .ledger .log)) in
-      run-kept (after b e) (reached-next n files b r e f) es (al .1) p (omega (arith, g .longer))
+      let g = event-extends n files b r e (al .0) (r .ledger .log) (ext-refl (r .ledger .log)) in
+      run-kept (after b e) (reached-next n files b r e (al .0)) es (al .1) p (omega (arith, g .longer))
       ∙ same-page (length (r .ledger .log)) (sheetOf b) (sheetOf (after b e)) (event-same b r e) p h
 
   no-page : (s : List ℕ) (p : ℕ) → length s ≡ pageSize * n → n < p → pageBytes s p ≡ []
@@ -120,11 +116,10 @@ module _ (n files : ℕ) where
     where
       go : (x : Bool) → leb (suc q) n ≡ x → (y : Bool) → leb (suc q) (length (r .ledger .log)) ≡ y → pageBytes (sheetOf (runs b es)) (suc q) ≡ pageBytes (sheetOf b) (suc q)
       go false e y f =
-          no-page (sheetOf (runs b es)) (suc q) (follows n files b r es al .sound .long) (leb-false (suc q) n e)
-          ∙ sym (no-page (sheetOf b) (suc q) (r .sound .long) (leb-false (suc q) n e))
+          no-page (sheetOf (runs b es)) (suc q) (reached-on n files b r es al .at .long) (leb-false (suc q) n e)
+          ∙ sym (no-page (sheetOf b) (suc q) (r .at .long) (leb-false (suc q) n e))
       go true e true f = run-kept b r es al (suc q) (leb-true (suc q) (length (r .ledger .log)) f)
-      go true e false f = absurd (h (sym (page-in n files b (suc q) (omega arith) (leb-true (suc q) n e))
-          ∙ stands-off (isOn files n b) (worldOf files n b) (r .ledger) (r .at .stands) .holds .clean (suc q) (leb-false (suc q) (length (r .ledger .log)) f)))
+      go true e false f = absurd (h (page-above n files b r (suc q) (leb-false (suc q) (length (r .ledger .log)) f) (leb-true (suc q) n e)))
 
   pub box-lost : (b : Box) (k : Call) (kept : ℕ → Bool) → Ordered kept → kept kindAt ≡ false → sheetOf (after b (cuts k kept)) ≡ sheetOf b
   box-lost (on m) k kept o e = cut-none m k kept o e

@@ -22,12 +22,10 @@ use Rattle.promises.proofs.Sim.{Sim, fate-eq}
 use Rattle.promises.proofs.SimCalls.{sim-call}
 use Rattle.promises.proofs.Shown.{committed-shown, own-shown}
 use Rattle.promises.proofs.Visible.{Whose, kept, own, read-shows, read-none}
-use Rattle.promises.proofs.FatesTold.{test-known}
 use Rattle.promises.proofs.Replaced.{unsealed, bad-image, lies-below, Below}
-use Rattle.promises.proofs.ByteRuns.{worldIn, answer-is}
-use Rattle.promises.proofs.Reached.{Reached, page-in, page-lies}
+use Rattle.promises.proofs.Boxes.{worldIn, Reached, sim, world-says, end-is, page-in, page-lies}
 use Rattle.promises.proofs.Heard.{answered, hears}
-use Rattle.promises.proofs.BoxFound.{some-is, not-heard}
+use Rattle.promises.proofs.Found.{some-is, not-heard, test-tells}
 
 -- what a test tells is the fate
 told-number : (w : World) (l : Ledger) (s : Sim w l) (a y : ℕ) → call w (test a) .0 ≡ Told y → fateNumber (fateOf (l .log) a) ≡ y
@@ -51,21 +49,21 @@ module _ (n files : ℕ) where
   -- an image of the box, where its world has it
   module _ (m : Left) (r : Reached n files (on m)) (place : ℕ) (i : Image) (e : sealed files (m .sheet) place ≡ image i) where
     abbrev w : World
-    w = worldIn files n m
+    w = worldIn n files m
 
     below : (1 ≤ place) × (place ≤ n)
-    below = page-lies n files (m .sheet) place (image i) (r .sound .long) (bad-image i) e
+    below = page-lies n files (m .sheet) place (image i) (r .at .long) (bad-image i) e
 
     entry-is : entryAt w place ≡ image i
-    entry-is = page-in n files (on m) place (below .0) (below .1) ∙ e
+    entry-is = page-in n files (m .sheet) place (below .0) (below .1) ∙ e
 
-    end-is : place ≤ w .end
-    end-is = go (leb place (m .state .end)) refl
+    in-log : place ≤ w .end
+    in-log = go (leb place (m .state .end)) refl
       where
         go : (b : Bool) → leb place (m .state .end) ≡ b → place ≤ m .state .end
         go true q = leb-true place (m .state .end) q
         go false q =
-            let z : image i ≡ blank = sym entry-is ∙ r .at .stands .clean place (leb-false place (m .state .end) q) in
+            let z : image i ≡ blank = sym entry-is ∙ sim n files m r .clean place (leb-false place (m .state .end) q) in
             let y : _≡_ {A = ℕ} 0 1 = cc in absurd (omega arith)
 
     numbers : (i .action < place) × (1 ≤ i .action) × (1 ≤ i .file) × (i .file ≤ files)
@@ -75,24 +73,24 @@ module _ (n files : ℕ) where
         subst (Below files (m .sheet) place) d (lies-below files (m .sheet) place)
 
     file-is : isFile (length (w .rows)) (i .file) ≡ true
-    file-is = rw (r .at .stands .files ∙ r .at .files, le-leb 1 (i .file) (numbers .2), le-leb (i .file) files (numbers .3))
+    file-is = rw (sim n files m r .files ∙ r .at .files-are, le-leb 1 (i .file) (numbers .2), le-leb (i .file) files (numbers .3))
 
     -- its fate, by the test of its action
     fate-is : (y : ℕ) → callOn m (test (i .action)) .answer ≡ Told y → fateNumber (fateAt w (i .action)) ≡ y
     fate-is y t =
-        ap fateNumber (fate-eq w (r .ledger) (r .at .stands) (i .action))
-        ∙ told-number w (r .ledger) (r .at .stands) (i .action) y (sym (answer-is files n m (r .sound) (test (i .action))) ∙ t)
+        ap fateNumber (fate-eq w (r .ledger) (sim n files m r) (i .action))
+        ∙ told-number w (r .ledger) (sim n files m r) (i .action) y (sym (world-says n files m r (test (i .action))) ∙ t)
 
     all-on : callOn m (test (i .action)) .answer ≡ Told 2 → callOn m (read (i .file) (i .start) 0) .answer ≡ Value place (i .start) (length (i .value))
     all-on t =
-        answer-is files n m (r .sound) (read (i .file) (i .start) 0)
-        ∙ committed-shown w (r .ledger) (r .at .stands) place i end-is entry-is file-is (committed-is (fateAt w (i .action)) (fate-is 2 t))
+        world-says n files m r (read (i .file) (i .start) 0)
+        ∙ committed-shown w (r .ledger) (sim n files m r) place i in-log entry-is file-is (committed-is (fateAt w (i .action)) (fate-is 2 t))
 
     own-on : callOn m (test (i .action)) .answer ≡ Told 1 → (time : ℕ) → i .start ≤ time
         → callOn m (read (i .file) time (i .action)) .answer ≡ Value place (i .start) (length (i .value))
     own-on t time h =
-        answer-is files n m (r .sound) (read (i .file) time (i .action))
-        ∙ own-shown w (r .ledger) (r .at .stands) place i time end-is entry-is file-is (undecided-is (fateAt w (i .action)) (fate-is 1 t)) h
+        world-says n files m r (read (i .file) time (i .action))
+        ∙ own-shown w (r .ledger) (sim n files m r) place i time in-log entry-is file-is (undecided-is (fateAt w (i .action)) (fate-is 1 t)) h
 
   module _ (b : Box) (r : Reached n files b) (place : ℕ) (i : Image) (e : sealed files (sheetOf b) place ≡ image i) where
     pub box-all : answerTo b (calls (test (i .action))) ≡ some (Told 2) → answerTo b (calls (read (i .file) (i .start) 0)) ≡ some (Value place (i .start) (length (i .value)))
@@ -116,44 +114,43 @@ module _ (n files : ℕ) where
 
   module _ (m : Left) (r : Reached n files (on m)) (f t a : ℕ) where
     -- a place that the world has an image at
-    place-in : (p : ℕ) (i : Image) → entryAt (worldIn files n m) p ≡ image i → (1 ≤ p) × (p ≤ n)
+    place-in : (p : ℕ) (i : Image) → entryAt (worldIn n files m) p ≡ image i → (1 ≤ p) × (p ≤ n)
     place-in zero i e = let z : _≡_ {A = ℕ} 0 1 = cc in absurd (omega arith)
     place-in (suc q) i e = go (leb (suc q) (m .state .end)) refl
       where
         go : (b : Bool) → leb (suc q) (m .state .end) ≡ b → (1 ≤ suc q) × (suc q ≤ n)
-        go true k = (omega arith, omega (arith, leb-true (suc q) (m .state .end) k, r .at .stands .ends, r .at .stands .room, r .at .pages))
+        go true k = (omega arith, omega (arith, leb-true (suc q) (m .state .end) k, end-is n files m r, r .at .holds .room))
         go false k =
-            let z : image i ≡ blank = sym e ∙ r .at .stands .clean (suc q) (leb-false (suc q) (m .state .end) k) in
+            let z : image i ≡ blank = sym e ∙ sim n files m r .clean (suc q) (leb-false (suc q) (m .state .end) k) in
             let y : _≡_ {A = ℕ} 0 1 = cc in absurd (omega arith)
 
-    committed-told : (i : Image) → Whose (worldIn files n m) a i → (i .action ≡ a → ⊥) → callOn m (test (i .action)) .answer ≡ Told 2
+    committed-told : (i : Image) → Whose (worldIn n files m) a i → (i .action ≡ a → ⊥) → callOn m (test (i .action)) .answer ≡ Told 2
     committed-told i (kept c) o =
-        let d : fateOf (r .ledger .log) (i .action) ≡ committed = sym (fate-eq (worldIn files n m) (r .ledger) (r .at .stands) (i .action)) ∙ c in
-        answer-is files n m (r .sound) (test (i .action))
-        ∙ test-known (worldIn files n m) (r .ledger) (i .action) (r .at .stands) (rw d (omega arith)) ∙ ap toldFate d
+        let d : fateOf (r .ledger .log) (i .action) ≡ committed = sym (fate-eq (worldIn n files m) (r .ledger) (sim n files m r) (i .action)) ∙ c in
+        test-tells n files m r (i .action) (rw d (omega arith)) ∙ ap toldFate d
     committed-told i (own h q) o = absurd (o q)
 
-    said : (x : Answer) → callOn m (read f t a) .answer ≡ x → call (worldIn files n m) (read f t a) .0 ≡ x
-    said x e = sym (answer-is files n m (r .sound) (read f t a)) ∙ e
+    said : (x : Answer) → callOn m (read f t a) .answer ≡ x → call (worldIn n files m) (read f t a) .0 ≡ x
+    said x e = sym (world-says n files m r (read f t a)) ∙ e
 
     shows-on : (p s l : ℕ) → callOn m (read f t a) .answer ≡ Value p s l → Shown n files (on m) f t a p s l
     shows-on p s l e =
-        let v = read-shows (worldIn files n m) (r .ledger) (r .at .stands) f t a p s l (said (Value p s l) e) in
+        let v = read-shows (worldIn n files m) (r .ledger) (sim n files m r) f t a p s l (said (Value p s l) e) in
         let inside : (1 ≤ p) × (p ≤ n) = place-in p (v .seen) (v .here) in
-        let here : sealed files (m .sheet) p ≡ image (v .seen) = sym (page-in n files (on m) p (inside .0) (inside .1)) ∙ v .here in
+        let here : sealed files (m .sheet) p ≡ image (v .seen) = sym (page-in n files (m .sheet) p (inside .0) (inside .1)) ∙ v .here in
         record { seen = v .seen; here = here; is = (v .file, v .start, v .len, v .inTime, numbers m r p (v .seen) here .1); whose = λ o. (here, v .file, hears (on m) (calls (test (v .seen .action))) (Told 2) (ap some (committed-told (v .seen) (v .whose) o))) }
 
     -- the highest start that is not above the time
     module _ (q : ℕ) (i : Image) (v : IsVersion n files (on m) f q i) where
-      fate : fateAt (worldIn files n m) (i .action) ≡ committed
-      fate = committed-is (fateAt (worldIn files n m) (i .action)) (fate-is m r q i (v .0) 2 (some-is (answered (on m) (calls (test (i .action))) (Told 2) (v .2))))
+      fate : fateAt (worldIn n files m) (i .action) ≡ committed
+      fate = committed-is (fateAt (worldIn n files m) (i .action)) (fate-is m r q i (v .0) 2 (some-is (answered (on m) (calls (test (i .action))) (Told 2) (v .2))))
 
       highest-on : (p s l : ℕ) → callOn m (read f t a) .answer ≡ Value p s l → i .start ≤ t → i .start ≤ s
       highest-on p s l e k =
-          read-shows (worldIn files n m) (r .ledger) (r .at .stands) f t a p s l (said (Value p s l) e) .latest q i (end-is m r q i (v .0)) (entry-is m r q i (v .0)) (v .1) fate k
+          read-shows (worldIn n files m) (r .ledger) (sim n files m r) f t a p s l (said (Value p s l) e) .latest q i (in-log m r q i (v .0)) (entry-is m r q i (v .0)) (v .1) fate k
 
       later-on : callOn m (read f t a) .answer ≡ Nothing → t < i .start
-      later-on e = read-none (worldIn files n m) (r .ledger) (r .at .stands) f t a (said Nothing e) q i (end-is m r q i (v .0)) (entry-is m r q i (v .0)) (v .1) fate
+      later-on e = read-none (worldIn n files m) (r .ledger) (sim n files m r) f t a (said Nothing e) q i (in-log m r q i (v .0)) (entry-is m r q i (v .0)) (v .1) fate
 
   pub box-shows : (b : Box) → Reached n files b → (f t a p s l : ℕ) → answerTo b (calls (read f t a)) ≡ some (Value p s l) → Shown n files b f t a p s l
   box-shows (on m) r f t a p s l e = shows-on m r f t a p s l (some-is e)

@@ -23,8 +23,8 @@ use Rattle.promises.specs.Model.{Version, Status, pending, committed, ab
 use Rattle.promises.specs.Promises.{IsPageOf, Looks}
 use Rattle.promises.proofs.Mixed.{mixed-all}
 use Rattle.promises.proofs.ByteCalls.{page-back}
-use Rattle.promises.proofs.ByteRuns.{isOn}
-use Rattle.promises.proofs.BoxFound.{some-is, not-heard}
+use Rattle.promises.proofs.Boxes.{isOn}
+use Rattle.promises.proofs.Found.{some-is, not-heard}
 use Rattle.promises.proofs.Modelled.{Modelled, modelled-next, answer-modelled, power-modelled, heard-modelled}
 
 -- ---- all bytes stored: the sheet is that of the answered call
@@ -165,7 +165,7 @@ module _ (pages files : ℕ) (b : Box) (m : Modelled pages files b) (k : Call) (
   abbrev openedHeard : Model → List Event → List (Option (List ℕ))
   openedHeard x es = modelHeard (isLent x fates rows) (cond (isLent x fates rows) (modelOpened x floor) x) es
 
-  heard-cut : (es : List Event) → AllAllowed pages files es → (u : ℕ) → modelAfter (isOn files pages b) (m .model) (cuts k kept) ≡ usedTo u (m .model)
+  heard-cut : (es : List Event) → AllAllowed pages files es → (u : ℕ) → modelAfter (isOn b) (m .model) (cuts k kept) ≡ usedTo u (m .model)
       → heard (after (after b (cuts k kept)) (opens floor fates rows)) es ≡ openedHeard (usedTo u (m .model)) es
   heard-cut es al u e =
       heard-modelled pages files (after (after b (cuts k kept)) (opens floor fates rows)) cut-opened es al
@@ -174,7 +174,7 @@ module _ (pages files : ℕ) (b : Box) (m : Modelled pages files b) (k : Call) (
 
   pub cut-as-unasked : (looks : List Event) → Looks looks → heard (after (after b (cuts k kept)) (opens floor fates rows)) looks ≡ heard (after b (opens floor fates rows)) looks
   cut-as-unasked looks a =
-      let u = cut-used (isOn files pages b) (m .model) k kept h in
+      let u = cut-used (isOn b) (m .model) k kept h in
       let al = looks-allowed pages files looks a in
       heard-cut looks al (u .used) (u .is) ∙ go (u .used) (isLent (m .model) fates rows)
       ∙ sym (heard-modelled pages files (after b (opens floor fates rows)) uncut-opened looks al ∙ ap (λ c. modelHeard c (uncut-opened .model) looks) (power-modelled pages files b m (opens floor fates rows) o))
@@ -187,13 +187,13 @@ module _ (pages files : ℕ) (b : Box) (m : Modelled pages files b) (k : Call) (
   pub cut-same-fate : (action fate : ℕ) (x : Answer) → answerTo b (calls (test action)) ≡ some (Told fate)
       → answerTo (after (after b (cuts k kept)) (opens floor fates rows)) (calls (test action)) ≡ some x → x ≡ Told fate
   cut-same-fate action fate x e l =
-      let u = cut-used (isOn files pages b) (m .model) k kept h in
-      let before : modelAnswer (isOn files pages b) (m .model) (calls (test action)) ≡ some (Told fate) = sym (answer-modelled pages files b m (calls (test action)) tt) ∙ e in
+      let u = cut-used (isOn b) (m .model) k kept h in
+      let before : modelAnswer (isOn b) (m .model) (calls (test action)) ≡ some (Told fate) = sym (answer-modelled pages files b m (calls (test action)) tt) ∙ e in
       let later : openedAnswer (usedTo (u .used) (m .model)) ≡ some x = sym (
         answer-modelled pages files (after (after b (cuts k kept)) (opens floor fates rows)) cut-opened (calls (test action)) tt
         ∙ ap (λ c. modelAnswer c (cut-opened .model) (calls (test action))) (power-modelled pages files (after b (cuts k kept)) cut-box (opens floor fates rows) o)
         ∙ ap openedAnswer (u .is)) ∙ l in
-      go (u .used) (isOn files pages b) (isLent (m .model) fates rows) before later
+      go (u .used) (isOn b) (isLent (m .model) fates rows) before later
     where
       openedAnswer : Model → Option Answer
       openedAnswer x = modelAnswer (isLent x fates rows) (cond (isLent x fates rows) (modelOpened x floor) x) (calls (test action))
@@ -219,7 +219,7 @@ module _ (pages files : ℕ) (b : Box) (m : Modelled pages files b) (k : Call) (
   pub cut-same-count : (end end′ w w′ : ℕ) → answerTo b (opens floor fates rows) ≡ some (Opened end w) → answerTo (after b (cuts k kept)) (opens floor fates rows) ≡ some (Opened end′ w′)
       → (w′ ≡ w) × (end ≤ end′) × (end′ ≤ suc end)
   cut-same-count end end′ w w′ p q =
-      let u = cut-used (isOn files pages b) (m .model) k kept h in
+      let u = cut-used (isOn b) (m .model) k kept h in
       let before = opened-is (isLent (m .model) fates rows) (m .model .used) (m .model .undecided) end w (sym (answer-modelled pages files b m (opens floor fates rows) o) ∙ p) in
       let later = opened-is (isLent (usedTo (u .used) (m .model)) fates rows) (u .used) (m .model .undecided) end′ w′
       (sym (answer-modelled pages files (after b (cuts k kept)) cut-box (opens floor fates rows) o ∙ ap (λ x. some (cond (isLent x fates rows) (Opened (x .used) (x .undecided)) (Refused 1 0))) (u .is)) ∙ q) in

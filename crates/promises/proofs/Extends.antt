@@ -9,13 +9,15 @@ use lib.Dec.{eqb, ltb}
 use borrow.Author.Tests.{eq-eqb, ne-eqb}
 use Rattle.page.specs.Layout.{pageSize}
 use Rattle.recovery.specs.Log.{Entry, blank, torn, fateOf}
-use Rattle.recovery.specs.World.{World, entryAt}
-use Rattle.recovery.proofs.Spots.{entryIn, entry-cons, entry-top, entry-down}
+use Rattle.recovery.specs.Sheet.{sealed}
+use Rattle.recovery.proofs.Spots.{entryIn, entry-cons, entry-top}
 use Rattle.promises.proofs.Logs.{Fits, Lawful, Known, Keeps, fate-keeps, fate-knows}
-use Rattle.promises.proofs.Ledger.{Ledger, ledgerCall}
+use Rattle.promises.proofs.Ledger.{ledgerCall}
 use Rattle.promises.proofs.SimCalls.{sim-call}
 use Rattle.promises.proofs.Cuts.{cutLog, Step, stay, add, moves}
-use Rattle.promises.proofs.PageRuns.{Event, calls, opens, fails, cuts, after, runs, Proper, poweredAfter, ledgerAfter, ledgerRuns, At, stands-off, event, run}
+use Rattle.promises.specs.Runs.{Box, on, off, sheetOf, Event, calls, opens, cuts, after, runs, Allowed, AllAllowed}
+use Rattle.promises.proofs.Stored.{bytesOf}
+use Rattle.promises.proofs.Boxes.{worldIn, Reached, sim, at-next, reached-next, reached-on, log-page}
 
 -- a log that goes on from another: the same pages, what was decided decided so, what was known known
 pub record Extends (l l′ : List Entry) : Type 0 where
@@ -49,32 +51,26 @@ ext-cut l k k′ n (add g) w h = rw (ne-eqb (suc (length k)) (length k) (λ e. o
     go false true = ext-add torn l k tt (w .1) h
     go false false = ext-add g l k (w .0) (w .1) h
 
--- a run only adds to the log
-pub extends : (n k : ℕ) (b : Bool) (w : World) (m : Ledger) (l : List Entry) (es : List Event) → At n k b w m → Proper n k b es → Extends l (m .log)
-    → Extends l (ledgerRuns m es .log)
-extends n k b w m l [] s p h = h
-extends n k true w m l (calls c ∷ es) s p h =
-    let u = event n k true w m (calls c) s tt .next in
-    extends n k true (after w (calls c)) (ledgerAfter m (calls c)) l es u (p .1) (ext-step l (m .log) (ledgerCall m c .1 .log) (moves m c .steps) (u .stands .lawful) h)
-extends n k false w m l (calls c ∷ es) s p h = absurd (p .0)
-extends n k b w m l (opens t fs rs ∷ es) s p h =
-    extends n k true (after w (opens t fs rs)) (ledgerAfter m (opens t fs rs)) l es (event n k b w m (opens t fs rs) s (p .0) .next) (p .1) h
-extends n k b w m l (fails t fs rs ∷ es) s p h =
-    extends n k false (after w (fails t fs rs)) (ledgerAfter m (fails t fs rs)) l es (event n k b w m (fails t fs rs) s (p .0) .next) (p .1) h
-extends n k true w m l (cuts c i ∷ es) s p h =
-    extends n k false (after w (cuts c i)) (ledgerAfter m (cuts c i)) l es (event n k true w m (cuts c i) s tt .next) (p .1)
-    (ext-cut l (m .log) (ledgerCall m c .1 .log) i (moves m c .steps) (sim-call w m (s .stands) c .after .lawful) h)
-extends n k false w m l (cuts c i ∷ es) s p h = absurd (p .0)
+-- ---- an event and a run only add to the log
 
--- the pages of a world, with the power on or off
-pub entry-of : (n k : ℕ) (b : Bool) (w : World) (m : Ledger) (p : ℕ) → At n k b w m → p ≤ length (m .log) → entryAt w p ≡ entryIn (m .log) p
-entry-of n k b w m p s h =
-    let o = stands-off b w m (s .stands) .holds in
-    sym (entry-down (w .sheet) (length (m .log)) p h) ∙ ap (λ l. entryIn l p) (o .log)
+module _ (n files : ℕ) where
+  pub event-extends : (b : Box) (r : Reached n files b) (e : Event) (t : Allowed n files e) (l : List Entry) → Extends l (r .ledger .log) → Extends l (reached-next n files b r e t .ledger .log)
+  event-extends (on m) r (calls k) t l h =
+      ext-step l (r .ledger .log) (ledgerCall (r .ledger) k .1 .log) (moves (r .ledger) k .steps) (at-next n files (on m) r (calls k) t .holds .lawful) h
+  event-extends (off s) r (calls k) t l h = h
+  event-extends (on m) r (opens floor fates rows) t l h = h
+  event-extends (off s) r (opens floor fates rows) t l h = h
+  event-extends (on m) r (cuts k kept) t l h =
+      ext-cut l (r .ledger .log) (ledgerCall (r .ledger) k .1 .log) (bytesOf kept) (moves (r .ledger) k .steps) (sim-call (worldIn n files m) (r .ledger) (sim n files m r) k .after .lawful) h
+  event-extends (off s) r (cuts k kept) t l h = h
 
--- a page of the log stays through any run
-pub stays : (n k : ℕ) (b : Bool) (w : World) (m : Ledger) (p : ℕ) (g : Entry) (es : List Event) → At n k b w m → Proper n k b es
-    → p ≤ length (m .log) → entryIn (m .log) p ≡ g → entryAt (runs w es) p ≡ g
-stays n k b w m p g es s q h e =
-    let x = extends n k b w m (m .log) es s q (ext-refl (m .log)) in
-    entry-of n k (poweredAfter b es) (runs w es) (ledgerRuns m es) p (run n k b w m es s q) (omega (arith, x .longer)) ∙ x .pages p h ∙ e
+  pub extends : (b : Box) (r : Reached n files b) (es : List Event) (t : AllAllowed n files es) (l : List Entry) → Extends l (r .ledger .log) → Extends l (reached-on n files b r es t .ledger .log)
+  extends b r [] t l h = h
+  extends b r (e ∷ es) t l h = extends (after b e) (reached-next n files b r e (t .0)) es (t .1) l (event-extends b r e (t .0) l h)
+
+  -- a page of the log stays through any run
+  pub stays : (b : Box) (r : Reached n files b) (es : List Event) → AllAllowed n files es → (p : ℕ) (g : Entry) → 1 ≤ p → p ≤ length (r .ledger .log) → entryIn (r .ledger .log) p ≡ g
+      → sealed files (sheetOf (runs b es)) p ≡ g
+  stays b r es t p g low high e =
+      let x = extends b r es t (r .ledger .log) (ext-refl (r .ledger .log)) in
+      log-page n files (runs b es) (reached-on n files b r es t) p low (omega (arith, x .longer)) ∙ x .pages p high ∙ e

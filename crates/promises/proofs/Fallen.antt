@@ -11,8 +11,7 @@ use Rattle.promises.specs.Model.{Version, since, newest, Model, blankMod
 use Rattle.promises.proofs.Chains.{Chain, chain}
 use Rattle.promises.proofs.Histories.{newest-is}
 use Rattle.promises.proofs.Objects.{since-is}
-use Rattle.promises.proofs.PageRuns.{stands-off}
-use Rattle.promises.proofs.ByteRuns.{isOn, worldOf}
+use Rattle.promises.proofs.Boxes.{isOn}
 use Rattle.promises.specs.FromLog.{versionOf, historyOf}
 use Rattle.promises.specs.Promises.{Falls}
 use Rattle.promises.proofs.Modelled.{Modelled, modelled-next, modelled-blank, power-modelled}
@@ -34,17 +33,17 @@ module _ (n files : ℕ) where
     pub with : Modelled n files b
     pub is : with .model ≡ m
 
-  pub ends : (b : Box) (k : Modelled n files b) (es : List Event) → AllAllowed n files es → Ends (runs b es) (modelRuns (isOn files n b) (k .model) es)
+  pub ends : (b : Box) (k : Modelled n files b) (es : List Event) → AllAllowed n files es → Ends (runs b es) (modelRuns (isOn b) (k .model) es)
   ends b k [] t = record { with = k; is = refl }
   ends b k (e ∷ es) t =
       let r = ends (after b e) (modelled-next n files b k e (t .0)) es (t .1) in
-      record { with = r .with; is = r .is ∙ ap (λ o. modelRuns o (modelAfter (isOn files n b) (k .model) e) es) (power-modelled n files b k e (t .0)) }
+      record { with = r .with; is = r .is ∙ ap (λ o. modelRuns o (modelAfter (isOn b) (k .model) e) es) (power-modelled n files b k e (t .0)) }
 
   falls-at : (b : Box) (k : Modelled n files b) (file : ℕ) → Falls (k .model .object file .history)
   falls-at b k file =
       let l = k .reached .ledger in
       subst Falls (sym (k .stands .history file))
-      (falls-in (fateOf (l .log)) (imagesOf (l .log) file) (chain (l .log) file (stands-off (isOn files n b) (worldOf files n b) l (k .reached .at .stands) .holds .lawful)))
+      (falls-in (fateOf (l .log)) (imagesOf (l .log) file) (chain (l .log) file (k .reached .at .holds .lawful)))
 
   pub fallen : (es : List Event) (file : ℕ) → Run n files es → Falls (modelRuns false (blankModel n files) es .object file .history)
   fallen es file r =

@@ -1,6 +1,6 @@
 -- What a log shows of a file at a time stays, through any run in which no write can start by then.
-use mathlib.Core.Path.{_≡_, refl, _∙_}
-use mathlib.Core.List.{List, [], _∷_}
+use mathlib.Core.Path.{_≡_, refl, sym, ap, _∙_, subst}
+use mathlib.Core.List.{List, [], _∷_, _++_}
 use mathlib.Core.Bool.{Bool, true, false, cond, false≢true}
 use mathlib.Core.Option.{Option, some, none}
 use Prim.Native.Nat.{ℕ, suc, max, _≤_, _<_}
@@ -11,19 +11,21 @@ use borrow.Author.Tests.{eqb-true, eq-eqb, ne-eqb}
 use Rattle.page.specs.Layout.{pageSize}
 use Rattle.recovery.specs.Log.{Entry, blank, torn, image, outcome, Placed, startOf}
 use Rattle.recovery.specs.Lawful.{current, token}
-use Rattle.recovery.specs.World.{World}
+use Rattle.recovery.specs.Lent.{Left}
 use Rattle.calls.specs.Calls.{Call, begin, write, read, test, decide, rebuild}
 use Rattle.recovery.proofs.Spots.{entry-top}
 use Rattle.promises.proofs.Logs.{Lawful}
 use Rattle.promises.proofs.Appends.{opening-token, torn-token, image-token, owns, outcome-token}
 use Rattle.promises.proofs.Versions.{version, shows, Clear, version-keeps}
-use Rattle.promises.proofs.Ledger.{Ledger, LedgerResult, endAt, ledgerGrown, ledgerRefuse, ledgerImage, within, raised, ledgerVersions, currentDecided, tokenDecided, ledgerCall}
+use Rattle.promises.proofs.Ledger.{Ledger, LedgerResult, endAt, ledgerGrown, ledgerRefuse, ledgerImage, within, raised, ledgerVersions, currentDecided, tokenDecided, ledgerCall, ledgerOpened}
 use Rattle.promises.proofs.LedgerCalls.{begins, writes, reads, tests, decides, rebuilds}
 use Rattle.promises.proofs.Sim.{Reach}
 use Rattle.promises.proofs.SimReads.{raised-low, end-at-low}
 use Rattle.promises.proofs.SimCalls.{sim-call}
 use Rattle.promises.proofs.Cuts.{cutLog, Step, stay, add, moves}
-use Rattle.promises.proofs.PageRuns.{Event, calls, opens, fails, cuts, after, Proper, poweredAfter, ledgerAfter, ledgerRuns, At, event}
+use Rattle.promises.specs.Runs.{Box, on, off, Event, calls, opens, cuts, after, runs, Allowed, AllAllowed}
+use Rattle.promises.proofs.Stored.{bytesOf}
+use Rattle.promises.proofs.Boxes.{isOn, isRight, worldIn, Reached, sim, was-opened, reached-next, reached-on}
 
 -- what a log shows of a file at a time, and that no token of the file starts by then
 pub record Kept (l : List Entry) (f t : ℕ) (v : Option Placed) : Type 0 where
@@ -102,44 +104,65 @@ cut-kept l l′ f t v n (add g) w h c = rw (ne-eqb (suc (length l)) (length l) (
     go false true = step-kept l (torn ∷ l) f t v (add torn) (tt, w .1) h (rw (torn-token l f) (h .clear))
     go false false = step-kept l (g ∷ l) f t v (add g) w h c
 
--- along a run: while the power is on no write can start by the time; what the log shows stays throughout
+head-is : {x y : Event} {xs ys : List Event} → x ∷ xs ≡ y ∷ ys → x ≡ y
+head-is e = cc
+
+tail-is : {x y : Event} {xs ys : List Event} → x ∷ xs ≡ y ∷ ys → xs ≡ ys
+tail-is e = cc
+
+-- along a run: while the box is on no write can start by the time; what the log shows stays throughout
 abbrev pub Lasts : Bool → Ledger → ℕ → ℕ → Option Placed → Type 0
 Lasts true m f t v = Kept (m .log) f t v × Near m f t
 Lasts false m f t v = Kept (m .log) f t v
 
-pub lasts-kept : (b : Bool) (m : Ledger) (f t : ℕ) (v : Option Placed) → Lasts b m f t v → Kept (m .log) f t v
+lasts-kept : (b : Bool) (m : Ledger) (f t : ℕ) (v : Option Placed) → Lasts b m f t v → Kept (m .log) f t v
 lasts-kept true m f t v h = h .0
 lasts-kept false m f t v h = h
 
--- each opening's floor is at least the time
-abbrev pub Floors : ℕ → List Event → Type 0
-Floors t [] = Unit {0}
-Floors t (calls k ∷ es) = Floors t es
-Floors t (opens s fs rs ∷ es) = (t ≤ s) × Floors t es
-Floors t (fails s fs rs ∷ es) = Floors t es
-Floors t (cuts k n ∷ es) = Floors t es
+-- each opening of a run has a floor that is at least a time
+abbrev pub FloorsFrom : ℕ → List Event → Type 0
+FloorsFrom t es = (es₂ es₃ : List Event) (floor : ℕ) (fates rows : List ℕ) → es ≡ es₂ ++ opens floor fates rows ∷ es₃ → t ≤ floor
 
-module _ (n k f t : ℕ) (v : Option Placed) where
-  pub lasts : (b : Bool) (w : World) (m : Ledger) (es : List Event) → At n k b w m → Proper n k b es → Floors t es → Lasts b m f t v
-      → Lasts (poweredAfter b es) (ledgerRuns m es) f t v
-  lasts b w m [] s p q h = h
-  lasts true w m (calls c ∷ es) s p q h =
-      let x = s .stands in
-      let u = event n k true w m (calls c) s tt .next in
-      let o : Near (ledgerCall m c .1) f t = near m f t (x .reach) (h .1) c (u .stands .lawful) in
-      lasts true (after w (calls c)) (ledgerCall m c .1) es u (p .1) q
-      (step-kept (m .log) (ledgerCall m c .1 .log) f t v (moves m c .steps) (u .stands .lawful) (h .0) (o .clear), o)
-  lasts false w m (calls c ∷ es) s p q h = absurd (p .0)
-  lasts b w m (opens e fs rs ∷ es) s p q h =
-      let y = lasts-kept b m f t v h in
-      lasts true (after w (opens e fs rs)) (ledgerAfter m (opens e fs rs)) es (event n k b w m (opens e fs rs) s (p .0) .next) (p .1) (q .1)
-      (y, record { clear = y .clear; high = omega (arith, q .0) })
-  lasts b w m (fails e fs rs ∷ es) s p q h =
-      lasts false (after w (fails e fs rs)) (ledgerAfter m (fails e fs rs)) es (event n k b w m (fails e fs rs) s (p .0) .next) (p .1) q (lasts-kept b m f t v h)
-  lasts true w m (cuts c i ∷ es) s p q h =
-      let x = s .stands in
-      let u = sim-call w m x c .after in
-      let o : Near (ledgerCall m c .1) f t = near m f t (x .reach) (h .1) c (u .lawful) in
-      lasts false (after w (cuts c i)) (ledgerAfter m (cuts c i)) es (event n k true w m (cuts c i) s tt .next) (p .1) q
-      (cut-kept (m .log) (ledgerCall m c .1 .log) f t v i (moves m c .steps) (u .lawful) (h .0) (o .clear))
-  lasts false w m (cuts c i ∷ es) s p q h = absurd (p .0)
+module _ (n files f t : ℕ) (v : Option Placed) where
+  -- what a call leaves, answered or cut
+  module _ (m : Left) (r : Reached n files (on m)) (k : Call) (h : Lasts true (r .ledger) f t v) where
+    lawful-after : Lawful (ledgerCall (r .ledger) k .1 .log)
+    lawful-after = sim-call (worldIn n files m) (r .ledger) (sim n files m r) k .after .lawful
+
+    near-after : Near (ledgerCall (r .ledger) k .1) f t
+    near-after = near (r .ledger) f t (sim n files m r .reach) (h .1) k lawful-after
+
+    call-lasts : Lasts true (ledgerCall (r .ledger) k .1) f t v
+    call-lasts = (step-kept (r .ledger .log) (ledgerCall (r .ledger) k .1 .log) f t v (moves (r .ledger) k .steps) lawful-after (h .0) (near-after .clear), near-after)
+
+  open-lasts : (b : Box) (l : Ledger) (floor : ℕ) → t ≤ floor → Lasts (isOn b) l f t v → (c : Bool) → Lasts c (ledgerOpened (l .pages) (l .files) (l .log) (cond c floor 0)) f t v
+  open-lasts b l floor q h true = let y = lasts-kept (isOn b) l f t v h in (y, record { clear = y .clear; high = omega arith })
+  open-lasts b l floor q h false = lasts-kept (isOn b) l f t v h
+
+  event-lasts : (b : Box) (r : Reached n files b) (e : Event) (al : Allowed n files e) → FloorsFrom t (e ∷ []) → Lasts (isOn b) (r .ledger) f t v → Lasts (isOn (after b e)) (reached-next n files b r e al .ledger) f t v
+  event-lasts (on m) r (calls k) al q h = call-lasts m r k h
+  event-lasts (off s) r (calls k) al q h = h
+  event-lasts (on m) r (opens floor fates rows) al q h =
+      subst (λ c. Lasts c (reached-next n files (on m) r (opens floor fates rows) al .ledger) f t v) (sym (was-opened n files (on m) r floor fates rows al .power))
+      (open-lasts (on m) (r .ledger) floor (q [] [] floor fates rows refl) h (isRight n fates rows))
+  event-lasts (off s) r (opens floor fates rows) al q h =
+      subst (λ c. Lasts c (reached-next n files (off s) r (opens floor fates rows) al .ledger) f t v) (sym (was-opened n files (off s) r floor fates rows al .power))
+      (open-lasts (off s) (r .ledger) floor (q [] [] floor fates rows refl) h (isRight n fates rows))
+  event-lasts (on m) r (cuts k kept) al q h =
+      cut-kept (r .ledger .log) (ledgerCall (r .ledger) k .1 .log) f t v (bytesOf kept) (moves (r .ledger) k .steps) (lawful-after m r k h) (h .0) (near-after m r k h .clear)
+  event-lasts (off s) r (cuts k kept) al q h = h
+
+  pub lasts : (b : Box) (r : Reached n files b) (es : List Event) (al : AllAllowed n files es) → FloorsFrom t es → Lasts (isOn b) (r .ledger) f t v
+      → Lasts (isOn (runs b es)) (reached-on n files b r es al .ledger) f t v
+  lasts b r [] al q h = h
+  lasts b r (e ∷ es) al q h =
+      lasts (after b e) (reached-next n files b r e (al .0)) es (al .1) (λ es₂ es₃ floor fates rows p. q (e ∷ es₂) es₃ floor fates rows (ap (λ l. e ∷ l) p))
+      (event-lasts b r e (al .0) (first-floor e) h)
+    where
+      first-floor : (e′ : Event) → FloorsFrom t (e ∷ [])
+      first-floor e′ [] es₃ floor fates rows p = q [] es floor fates rows (ap (λ x. x ∷ es) (head-is p))
+      first-floor e′ (x ∷ es₂) es₃ floor fates rows p = none-behind es₂ (tail-is p)
+        where
+          none-behind : (es₂ : List Event) → [] ≡ es₂ ++ opens floor fates rows ∷ es₃ → t ≤ floor
+          none-behind [] p = let z : _≡_ {A = ℕ} 0 1 = cc in absurd (omega arith)
+          none-behind (y ∷ es₂) p = let z : _≡_ {A = ℕ} 0 1 = cc in absurd (omega arith)

@@ -9,10 +9,12 @@ use lib.Dec.{eqb, leb}
 use borrow.Author.Tests.{eqb-true, leb-false, lt-leb}
 use Rattle.recovery.specs.Log.{undecided, Placed, fateOf, imagesOf, startOf}
 use Rattle.recovery.specs.Lawful.{current, token}
-use Rattle.recovery.specs.World.{World, isFile}
+use Rattle.recovery.specs.World.{isFile}
+use Rattle.recovery.specs.Lent.{Left}
+use Rattle.recovery.specs.declared.Answer.{Answer}
 use Rattle.recovery.specs.declared.Answer.the-variants.{Stored}
 use Rattle.recovery.proofs.InspectFates.{undecided-known}
-use Rattle.calls.specs.Calls.{write, read, call}
+use Rattle.calls.specs.Calls.{write, read}
 use Rattle.recovery.specs.Numbers.{isRefused}
 use Rattle.promises.proofs.Logs.{Lawful, not-unknown, fate-zero}
 use Rattle.promises.proofs.Chains.{token-live}
@@ -21,9 +23,10 @@ use Rattle.promises.proofs.Ledger.{Ledger, LedgerResult, endAt, foundAn
 use Rattle.promises.proofs.LedgerCalls.{writes}
 use Rattle.promises.proofs.Sim.{Reach}
 use Rattle.promises.proofs.SimReads.{end-at-same}
-use Rattle.promises.proofs.SimCalls.{sim-call}
-use Rattle.promises.proofs.PageRuns.{Event, calls, runs, Proper, poweredAfter, ledgerRuns, At, event, run}
-use Rattle.promises.proofs.Lasting.{Kept, Near, Lasts, Floors, lasts}
+use Rattle.promises.specs.Runs.{Box, on, off, Event, calls, callOn, answerTo, after, runs, AllAllowed}
+use Rattle.promises.proofs.Boxes.{isOn, Reached, sim, ledger-says, reached-next, reached-on}
+use Rattle.promises.proofs.Found.{some-is, not-heard}
+use Rattle.promises.proofs.Lasting.{Kept, Near, Lasts, FloorsFrom, lasts}
 
 -- the first read
 pub record ToldAt (m : Ledger) (f t : ℕ) : Type 0 where
@@ -86,33 +89,47 @@ written-later m f t s a p v h =
     writes (λ (r : LedgerResult). r .0 ≡ Stored p → t < s) m (λ x y e. let z : _≡_ {A = ℕ} 0 1 = cc in absurd (omega arith)) f s a v
     (λ j k e. omega (arith, h .high))
 
--- after a read outside any action that was answered, and any further events, calls cut at any byte among them, if each later
+-- ---- of a box: after a read outside any action that was answered, and any further events, calls cut at any byte among them, if each later
 -- opening's floor is at least the time that was read
-module _ (n k : ℕ) (w : World) (m : Ledger) (s : At n k true w m) (f t : ℕ) (a : isRefused (call w (read f t 0) .0) ≡ false)
-    (es : List Event) (p : Proper n k true es) (b : poweredAfter true es ≡ true) (q : Floors t es) where
-  told-first : ToldAt m f t
-  told-first = told m f t (s .stands .lawful) (s .stands .reach) (rw (sim-call w m (s .stands) (read f t 0) .answer) at a)
 
-  next : At n k true (call w (read f t 0) .1) (ledgerCall m (read f t 0) .1)
-  next = event n k true w m (calls (read f t 0)) s tt .next
+module _ (n files : ℕ) (m : Left) (r : Reached n files (on m)) (file time : ℕ) (x : Answer) (e : callOn m (read file time 0) .answer ≡ x) (ok : isRefused x ≡ false)
+    (es : List Event) (al : AllAllowed n files es) (f : FloorsFrom time es) where
+  told-first : ToldAt (r .ledger) file time
+  told-first = told (r .ledger) file time (r .at .holds .lawful) (sim n files m r .reach) (ap isRefused (sym (ledger-says n files m r (read file time 0)) ∙ e) ∙ ok)
 
-  abbrev late : Ledger
-  late = ledgerRuns (ledgerCall m (read f t 0) .1) es
+  abbrev read-box : Reached n files (after (on m) (calls (read file time 0)))
+  read-box = reached-next n files (on m) r (calls (read file time 0)) tt
 
-  at-last : At n k true (runs (call w (read f t 0) .1) es) late
-  at-last = rw b at (run n k true (call w (read f t 0) .1) (ledgerCall m (read f t 0) .1) es next p)
+  abbrev late : Reached n files (runs (after (on m) (calls (read file time 0))) es)
+  late = reached-on n files (after (on m) (calls (read file time 0))) read-box es al
 
-  last : Lasts true late f t (version (m .log) f t)
-  last = rw b at (lasts n k f t (version (m .log) f t) true (call w (read f t 0) .1) (ledgerCall m (read f t 0) .1) es next p q (told-first .lasting))
+  last : Lasts (isOn (runs (after (on m) (calls (read file time 0))) es)) (late .ledger) file time (version (r .ledger .log) file time)
+  last = lasts n files file time (version (r .ledger .log) file time) (after (on m) (calls (read file time 0))) read-box es al f (told-first .lasting)
 
-  -- it is answered alike
-  pub stable : call (runs (call w (read f t 0) .1) es) (read f t 0) .0 ≡ call w (read f t 0) .0
-  stable =
-      sim-call (runs (call w (read f t 0) .1) es) late (at-last .stands) (read f t 0) .answer
-      ∙ again late f t (version (m .log) f t) (rw (at-last .files) (rw (s .files) at (told-first .file))) (last .0)
-      ∙ sym (told-first .says) ∙ sym (sim-call w m (s .stands) (read f t 0) .answer)
+  -- it is answered alike, and nothing is written to the file that starts by then
+  alike-at : (b : Box) (q : Reached n files b) → Lasts (isOn b) (q .ledger) file time (version (r .ledger .log) file time) → (y : Answer) → answerTo b (calls (read file time 0)) ≡ some y → y ≡ x
+  alike-at (on m′) q h y p =
+      sym (some-is p) ∙ ledger-says n files m′ q (read file time 0)
+      ∙ again (q .ledger) file time (version (r .ledger .log) file time) (rw (q .at .files-are) (rw (r .at .files-are) at (told-first .file))) (h .0)
+      ∙ sym (told-first .says) ∙ sym (ledger-says n files m r (read file time 0)) ∙ e
+  alike-at (off s) q h y p = not-heard p
 
-  -- and nothing is written to the file that starts by then
-  pub none-written : (start c d : ℕ) (v : List ℕ) → call (runs (call w (read f t 0) .1) es) (write f start c v) .0 ≡ Stored d → t < start
-  none-written start c d v e =
-      written-later late f t start c d v (last .1) (sym (sim-call (runs (call w (read f t 0) .1) es) late (at-last .stands) (write f start c v) .answer) ∙ e)
+  above-at : (b : Box) (q : Reached n files b) → Lasts (isOn b) (q .ledger) file time (version (r .ledger .log) file time) → (start a place : ℕ) (v : List ℕ)
+      → answerTo b (calls (write file start a v)) ≡ some (Stored place) → time < start
+  above-at (on m′) q h start a place v p = written-later (q .ledger) file time start a place v (h .1) (sym (ledger-says n files m′ q (write file start a v)) ∙ some-is p)
+  above-at (off s) q h start a place v p = not-heard p
+
+module _ (n files : ℕ) (file time : ℕ) (x : Answer) (ok : isRefused x ≡ false) (es : List Event) (al : AllAllowed n files es) (f : FloorsFrom time es) where
+  pub box-alike : (b : Box) → Reached n files b → answerTo b (calls (read file time 0)) ≡ some x
+      → (y : Answer) → answerTo (runs (after b (calls (read file time 0))) es) (calls (read file time 0)) ≡ some y → y ≡ x
+  box-alike (on m) r e y h =
+      alike-at n files m r file time x (some-is e) ok es al f (runs (after (on m) (calls (read file time 0))) es) (late n files m r file time x (some-is e) ok es al f)
+      (last n files m r file time x (some-is e) ok es al f) y h
+  box-alike (off s) r e y h = not-heard e
+
+  pub box-above : (b : Box) → Reached n files b → answerTo b (calls (read file time 0)) ≡ some x
+      → (start a place : ℕ) (v : List ℕ) → answerTo (runs (after b (calls (read file time 0))) es) (calls (write file start a v)) ≡ some (Stored place) → time < start
+  box-above (on m) r e start a place v h =
+      above-at n files m r file time x (some-is e) ok es al f (runs (after (on m) (calls (read file time 0))) es) (late n files m r file time x (some-is e) ok es al f)
+      (last n files m r file time x (some-is e) ok es al f) start a place v h
+  box-above (off s) r e start a place v h = not-heard e

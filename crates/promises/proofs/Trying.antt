@@ -21,9 +21,7 @@ use Rattle.promises.specs.Runs.{Box, sheetOf, Event, calls, opens, cuts,
 use Rattle.promises.specs.Model.{Model, blankModel, modelHeard, modelRuns}
 use Rattle.promises.specs.Promises.{boxAfter, NoTornOutcome}
 use Rattle.promises.proofs.Mixed.{first-ordered}
-use Rattle.promises.proofs.PageRuns.{stands-off}
-use Rattle.promises.proofs.ByteRuns.{isOn, worldOf}
-use Rattle.promises.proofs.Reached.{page-in}
+use Rattle.promises.proofs.Boxes.{page-above}
 use Rattle.promises.proofs.Modelled.{modelled-blank}
 use Rattle.promises.proofs.Fallen.{ends}
 use Rattle.promises.proofs.Proved.{promised}
@@ -180,11 +178,9 @@ module _ (pages files : ℕ) where
   pub blank-above : (es : List Event) → Run pages files es → (p : ℕ) → modelRuns false (blankModel pages files) es .used < p → p ≤ pages → sealed files (sheetOf (boxAfter pages files es)) p ≡ blank
   blank-above es r p low high =
       let x = ends pages files (blankBox pages) (modelled-blank pages files (r .sized)) es (r .allowed) in
-      let b : Box = boxAfter pages files es in
       let m = x .with in
       let used : length (m .reached .ledger .log) ≡ modelRuns false (blankModel pages files) es .used = sym (m .stands .used) ∙ ap (λ (y : Model). y .used) (x .is) in
-      sym (page-in pages files b p (omega arith) high)
-      ∙ stands-off (isOn files pages b) (worldOf files pages b) (m .reached .ledger) (m .reached .at .stands) .holds .clean p (omega arith)
+      page-above pages files (boxAfter pages files es) (m .reached) p (omega arith) high
 
 -- answers in numbers
 abbrev pub inNumbers : List (Option Answer) → List (Option (List ℕ))
