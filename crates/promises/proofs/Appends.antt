@@ -48,11 +48,6 @@ pub opening-token : (l : List Entry) (f : ℕ) → Lawful l → token (opening �
 unfolding imagesOf
 opening-token l f w = token-agree (fateOf l) (fateOf (opening ∷ l)) (imagesOf l f) (opening-agree l w) (chain l f w)
 
--- neither does a torn page
-pub torn-current : (l : List Entry) (f : ℕ) → current (torn ∷ l) f ≡ current l f
-unfolding imagesOf fateOf
-torn-current l f = refl
-
 pub torn-token : (l : List Entry) (f : ℕ) → token (torn ∷ l) f ≡ token l f
 unfolding imagesOf fateOf
 torn-token l f = refl

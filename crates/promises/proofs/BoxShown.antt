@@ -17,7 +17,7 @@ use Rattle.recovery.specs.Lent.{Left}
 use Rattle.calls.specs.Calls.{read, test, call}
 use Rattle.promises.specs.Runs.{Box, on, off, sheetOf, calls, callOn, answerTo}
 use Rattle.promises.specs.Promises.{IsVersion, Shown}
-use Rattle.promises.proofs.Ledger.{Ledger, LedgerResult, ledgerKnows, toldFate, ledgerCall}
+use Rattle.promises.proofs.Ledger.{Ledger, LedgerResult, ledgerKnows, toldFate}
 use Rattle.promises.proofs.Sim.{Sim, fate-eq}
 use Rattle.promises.proofs.SimCalls.{sim-call}
 use Rattle.promises.proofs.Shown.{committed-shown, own-shown}

@@ -4,7 +4,6 @@ use Prim.Native.Nat.{ℕ, zero, suc, _-_, _*_, _/_, _%_, _≤_, _<_}
 use mathlib.Core.Path.{_≡_, refl, sym, ap, _∙_, subst}
 use mathlib.Core.List.{List, [], _∷_, _++_}
 use mathlib.Core.Bool.{Bool, true, false, cond}
-use mathlib.Core.Option.{some}
 use native.Mathlib.Omega.{arith}
 use lib.ListN.{length, take, replicate, length-replicate, List·getD-eq-default}
 use lib.Dec.{eqb, leb}
@@ -20,7 +19,6 @@ use Rattle.recovery.specs.Sheet.{pageBytes, entryOf, decoded, seal, sealed, pag
 use Rattle.recovery.specs.Numbers.{isRefused}
 use Rattle.recovery.specs.World.{World, Result, entryAt, sizes, down, endOf, highestBad, fatesOf, undecidedOf, opened}
 use Rattle.recovery.specs.Lent.{Left, rowLength, rowsOf, whole, sizesRight, leaves, closed, openLeaves}
-use Rattle.recovery.specs.declared.Row.{Row}
 use Rattle.recovery.specs.declared.Answer.{Answer}
 use Rattle.recovery.specs.declared.Answer.the-variants.{Refused, Opened}
 use Rattle.recovery.proofs.FlatRows.{rows-long, flat-long, flat-rows}
@@ -31,7 +29,7 @@ use Rattle.recovery.proofs.Spots.{entryIn, entry-down}
 use Rattle.calls.specs.Calls.{Call, call}
 use Rattle.calls.specs.Effect.{grown, lower, callLeaves}
 use Rattle.calls.specs.Cuts.{storedOf}
-use Rattle.promises.specs.Runs.{Box, on, off, sheetOf, Event, calls, opens, cuts, callOn, boxOf, answerTo, after, runs, Typed, Ordered, Allowed, AllAllowed, blankBox, Run}
+use Rattle.promises.specs.Runs.{Box, on, off, sheetOf, Event, calls, opens, cuts, callOn, boxOf, after, runs, Typed, Ordered, Allowed, AllAllowed, blankBox, Run}
 use Rattle.promises.proofs.Ledger.{Ledger, ledgerCall, ledgerOpened}
 use Rattle.promises.proofs.Sim.{Sim}
 use Rattle.promises.proofs.SimCalls.{sim-call}

@@ -1,6 +1,6 @@
 -- The images of a file in a lawful log are a chain: all but the newest are decided, and each is linked to the newest version below
 -- it, lies above it and starts later.
-use mathlib.Core.Path.{_≡_, refl, sym, _∙_}
+use mathlib.Core.Path.{_≡_, refl, sym}
 use mathlib.Core.List.{List, [], _∷_}
 use mathlib.Core.Option.{some, none, Option·some-ne-none}
 use Prim.Native.Nat.{ℕ, suc, _≤_, _<_}
@@ -11,7 +11,7 @@ use borrow.Author.Tests.{eqb-true}
 use Rattle.encoding.proofs.Logic.{by-test}
 use Rattle.recovery.specs.Log.{Image, Entry, blank, torn, bad, opening, image, outcome, Fate, unknown, undecided, committed, aborted, Placed, fateOf, imagesOf, currentStep, tokenStep, currentOf, tokenOf, placeOf, startOf}
 use Rattle.recovery.proofs.InspectFates.{undecided-known, All, current-keeps}
-use Rattle.recovery.proofs.Spots.{entryIn, entry-cons, entry-top, Spots, spots}
+use Rattle.recovery.proofs.Spots.{Spots, spots}
 use Rattle.promises.proofs.Logs.{ImageFits, Fits, Lawful, Known, Decided, Keeps, fate-keeps, fate-knows}
 
 -- the images of a file, with the fates that count: all but the newest are decided, each is linked to the newest version

@@ -2,14 +2,13 @@
 -- of its bytes stored, one life of a box with each promise asked of it, rows rebuilt in two orders, the reserve kept and used up, a
 -- floor that is too low, and a lawful sheet that no run of this store makes. Each premise is proved, so no promise is empty.
 use Prim.Native.Nat.{ℕ, _≤_, _<_}
-use mathlib.Core.Path.{_≡_, refl, sym, ap, _∙_}
+use mathlib.Core.Path.{_≡_, refl, sym, _∙_}
 use mathlib.Core.List.{List, [], _∷_, _++_}
 use mathlib.Core.Bool.{Bool, true, false, cond}
 use mathlib.Core.Option.{Option, some, none}
 use mathlib.Core.Logic.{_⊎_}
 use native.Mathlib.Omega.{arith}
-use lib.ListN.{length, replicate}
-use Rattle.page.specs.Layout.{pageSize}
+use lib.ListN.{replicate}
 use Rattle.page.specs.Table as table
 use Rattle.page.specs.Table.{head, front, packed, fieldsOf, lowest, highest, within, between, meetsRules, isPageOf}
 use Rattle.page.specs.Answers.{tested, inBounds}
@@ -28,7 +27,7 @@ use Rattle.calls.specs.Cuts.{firstBytes}
 use Rattle.promises.specs.Runs.{Ordered, Box, off, sheetOf, Event, calls, opens, cuts, after, heard, Hears, Run, blankBox}
 use Rattle.promises.specs.Model.{latest, blankModel, modelHeard, modelRuns}
 use Rattle.promises.specs.FromLog.{historyOf}
-use Rattle.promises.specs.Promises.{boxAfter, pageIn, IsPageOf, IsVersion, Shown, ShowsAt, Did, WasWritten, AllShow, NoneShows, Falls, others, othersHeard}
+use Rattle.promises.specs.Promises.{boxAfter, pageIn, IsPageOf, IsVersion, Shown, ShowsAt, Did, WasWritten, AllShow, NoneShows, Falls, othersHeard}
 use Rattle.promises.proofs.Proved.{promised}
 use Rattle.promises.proofs.Trying.{Step, does, opened, cut, events, eventOf, is-run, has-floors, none-torn, hears-by, blank-above, inNumbers}
 

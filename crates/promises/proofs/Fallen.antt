@@ -7,7 +7,7 @@ use lib.Dec.{eqb}
 use Rattle.recovery.specs.Log.{Fate, unknown, undecided, committed, aborted, Placed, currentOf, fateOf, imagesOf}
 use Rattle.recovery.specs.World.{fateNumber}
 use Rattle.promises.specs.Runs.{Box, Event, after, runs, AllAllowed, blankBox, Run}
-use Rattle.promises.specs.Model.{Version, since, newest, Model, blankModel, modelAfter, modelRuns}
+use Rattle.promises.specs.Model.{since, Model, blankModel, modelAfter, modelRuns}
 use Rattle.promises.proofs.Chains.{Chain, chain}
 use Rattle.promises.proofs.Histories.{newest-is}
 use Rattle.promises.proofs.Objects.{since-is}

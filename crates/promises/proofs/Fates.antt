@@ -6,15 +6,12 @@ use Prim.Native.Nat.{ℕ, zero, suc, _+_, _≤_, _<_}
 use native.Mathlib.Omega.{arith}
 use lib.ListN.{length, getD, set}
 use lib.Dec.{eqb, leb}
-use borrow.Author.Tests.{eqb-true, eqb-false, leb-true, leb-false, eq-eqb, ne-eqb}
+use borrow.Author.Tests.{leb-true, leb-false, eq-eqb, ne-eqb}
 use Rattle.recovery.specs.Places.{nth, put, tabulate}
 use Rattle.recovery.specs.Log.{Entry, blank, torn, bad, opening, image, outcome, Fate, unknown, undecided, committed, aborted, verdict, fateOf}
 use Rattle.recovery.specs.World.{down, fateNumber, fateFrom, fateIn, fatesOf, undecidedOf}
 use Rattle.recovery.proofs.Places.{nth-put-other, length-tabulate, getD-tabulate-out, nth-tabulate, put-tabulate}
-use Rattle.recovery.proofs.Pages.{length-down}
-use Rattle.recovery.proofs.InspectSlots.{cond≡}
 use Rattle.recovery.proofs.InspectFates.{undecided-known}
-use Rattle.recovery.proofs.Spots.{entryIn}
 use Rattle.promises.proofs.Logs.{Lawful, known-place, fate-above, fate-zero}
 
 from-number : (x : Fate) → fateFrom (fateNumber x) ≡ x

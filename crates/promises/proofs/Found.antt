@@ -15,7 +15,7 @@ use Rattle.recovery.specs.declared.Answer.{Answer}
 use Rattle.recovery.specs.declared.Answer.the-variants.{Stored, Told}
 use Rattle.recovery.specs.Lent.{Left}
 use Rattle.recovery.proofs.InspectFates.{undecided-known}
-use Rattle.recovery.proofs.Spots.{entryIn, entry-top}
+use Rattle.recovery.proofs.Spots.{entry-top}
 use Rattle.calls.specs.Calls.{Call, begin, write, read, test, decide, rebuild, isKnown}
 use Rattle.promises.specs.Runs.{Ordered, Box, on, off, sheetOf, Event, calls, cuts, callOn, answerTo, after, runs, Typed, AllAllowed}
 use Rattle.promises.specs.Promises.{IsPageOf}
@@ -24,7 +24,7 @@ use Rattle.promises.proofs.Ledger.{toldFate, ledgerCall}
 use Rattle.promises.proofs.Stored.{bytesOf}
 use Rattle.promises.proofs.Cuts.{partialLog, cutLog}
 use Rattle.promises.proofs.Written.{Writes, Wrote, does}
-use Rattle.promises.proofs.Boxes.{Reached, sim, ledger-says, reached-next, reached-on}
+use Rattle.promises.proofs.Boxes.{Reached, ledger-says, reached-next, reached-on}
 use Rattle.promises.proofs.Extends.{Extends, ext-refl, extends, stays}
 
 -- ---- answers

@@ -1,7 +1,6 @@
 -- An answer is told by its numbers, so that what is heard is the answer.
 use Prim.Native.Nat.{ℕ}
 use mathlib.Core.Path.{_≡_, ap}
-use mathlib.Core.List.{List}
 use mathlib.Core.Option.{Option, some, none}
 use native.Mathlib.Omega.{arith}
 use Rattle.recovery.specs.declared.Answer.{Answer}

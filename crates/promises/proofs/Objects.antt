@@ -14,8 +14,8 @@ use Rattle.recovery.specs.Log.{Image, Entry, opening, image, outcome, Fate, unk
 use Rattle.recovery.specs.Lawful.{current, token}
 use Rattle.recovery.specs.World.{isFile, fateNumber, fatesOf, undecidedOf}
 use Rattle.recovery.specs.declared.Answer.the-variants.{Rebuilt}
-use Rattle.calls.specs.Calls.{Call, begin, write, read, test, decide, rebuild, isKnown, isDecided}
-use Rattle.promises.specs.Model.{Version, Object, object, Status, pending, Model, Reply, latest, newest, placed, since, shows, refuses, changed, withObject, stored, hasRoom, ofFile, ofPending, writing, readHistory, reading, testing, decidedAs, ended, endedBy, modelCall}
+use Rattle.calls.specs.Calls.{Call, begin, write, read, test, decide, rebuild, isKnown}
+use Rattle.promises.specs.Model.{Version, Object, object, pending, Model, Reply, latest, newest, placed, since, shows, refuses, changed, withObject, stored, hasRoom, ofFile, ofPending, writing, readHistory, reading, testing, decidedAs, ended, endedBy, modelCall}
 use Rattle.promises.specs.FromLog.{statusOf, versionOf, versionIn}
 use Rattle.promises.proofs.Logs.{Lawful, known-place}
 use Rattle.promises.proofs.Appends.{opening-token, image-token, owns, outcome-token}

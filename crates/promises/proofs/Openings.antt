@@ -10,7 +10,7 @@ use borrow.Author.Tests.{eqb-true, eqb-false}
 use Rattle.recovery.specs.Places.{nth}
 use Rattle.recovery.specs.Log.{Entry, blank, torn, bad, opening, image, outcome}
 use Rattle.recovery.specs.Lawful.{lawful, lowestUnlawful}
-use Rattle.recovery.specs.World.{World, down, sizes, cold, isBlank, endOf, highestBad, fatesOf, undecidedOf, coldRows, started, opened}
+use Rattle.recovery.specs.World.{World, down, sizes, cold, isBlank, endOf, highestBad, fatesOf, undecidedOf, coldRows, opened}
 use Rattle.recovery.specs.declared.Row.{Row}
 use Rattle.recovery.specs.declared.Answer.the-variants.{Opened}
 use Rattle.recovery.proofs.InspectLaw.{lowest-none}
@@ -104,14 +104,6 @@ module _ (s : List Entry) (n k : ℕ) (l : List Entry) (h : Holds s n l) (fits :
     reach = record { current-low = λ f. omega arith; token-low = λ f. omega arith };
     rows = λ f q. rw (nth-cold k f);
   }
-
-  -- its answer, and what it leaves
-  pub holds-opened : (fs : List ℕ) (rs : List Row) (t : ℕ) → length fs ≡ n → length rs ≡ k
-      → opened s fs rs t ≡ (Opened (endOf s n) (undecidedOf (fatesOf n (down s (endOf s n)))), started s (endOf s n) k t)
-  unfolding opened
-  holds-opened fs rs t a b =
-      let z : highestBad (down s (endOf s (length s))) ≡ 0 = rw (holds-end s n l h, h .log) (not-bad l (h .lawful)) in
-      rw (a, b, z) (rw (h .long, fits))
 
   pub sim-open : (fs : List ℕ) (rs : List Row) (t : ℕ) → length fs ≡ n → length rs ≡ k
       → Agrees (opened s fs rs t) (Opened (length l) (undecidedOf (fatesOf n l)), ledgerOpened n k l t)

@@ -1,6 +1,6 @@
 -- How a run is tried on the promises: its steps as a list, the premises by a test that computes, what is heard by the object model.
 use Prim.Native.Nat.{ℕ, max, _*_, _^_, _≤_, _<_}
-use mathlib.Core.Path.{_≡_, refl, sym, ap, _∙_, subst}
+use mathlib.Core.Path.{_≡_, refl, sym, ap, _∙_}
 use mathlib.Core.List.{List, [], _∷_, _++_}
 use mathlib.Core.Bool.{Bool, true, false, _&&_, false≢true}
 use mathlib.Core.Option.{Option, some, none}
@@ -97,9 +97,6 @@ module _ (pages files : ℕ) where
 
   same-floor : {f g : ℕ} {a b c d : List ℕ} → opens f a b ≡ opens g c d → f ≡ g
   same-floor e = cc
-
-  same-time : {f g t u a b : ℕ} → calls (read f t a) ≡ calls (read g u b) → t ≡ u
-  same-time e = cc
 
   same-call : {k q : Call} → calls k ≡ calls q → k ≡ q
   same-call e = cc

@@ -5,7 +5,7 @@ use mathlib.Core.Option.{Option, some, none}
 use Prim.Native.Nat.{ℕ, suc}
 use native.Mathlib.Omega.{arith}
 use lib.ListN.{length}
-use Rattle.recovery.specs.Log.{Image, Entry, blank, torn, opening, image, outcome, Placed}
+use Rattle.recovery.specs.Log.{Image, Entry, opening, image, outcome, Placed}
 use Rattle.recovery.specs.declared.Answer.the-variants.{Stored}
 use Rattle.calls.specs.Calls.{Call, begin, write, read, test, decide, rebuild}
 use Rattle.promises.proofs.Versions.{version}
@@ -63,11 +63,3 @@ module _ (m : Ledger) (p : ℕ) where
   does (test a) = tests (Does (test a)) m (no (test a)) a (λ q. clash cc)
   does (decide a c) = decides (Does (decide a c)) m (no (decide a c)) a c (λ q. record { page = outcome a c; writes = refl; place = cc; log = refl })
   does (rebuild f) = rebuilds (Does (rebuild f)) m (no (rebuild f)) f (λ q. clash cc)
-
-pub writes-solid : (c : Call) (g : Entry) → Writes c g → (g ≡ blank → ⊥) × (g ≡ torn → ⊥)
-writes-solid begin g h = (λ e. clash cc, λ e. clash cc)
-writes-solid (write f s a v) g h = let i = h .is in (λ e. clash cc, λ e. clash cc)
-writes-solid (read f t a) g h = absurd h
-writes-solid (test a) g h = absurd h
-writes-solid (decide a c) g h = (λ e. clash cc, λ e. clash cc)
-writes-solid (rebuild f) g h = absurd h
