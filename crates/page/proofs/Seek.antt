@@ -1,9 +1,10 @@
 -- The quick look, by kind and file, says what the page test says. Assumes nothing.
 use Prim.Native.Nat.{ℕ}
 use mathlib.Core.Path.{_≡_, refl, sym, ap, _∙_}
-use mathlib.Core.Bool.{Bool, true, false}
+use mathlib.Core.Bool.{Bool, true, false, _&&_}
 use mathlib.Core.List.{List}
-use borrow.Author.Tests.{eq-eqb, ne-eqb}
+use borrow.Author.Tests.{eqb-true, eqb-false, eq-eqb, ne-eqb}
+use Rattle.encoding.proofs.Logic.{and-true}
 use lib.Dec.{eqb}
 use lib.ListN.{length}
 use Rattle.encoding.specs.Bytes.{zeros}
@@ -13,6 +14,7 @@ use Rattle.page.specs.declared.Sought as sought
 use Rattle.page.specs.Layout.{pageSize}
 use Rattle.page.specs.Table.{fieldsOf, fits, torn}
 use Rattle.page.specs.Answers.{inBounds, byKind, tested, imageOf}
+use Rattle.page.specs.Steps.{named}
 use Rattle.page.proofs.Found.{found}
 
 module _ (s : List ℕ) (place files file : ℕ) where
@@ -46,20 +48,33 @@ module _ (s : List ℕ) (place files file : ℕ) where
       go false true e f = simp (e, f, ne-eqb (p .file) file h)
       go false false e f = simp (e, f)
 
-  pub other-size : (length s ≡ pageSize → ⊥) → sought.Sought.Other ≡ imageOf file (tested s place files)
+  other-size : (length s ≡ pageSize → ⊥) → imageOf file (tested s place files) ≡ sought.Sought.Other
   unfolding tested inBounds imageOf
   other-size h = simp (ne-eqb (length s) pageSize h)
 
-  pub other-kind : (fieldsOf s .kind ≡ 2 → ⊥) → sought.Sought.Other ≡ imageOf file (tested s place files)
-  other-kind h = sym (only-fields (kind-other (fieldsOf s) h))
+  -- a part that is not named so is no image of the file
+  pub unnamed : named s file ≡ false → sought.Sought.Other ≡ imageOf file (tested s place files)
+  unfolding named
+  unnamed h = sym (go (eqb (length s) pageSize) (eqb (fieldsOf s .kind) 2) refl refl h)
+    where
+      go : (a b : Bool) → eqb (length s) pageSize ≡ a → eqb (fieldsOf s .kind) 2 ≡ b → (a && b && eqb (fieldsOf s .file) file) ≡ false
+          → imageOf file (tested s place files) ≡ sought.Sought.Other
+      go false b e f q = other-size (eqb-false (length s) pageSize e)
+      go true false e f q = only-fields (kind-other (fieldsOf s) (eqb-false (fieldsOf s .kind) 2 f))
+      go true true e f q = only-fields (file-other (fieldsOf s) (eqb-false (fieldsOf s .file) file q))
 
-  pub other-file : (fieldsOf s .file ≡ file → ⊥) → sought.Sought.Other ≡ imageOf file (tested s place files)
-  other-file h = sym (only-fields (file-other (fieldsOf s) h))
+  pub named-size : named s file ≡ true → length s ≡ pageSize
+  unfolding named
+  named-size h = eqb-true (length s) pageSize (and-true (eqb (length s) pageSize) (eqb (fieldsOf s .kind) 2) (and-true (eqb (length s) pageSize && eqb (fieldsOf s .kind) 2) (eqb (fieldsOf s .file) file) h .0) .0)
+
+  -- one that is, and that the page test calls an image, is the file's
+  pub named-image : (x : Page) → named s file ≡ true → Image x ≡ tested s place files → sought.Sought.Image x ≡ imageOf file (tested s place files)
+  unfolding imageOf named
+  named-image x h e =
+      let f : fieldsOf s .file ≡ file = eqb-true (fieldsOf s .file) file (and-true (eqb (length s) pageSize && eqb (fieldsOf s .kind) 2) (eqb (fieldsOf s .file) file) h .1) in
+      let g : x .file ≡ file = ap (λ (y : Page). y .file) (found s place files (Image x) e .fields-are) ∙ f in
+      rw (← e) (simp (eq-eqb (x .file) file g))
 
   -- the fields are read again from the part
-  pub this-image : (p x : Page) → Image x ≡ tested s place files → p ≡ fieldsOf s → fieldsOf s .file ≡ file → sought.Sought.Image p ≡ imageOf file (tested s place files)
-  unfolding imageOf
-  this-image p x e r f =
-      let i = found s place files (Image x) e .fields-are in
-      let g : x .file ≡ file = ap (λ (y : Page). y .file) i ∙ f in
-      ap sought.Sought.Image (r ∙ sym i) ∙ rw (← e) (simp (eq-eqb (x .file) file g))
+  pub this-image : (p x : Page) → named s file ≡ true → Image x ≡ tested s place files → p ≡ fieldsOf s → sought.Sought.Image p ≡ imageOf file (tested s place files)
+  this-image p x h e r = ap sought.Sought.Image (r ∙ sym (found s place files (Image x) e .fields-are)) ∙ named-image x h e

@@ -15,7 +15,7 @@ ghost use lib.ListN.{length, take, replicate};
 ghost use Rattle.encoding.specs.Bytes.{bytes, zeros, same, check};
 ghost use Rattle.page.specs.Layout.{valueAt, pageSize, mostPlaces, valueSize};
 ghost use Rattle.page.specs.Table.{head, front, packed, field, fieldsOf, opening, image, outcome, lowest, highest, within, between, used, meetsRules, isPageOf, torn};
-ghost use Rattle.page.specs.Steps.{framed};
+ghost use Rattle.page.specs.Steps.{framed, named};
 ghost use Rattle.page.specs.Answers.{inBounds, byKind, tested, isBlankPage, isOpeningPage, packs, imageOf, valueIn};
 
 // The fields of a page (a log record), kind to start. The 32 bytes of the value stay beside it.
@@ -394,17 +394,24 @@ impl Page {
         Page::is_packed_opening(part, place)
     }
 
+    // The cheap look: a part with the kind of an image and with this file. No other part is an image of the file.
+    pub fn names(part: &[u8], file: u64) -> bool
+        ensures { λ r. ⌜ r ≡ named (now (part .entry)) file ⌝ }
+    {
+        if part.len() != Page::SIZE {
+            return false;
+        }
+        if byte_at(part, Page::KIND) != 2 {
+            return false;
+        }
+        field(part, Page::FILE, Page::ACTION) == file
+    }
+
     // The quick look: the image of this file in a part, by its kind and file before anything else.
     pub fn seek(part: &[u8], place: u64, files: u64, file: u64) -> Sought
         ensures { λ r. ⌜ r ≡ imageOf file (tested (now (part .entry)) place files) ⌝ }
     {
-        if part.len() != Page::SIZE {
-            return Sought::Other;
-        }
-        if byte_at(part, Page::KIND) != 2 {
-            return Sought::Other;
-        }
-        if field(part, Page::FILE, Page::ACTION) != file {
+        if !Page::names(part, file) {
             return Sought::Other;
         }
         let Unpacked::Image(_) = Page::test(part, place, files) else {

@@ -13,6 +13,7 @@ use crate::row_of;
 use crate::set_row;
 use page::Page;
 use page::Sought;
+use page::Unpacked;
 ghost use mathlib.Core.Path.{_≡_};
 ghost use Prim.Native.Nat.{min};
 ghost use Rattle.recovery.specs.Lent.{leftBy, rebuildLeaves};
@@ -40,8 +41,11 @@ pub fn rebuilt_row(sheet: &[u8], fates: &[u8], files: u64, file: u64, end: u64) 
         place -= 1;
         let a = Page::SIZE * place;
         let e = a + Page::SIZE;
-        let found = Page::seek(&sheet[a..e], at, files, file);
-        let Sought::Image(image) = found else {
+        if !Page::names(&sheet[a..e], file) {
+            continue;
+        }
+        let found = Page::test(&sheet[a..e], at, files);
+        let Unpacked::Image(image) = found else {
             continue;
         };
         let fate = counted_fate(sheet, fates, files, image.action);
