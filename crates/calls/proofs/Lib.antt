@@ -3,6 +3,7 @@ pub mod Appends
 pub mod EveryCall
 pub mod Refusals
 pub mod OnePage
+pub mod CutLaws
 pub mod Once
 pub mod DecideLines
 pub mod DecideRows

@@ -4,12 +4,12 @@ use Prim.Native.Nat.{ℕ}
 use mathlib.Core.Path.{_≡_, refl}
 use mathlib.Core.List.{List, [], _∷_}
 use lib.ListN.{replicate}
-use Rattle.lines.specs.Names.{openName, beginName, writeName, readName, testName, commitName, abortName, cutName}
-use Rattle.lines.specs.Commands.{words, numberOf, three, isText, alone, withOne, withTwo, withThree, withText, commandOf, parsed}
+use Rattle.commands.specs.Names.{openName, beginName, writeName, readName, testName, commitName, abortName, cutName}
+use Rattle.commands.specs.Commands.{words, numberOf, three, isText, alone, withOne, withTwo, withThree, withText, commandOf, parsed}
 use Rattle.promises.specs.Runs.{Run}
 use Rattle.program.specs.Talks.{runOf, AllKeep, pageCount, turned, tableAfter}
-use Rattle.lines.specs.declared.parsing.Command as command
-use Rattle.lines.specs.declared.printing.Reply as reply
+use Rattle.commands.specs.declared.parsing.Command as command
+use Rattle.commands.specs.declared.printing.Reply as reply
 use Rattle.page.specs.Table.{head, front, packed, fieldsOf, lowest, highest, within, between, meetsRules, isPageOf, torn}
 use Rattle.page.specs.Answers.{inBounds, tested}
 use Rattle.recovery.specs.Places.{tabulate}

@@ -25,9 +25,9 @@ use Rattle.recovery.proofs.Leaves.{rows-back}
 use Rattle.calls.specs.Calls.{Call}
 use Rattle.calls.specs.Effect.{callLeaves}
 use Rattle.calls.proofs.OnePage.{only-one-page}
-use Rattle.lines.specs.declared.parsing.Command as command
-use Rattle.lines.specs.declared.parsing.Command.{Command}
-use Rattle.lines.specs.declared.printing.Reply as reply
+use Rattle.commands.specs.declared.parsing.Command as command
+use Rattle.commands.specs.declared.parsing.Command.{Command}
+use Rattle.commands.specs.declared.printing.Reply as reply
 use Rattle.desk.specs.Conversation.{After, callOf, replyOf, answered, lost, acted, openedFor, lending, replied, isOpen, calledFor, startedFor, conversed, sheetSize}
 use Rattle.calls.specs.Cuts.{storedOf, firstBytes}
 use Rattle.promises.specs.Runs.{Box, on, off, sheetOf, Event, calls, opens, cuts, boxOf, answerTo, after, runs}

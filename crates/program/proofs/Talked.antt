@@ -15,9 +15,9 @@ use Rattle.recovery.specs.Lent.{rowLength, sizesRight}
 use Rattle.recovery.proofs.Sizes.{sizes-right}
 use Rattle.recovery.proofs.Lookups.{is-file}
 use Rattle.calls.specs.Calls.{Call}
-use Rattle.lines.specs.declared.parsing.Command as command
-use Rattle.lines.specs.declared.parsing.Command.{Command}
-use Rattle.lines.specs.Commands.{parsed}
+use Rattle.commands.specs.declared.parsing.Command as command
+use Rattle.commands.specs.declared.parsing.Command.{Command}
+use Rattle.commands.specs.Commands.{parsed}
 use Rattle.desk.specs.Conversation.{isSetUp, spoken, saidTo, sheetSize}
 use Rattle.promises.specs.Runs.{Box, sheetOf, Event, opens, runs, Typed, Allowed, AllAllowed, blankBox}
 use Rattle.promises.proofs.Mixed.{first-ordered}

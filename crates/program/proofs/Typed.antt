@@ -16,10 +16,10 @@ use Rattle.recovery.specs.declared.Answer as answers
 use Rattle.recovery.specs.declared.Answer.{Answer}
 use Rattle.calls.specs.Calls as call
 use Rattle.calls.specs.Calls.{Call}
-use Rattle.lines.specs.declared.parsing.Command as command
-use Rattle.lines.specs.declared.parsing.Command.{Command}
-use Rattle.lines.specs.declared.printing.Reply as reply
-use Rattle.lines.specs.Commands.{parsed}
+use Rattle.commands.specs.declared.parsing.Command as command
+use Rattle.commands.specs.declared.parsing.Command.{Command}
+use Rattle.commands.specs.declared.printing.Reply as reply
+use Rattle.commands.specs.Commands.{parsed}
 use Rattle.desk.specs.Conversation.{After, callOf, replyOf, conversed, shown}
 use Rattle.calls.specs.Cuts.{firstBytes}
 use Rattle.promises.specs.Runs.{Box, sheetOf, Event, calls, cuts, answerTo, after, runs, blankBox, Run}

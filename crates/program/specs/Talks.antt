@@ -13,11 +13,11 @@ use Rattle.recovery.specs.World.{isFile}
 use Rattle.recovery.specs.Lent.{rowLength}
 use Rattle.calls.specs.Calls.{Call}
 use Rattle.calls.specs.Effect.{callLeaves}
-use Rattle.lines.specs.declared.parsing.Command as command
-use Rattle.lines.specs.declared.parsing.Command.{Command}
-use Rattle.lines.specs.declared.printing.Reply as reply
-use Rattle.lines.specs.declared.printing.Reply.{Reply}
-use Rattle.lines.specs.Commands.{parsed}
+use Rattle.commands.specs.declared.parsing.Command as command
+use Rattle.commands.specs.declared.parsing.Command.{Command}
+use Rattle.commands.specs.declared.printing.Reply as reply
+use Rattle.commands.specs.declared.printing.Reply.{Reply}
+use Rattle.commands.specs.Commands.{parsed}
 use Rattle.desk.specs.declared.conversation.Desk.{Desk}
 use Rattle.desk.specs.Conversation.{After, callOf, replyOf, sizeOf, isOpen, conversed, spoken, saidTo, firstDesk, sheetSize}
 use Rattle.calls.specs.Cuts.{firstBytes}

@@ -3,9 +3,9 @@ use Prim.Native.Nat.{ℕ}
 use mathlib.Core.Path.{_≡_}
 use mathlib.Core.List.{List, _∷_, _++_}
 use lib.ListN.{drop}
-use Rattle.lines.specs.declared.parsing.Command as command
-use Rattle.lines.specs.declared.printing.Reply as reply
-use Rattle.lines.specs.Commands.{parsed}
+use Rattle.commands.specs.declared.parsing.Command as command
+use Rattle.commands.specs.declared.printing.Reply as reply
+use Rattle.commands.specs.Commands.{parsed}
 use Rattle.desk.specs.Conversation.{After, shown}
 use Rattle.program.specs.Talks.{turned, tableAfter, AllKeep}
 
