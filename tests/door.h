@@ -1,5 +1,5 @@
-/* The proved code as the tests reach it: what crates/bench exports, and one function that makes any call and gives all of its eight
-   numbers. An export gives one number at a time, so that the call is made on copies for the others. */
+/* The proved code as the tests and timings reach it: what crates/bench exports, and one function that makes any call and gives all of
+   its eight numbers. An export gives one number at a time, so that the call is made on copies for the others. */
 #ifndef DOOR_H
 #define DOOR_H
 #include <stddef.h>
@@ -51,7 +51,7 @@ struct call {
 enum { WHICH, FIRST, SECOND, THIRD, FOURTH, END, FLOOR, UNDECIDED, TOLD };
 enum { REFUSED, OPENED, REBUILT, STORED, VALUE, NOTHING, FATE };
 
-static uint64_t one_number(struct lent l, struct call c, uint64_t which) {
+__attribute__((unused)) static uint64_t one_number(struct lent l, struct call c, uint64_t which) {
 #define TAKEN l.sheet, l.size, l.fates, l.pages, l.rows, l.numbers
 #define GIVEN TAKEN, l.end, l.floor, l.undecided
     switch (c.kind) {
@@ -84,14 +84,17 @@ static void *copied(const void *from, size_t size) {
 
 /* Makes a call: its eight numbers, and in what is lent all that it leaves. */
 __attribute__((unused)) static void make_call(struct lent l, struct call c, uint64_t told[TOLD]) {
-    for (uint64_t which = TOLD; which-- > 1;) {
-        struct lent copy = l;
-        copy.sheet = copied(l.sheet, l.size);
-        copy.fates = copied(l.fates, l.pages);
-        copy.rows = copied(l.rows, l.numbers * sizeof *l.rows);
+    struct lent copy = l;
+    copy.sheet = copied(l.sheet, l.size);
+    copy.fates = copied(l.fates, l.pages);
+    copy.rows = copied(l.rows, l.numbers * sizeof *l.rows);
+    for (uint64_t which = FIRST; which < TOLD; which++) {
         told[which] = one_number(copy, c, which);
-        free(copy.sheet), free(copy.fates), free(copy.rows);
+        memcpy(copy.sheet, l.sheet, l.size);
+        memcpy(copy.fates, l.fates, l.pages);
+        memcpy(copy.rows, l.rows, l.numbers * sizeof *l.rows);
     }
+    free(copy.sheet), free(copy.fates), free(copy.rows);
     told[WHICH] = one_number(l, c, WHICH);
 }
 #endif
