@@ -2,11 +2,17 @@
 # make test        the gate: all of it from nothing, and the tests outside Rattle
 # make check-long  the model beside the program for some minutes, from a new seed; SEED= and COMMANDS= choose others
 # make bench       times, side by side with plain C and with SQLite
-.PHONY: all test check-long bench clean
+# make install     the tool, the program, the library, its header and the manual page, below PREFIX (/usr/local) in DESTDIR
+# make uninstall   removes these again
+# make clean       removes build/ and target/
+# make help        these lines
+.PHONY: all test check-long bench install uninstall clean help
 
 LIBRARY = target/staticlib/libdesk.a
 SOURCES = $(shell find crates -name '*.rt')
 COMMANDS = 20000000
+PREFIX = /usr/local
+INTO = $(DESTDIR)$(PREFIX)
 
 all: build/sheet build/model build/model-pages
 	rt check
@@ -40,5 +46,20 @@ check-long: build/model build/model-pages target/bin/console
 bench:
 	bench/run
 
+install: build/sheet target/bin/console $(LIBRARY)
+	install -d $(INTO)/bin $(INTO)/include $(INTO)/lib $(INTO)/share/man/man1
+	install build/sheet $(INTO)/bin/sheet
+	install target/bin/console $(INTO)/bin/sheet-console
+	install -m 644 c/desk.h $(INTO)/include/desk.h
+	install -m 644 $(LIBRARY) $(INTO)/lib/libdesk.a
+	install -m 644 c/sheet.1 $(INTO)/share/man/man1/sheet.1
+
+uninstall:
+	rm -f $(INTO)/bin/sheet $(INTO)/bin/sheet-console $(INTO)/include/desk.h $(INTO)/lib/libdesk.a \
+		$(INTO)/share/man/man1/sheet.1
+
 clean:
 	rm -rf build target
+
+help:
+	@sed -n 's/^# //p' Makefile

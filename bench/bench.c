@@ -5,26 +5,9 @@
 #include <stdlib.h>
 #include <time.h>
 #include <unistd.h>
+#include "../tests/door.h"
 #include "../tests/plain.h"
 #include "sqlite.h"
-
-uint64_t bench_test(const uint8_t *sheet, size_t size, uint64_t files);
-uint64_t bench_seek(const uint8_t *sheet, size_t size, uint64_t files, uint64_t file);
-uint64_t bench_pack(uint8_t *sheet, size_t size, uint64_t files, uint64_t used, const uint8_t *value);
-uint64_t bench_open(const uint8_t *sheet, size_t size, uint8_t *fates, size_t pages, uint64_t *rows, size_t numbers,
-                    uint64_t floor, uint64_t which);
-uint64_t bench_inspect(const uint8_t *sheet, size_t size, uint64_t files);
-uint64_t bench_walk(const uint8_t *sheet, size_t size, const uint8_t *fates, size_t pages, uint64_t files, uint64_t file,
-                    uint64_t end);
-
-#define STATE uint64_t end, uint64_t floor, uint64_t undecided, uint64_t
-uint64_t call_begin(uint8_t *sheet, size_t size, uint8_t *fates, size_t pages, const uint64_t *rows, size_t numbers, STATE which);
-uint64_t call_write(uint8_t *sheet, size_t size, const uint8_t *fates, size_t pages, uint64_t *rows, size_t numbers, STATE file,
-                    uint64_t start, uint64_t action, const uint8_t *value, size_t length, uint64_t which);
-uint64_t call_read(const uint8_t *sheet, size_t size, const uint8_t *fates, size_t pages, uint64_t *rows, size_t numbers, STATE file,
-                   uint64_t time, uint64_t action, uint64_t which);
-uint64_t call_commit(uint8_t *sheet, size_t size, uint8_t *fates, size_t pages, uint64_t *rows, size_t numbers, STATE action,
-                     uint64_t which);
 
 enum { FILES = 256, NEWEST = 254, OLDEST = 255, ABSENT = 256, USED = 28, MOST = 65536, READS = 64 };
 static const uint8_t value[32] = "opens at eight, shuts at six";

@@ -16,6 +16,7 @@ enum { FINE, WRONG, NO_ANSWER };
 enum { KIND, SMALL, FILE_NUMBER, ACTION, LINK, START };
 enum { VALUE_OFFSET = 24, LONGEST = DESK_PAGE * DESK_MOST_PAGES };
 
+static const char version[] = "sheet 1.0\n";
 static const char usage[] =
     "sheet blank FILE            is the sheet blank?\n"
     "sheet inspect FILES FILE    is it lawful, for so many files? If not: its lowest wrong page\n"
@@ -25,6 +26,8 @@ static const char usage[] =
     "sheet pack FILES PLACE committed ACTION\n"
     "sheet pack FILES PLACE aborted ACTION\n"
     "                            the page's 64 bytes, to the standard output\n"
+    "sheet -h, --help, help      these lines\n"
+    "sheet --version             the version of this tool\n"
     "FILES is 1 to 256, PLACE 1 to 65536. VALUE is a text, or 0x and hexadecimal digits.\n"
     "Exit status: 0 yes, shown, packed; 1 no, a page is unfit, no such page; 2 it could not be told.\n";
 
@@ -65,16 +68,25 @@ static int is_number(const char *word, uint64_t *number) {
     return 1;
 }
 
-static int given_number(struct desk d, const char *what, const char *word, uint64_t most, uint64_t *number) {
-    if (is_number(word, number) && *number <= most)
+/* A field of a page: the page itself says which numbers it can have. */
+static int given_field(struct desk d, const char *what, const char *word, uint64_t *number) {
+    if (is_number(word, number))
         return FINE;
-    return complain(d, NO_ANSWER, "%s: not a number from 0 to %" PRIu64 ": %s", what, most, word);
+    return complain(d, NO_ANSWER, "%s: not a number from 0 to %" PRIu64 ": %s", what, UINT64_MAX, word);
+}
+
+static int given_count(struct desk d, const char *what, const char *word, int most, uint64_t *number) {
+    if (is_number(word, number) && *number >= 1 && *number <= (uint64_t)most)
+        return FINE;
+    return complain(d, NO_ANSWER, "%s is 1 to %d, not %s", what, most, word);
 }
 
 static int given_files(struct desk d, const char *word, uint64_t *files) {
-    if (is_number(word, files) && *files >= 1 && *files <= DESK_MOST_FILES)
-        return FINE;
-    return complain(d, NO_ANSWER, "FILES is 1 to %d, not %s", DESK_MOST_FILES, word);
+    return given_count(d, "FILES", word, DESK_MOST_FILES, files);
+}
+
+static int given_place(struct desk d, const char *word, uint64_t *place) {
+    return given_count(d, "PLACE", word, DESK_MOST_PAGES, place);
 }
 
 /* Reads as much as a sheet can have, and a byte more if it is there, so that a file or pipe of any length can be given. */
@@ -249,7 +261,7 @@ static int given_value(struct desk d, const char *word, uint8_t *value, uint64_t
 static int given_image(struct desk d, char **words, uint64_t *fields, uint8_t *value) {
     static const char *const names[] = {"NUMBER", "ACTION", "LINK", "START"};
     for (int i = 0; i < 4; i++)
-        if (given_number(d, names[i], words[i], UINT64_MAX, &fields[FILE_NUMBER + i]) != FINE)
+        if (given_field(d, names[i], words[i], &fields[FILE_NUMBER + i]) != FINE)
             return NO_ANSWER;
     fields[KIND] = DESK_IMAGE;
     return given_value(d, words[4], value, &fields[SMALL]);
@@ -267,7 +279,7 @@ static int given_fields(struct desk d, int count, char **words, uint64_t place, 
     if (count == 2 && (strcmp(words[0], "committed") == 0 || strcmp(words[0], "aborted") == 0)) {
         fields[KIND] = DESK_OUTCOME;
         fields[SMALL] = words[0][0] == 'c' ? 1 : 2;
-        return given_number(d, "ACTION", words[1], UINT64_MAX, &fields[ACTION]);
+        return given_field(d, "ACTION", words[1], &fields[ACTION]);
     }
     return complain(d, NO_ANSWER, "pack what? See sheet help");
 }
@@ -283,15 +295,13 @@ static int pack(struct desk d, int count, char **words) {
     uint8_t value[DESK_VALUE] = {0}, page[DESK_PAGE];
     int status = given_files(d, words[0], &files);
     if (status == FINE)
-        status = given_number(d, "PLACE", words[1], DESK_MOST_PAGES, &place);
+        status = given_place(d, words[1], &place);
     if (status == FINE)
         status = given_fields(d, count - 2, words + 2, place, f, value);
     if (status != FINE)
         return status;
     answer = desk_pack(f[KIND], f[SMALL], f[FILE_NUMBER], f[ACTION], f[LINK], f[START], value, sizeof value, place, files, page,
                        sizeof page);
-    if (answer == DESK_PACK_REFUSED)
-        return complain(d, NO_ANSWER, "PLACE is 1 to %d, not %" PRIu64, DESK_MOST_PAGES, place);
     if (answer != DESK_PACKED)
         return no_such_page(d, f[KIND]);
     if (isatty(fileno(d.out)))
@@ -300,10 +310,14 @@ static int pack(struct desk d, int count, char **words) {
     return FINE;
 }
 
+static int is_help(const char *word) {
+    return strcmp(word, "-h") == 0 || strcmp(word, "--help") == 0 || strcmp(word, "help") == 0;
+}
+
 static int answer(struct desk d, int count, char **words) {
     const char *command = count > 1 ? words[1] : "";
-    if (count == 2 && (strcmp(command, "help") == 0 || strcmp(command, "--help") == 0)) {
-        fputs(usage, d.out);
+    if (count == 2 && (is_help(command) || strcmp(command, "--version") == 0)) {
+        fputs(is_help(command) ? usage : version, d.out);
         return FINE;
     }
     if (count == 3 && strcmp(command, "blank") == 0)

@@ -3,40 +3,15 @@
    number must be the same. Prints a line for each test and 'N passed, M failed'. */
 #include "plainsheet.h"
 
-#define LENT(K) K uint8_t *sheet, size_t size, K uint8_t *fates, size_t pages
-#define STATE uint64_t end, uint64_t floor, uint64_t undecided
-uint64_t bench_open(const uint8_t *sheet, size_t size, uint8_t *fates, size_t pages, uint64_t *rows, size_t numbers,
-                    uint64_t floor, uint64_t which);
-uint64_t call_begin(LENT(), const uint64_t *rows, size_t numbers, STATE, uint64_t which);
-uint64_t call_write(uint8_t *sheet, size_t size, const uint8_t *fates, size_t pages, uint64_t *rows, size_t numbers, STATE,
-                    uint64_t file, uint64_t start, uint64_t action, const uint8_t *value, size_t length, uint64_t which);
-uint64_t call_read(LENT(const), uint64_t *rows, size_t numbers, STATE, uint64_t file, uint64_t time, uint64_t action,
-                   uint64_t which);
-uint64_t call_test(LENT(const), const uint64_t *rows, size_t numbers, STATE, uint64_t action, uint64_t which);
-uint64_t call_commit(LENT(), uint64_t *rows, size_t numbers, STATE, uint64_t action, uint64_t which);
-uint64_t call_abort(LENT(), uint64_t *rows, size_t numbers, STATE, uint64_t action, uint64_t which);
-
-enum { NUMBERS = 5 * FILES, RUNS = 8000, CALLS = 60 };
-enum kind { BEGIN, WRITE, READ, TEST, COMMIT, ABORT, KINDS };
+enum { RUNS = 8000, LARGE_RUNS = 20, CALLS = 60, KINDS = ABORT + 1 };
 struct ask {
-    enum kind kind;
-    uint64_t file, time, action;
-    size_t length;
+    struct call call;
     uint8_t value[40];
 };
-struct kept {
-    uint8_t fates[MOST];
-    uint64_t rows[NUMBERS], end, floor, undecided;
-};
 static struct kept kept;
-static int seen_refusal[16], seen_answer[8];
+static int seen_refusal[16], seen_answer[8], seen_cut[PAGE + 2];
 
 /* ---- the plain calls: each gives the five numbers of its answer */
-
-static void answer(uint64_t a[5], uint64_t which, uint64_t x, uint64_t y, uint64_t z) {
-    a[0] = which, a[1] = x, a[2] = y, a[3] = z, a[4] = 0;
-}
-static void no(uint64_t a[5], uint64_t number, uint64_t place) { answer(a, REFUSED, number, place, 0); }
 
 static uint64_t action_line(uint64_t action) {
     if (action < 1 || action > kept.end || action > pages || kept.fates[action - 1] < 1 || kept.fates[action - 1] > 3)
@@ -45,28 +20,28 @@ static uint64_t action_line(uint64_t action) {
 }
 
 /* Lines 11 and 12, and the page. */
-static int stored(uint64_t a[5], uint64_t need, int kind, int small, uint64_t file, uint64_t action, uint64_t link, uint64_t start,
+static int stored(uint64_t a[TOLD], uint64_t need, int kind, int small, uint64_t file, uint64_t action, uint64_t link, uint64_t start,
                   const uint8_t *value) {
     if (pages - kept.end < need)
         return no(a, 11, 0), 0;
     if (!is_blank(kept.end + 1))
         return no(a, 12, 0), 0;
     kept.end++;
-    plain_pack(sheet + PAGE * (kept.end - 1), kind, small, file, kind == 1 ? kept.end : action, link, start, value, kept.end);
-    answer(a, STORED, kept.end, 0, 0);
+    plain_pack(page_at(kept.end), kind, small, file, kind == 1 ? kept.end : action, link, start, value, kept.end);
+    answer(a, STORED, kept.end, 0, 0, 0);
     return 1;
 }
 
 static const uint8_t none[32];
 
-static void plain_begin(uint64_t a[5]) {
+static void plain_begin(uint64_t a[TOLD]) {
     if (!stored(a, kept.undecided + 2, 1, 0, 0, 0, 0, 0, none))
         return;
     kept.fates[kept.end - 1] = 1;
     kept.undecided++;
 }
 
-static void plain_decide(uint64_t a[5], uint64_t action, int verdict) {
+static void plain_decide(uint64_t a[TOLD], uint64_t action, int verdict) {
     uint64_t line = action_line(action), end = kept.end;
     if (line)
         return no(a, line, 0);
@@ -85,7 +60,7 @@ static void plain_decide(uint64_t a[5], uint64_t action, int verdict) {
 }
 
 /* A cold row is rebuilt; then line 7. */
-static int warm(uint64_t a[5], uint64_t file, uint64_t *row) {
+static int warm(uint64_t a[TOLD], uint64_t file, uint64_t *row) {
     if (row[0] == 0)
         row_of(file, kept.fates, kept.end, row);
     for (int i = 1; i < 5; i += 2)
@@ -94,7 +69,7 @@ static int warm(uint64_t a[5], uint64_t file, uint64_t *row) {
     return 1;
 }
 
-static void plain_write(uint64_t a[5], const struct ask *q) {
+static void plain_write(uint64_t a[TOLD], const struct call *q) {
     uint64_t line = action_line(q->action), place = kept.end + 1;
     if (q->file < 1 || q->file > FILES)
         return no(a, 3, 0);
@@ -116,10 +91,10 @@ static void plain_write(uint64_t a[5], const struct ask *q) {
     row[3] = place, row[4] = q->time;
 }
 
-static void told_value(uint64_t a[5], uint64_t place) { answer(a, VALUE, place, start_of(place), page_at(place)[1]); }
+static void told_value(uint64_t a[TOLD], uint64_t place) { answer(a, VALUE, place, start_of(place), page_at(place)[1], 0); }
 static void raise(uint64_t *end, uint64_t time) { *end = *end < time ? time : *end; }
 
-static void plain_read(uint64_t a[5], const struct ask *q) {
+static void plain_read(uint64_t a[TOLD], const struct call *q) {
     uint64_t line = q->action ? action_line(q->action) : 0, place;
     if (q->file < 1 || q->file > FILES)
         return no(a, 3, 0);
@@ -135,7 +110,7 @@ static void plain_read(uint64_t a[5], const struct ask *q) {
         return told_value(a, row[3]);
     }
     for (place = row[1]; place && start_of(place) > q->time;) {
-        uint64_t link = plain_get(page_at(place), 12, 16);
+        uint64_t link = link_of(place);
         if (link && !is_image(link, q->file))
             return no(a, 13, place);
         place = link;
@@ -145,10 +120,10 @@ static void plain_read(uint64_t a[5], const struct ask *q) {
     if (place)
         told_value(a, place);
     else
-        answer(a, NOTHING, 0, 0, 0);
+        answer(a, NOTHING, 0, 0, 0, 0);
 }
 
-static void plain_call(uint64_t a[5], const struct ask *q) {
+static void plain_call(uint64_t a[TOLD], const struct call *q) {
     if (kept.end > pages || kept.undecided > kept.end)
         return no(a, 1, 0);
     switch (q->kind) {
@@ -161,93 +136,75 @@ static void plain_call(uint64_t a[5], const struct ask *q) {
     case TEST:
         if (action_line(q->action) == 5)
             return no(a, 5, 0);
-        return answer(a, FATE, kept.fates[q->action - 1], 0, 0);
+        return answer(a, FATE, kept.fates[q->action - 1], 0, 0, 0);
     default:
         plain_decide(a, q->action, q->kind == COMMIT ? 1 : 2);
     }
 }
 
-/* ---- the proved calls */
-
-static uint64_t proved_call(const struct ask *q, uint8_t *s, struct kept *k, uint64_t which) {
-    size_t size = PAGE * pages;
-#define REST k->rows, NUMBERS, k->end, k->floor, k->undecided
-    switch (q->kind) {
-    case BEGIN:
-        return call_begin(s, size, k->fates, pages, REST, which);
-    case WRITE:
-        return call_write(s, size, k->fates, pages, REST, q->file, q->time, q->action, q->value, q->length, which);
-    case READ:
-        return call_read(s, size, k->fates, pages, REST, q->file, q->time, q->action, which);
-    case TEST:
-        return call_test(s, size, k->fates, pages, REST, q->action, which);
-    case COMMIT:
-        return call_commit(s, size, k->fates, pages, REST, q->action, which);
-    default:
-        return call_abort(s, size, k->fates, pages, REST, q->action, which);
-    }
-}
-
-/* One call both ways: the eight numbers, and all that is lent. */
-static int called_alike(const struct ask *q) {
-    static uint8_t before[MOST * PAGE], after[MOST * PAGE];
-    struct kept was = kept, left;
-    uint64_t a[TOLD], got;
-    memcpy(before, sheet, sizeof before);
-    plain_call(a, q);
-    a[END] = kept.end, a[FLOOR] = kept.floor, a[UNDECIDED] = kept.undecided;
-    seen_answer[a[0]]++;
-    if (a[0] == REFUSED)
-        seen_refusal[a[1]]++;
-    for (uint64_t w = 0; w < TOLD; w++) {
-        memcpy(after, before, sizeof after);
-        left = was;
-        got = proved_call(q, after, &left, w);
-        if (got != a[w] || memcmp(after, sheet, sizeof after) || memcmp(left.fates, kept.fates, sizeof left.fates)
-            || memcmp(left.rows, kept.rows, sizeof left.rows))
-            return printf("call %d file %llu time %llu action %llu: number %llu is %llu, expected %llu\n", q->kind,
-                          (unsigned long long)q->file, (unsigned long long)q->time, (unsigned long long)q->action,
-                          (unsigned long long)w, (unsigned long long)got, (unsigned long long)a[w]),
-                   0;
-    }
-    return 1;
-}
-
 /* ---- random runs */
+
+/* The sheet before the last call. */
+static uint8_t before[MOST * PAGE];
+
+/* One call both ways. */
+static int asked_alike(const struct ask *q, uint64_t a[TOLD]) {
+    struct call c = q->call;
+    struct kept was = kept;
+    c.value = q->value;
+    memcpy(before, sheet, PAGE * pages);
+    plain_call(a, &c);
+    seen_answer[a[WHICH]]++;
+    if (a[WHICH] == REFUSED)
+        seen_refusal[a[FIRST]]++;
+    return called_alike(c, before, was, a, &kept);
+}
+
+/* An opening both ways; only a damaged sheet may be refused. */
+static int opened_alike(uint64_t floor, int wild, int *refused) {
+    uint64_t a[TOLD];
+    struct kept was = kept;
+    was.floor = kept.floor = floor;
+    plain_open(a, &kept);
+    *refused = a[WHICH] == REFUSED;
+    return called_alike((struct call){.kind = OPEN}, sheet, was, a, &kept) && (wild || !*refused);
+}
+
+/* An undecided action, from some place on, or any number. */
+static uint64_t random_action(void) {
+    uint64_t action = below(kept.end + 2);
+    if (below(16) == 0)
+        return action;
+    for (uint64_t i = 0; i <= kept.end && action_line(action); i++)
+        action = action > 0 ? action - 1 : kept.end + 1;
+    return action;
+}
 
 /* Mostly what a careful caller would ask: a file that there is, an undecided action, a start above the last. */
 static struct ask random_ask(void) {
-    struct ask q = {(enum kind)below(KINDS), 1 + below(FILES), below(20), below(kept.end + 2), below(36), {0}};
+    struct ask a = {{(enum kind)below(KINDS), 1 + below(FILES), below(20), random_action(), below(36), NULL}, {0}};
+    struct call *q = &a.call;
     if (below(16) == 0)
-        q.file = below(FILES + 2);
+        q->file = below(FILES + 2);
     if (kept.undecided == 0 && below(2))
-        q.kind = BEGIN;
-    for (int i = 0; i < 40 && action_line(q.action); i++)
-        q.action = below(kept.end + 2);
-    if (q.kind == READ && below(3))
-        q.action = 0;
-    if (q.kind == WRITE && below(8))
-        q.time = kept.floor + kept.rows[5 * ((q.file + FILES - 1) % FILES) + 2] + 1 + below(3);
+        q->kind = BEGIN;
+    if (q->kind == READ && below(3))
+        q->action = 0;
+    if (q->kind == WRITE && below(8))
+        q->time = kept.floor + kept.rows[5 * ((q->file + FILES - 1) % FILES) + 2] + 1 + below(3);
     if (below(60) == 0)
-        q.time = UINT64_MAX;
-    if (q.kind == ABORT && below(2))
-        q.kind = COMMIT;
-    for (size_t i = 0; i < q.length; i++)
-        q.value[i] = (uint8_t)below(256);
-    return q;
-}
-
-static void opened(uint64_t floor) {
-    memset(kept.rows, 0, sizeof kept.rows);
-    uint64_t end = bench_open(sheet, PAGE * pages, kept.fates, pages, kept.rows, NUMBERS, floor, END);
-    kept.undecided = bench_open(sheet, PAGE * pages, kept.fates, pages, kept.rows, NUMBERS, floor, UNDECIDED);
-    kept.end = end, kept.floor = floor;
+        q->time = UINT64_MAX;
+    if (q->kind == ABORT && below(2))
+        q->kind = COMMIT;
+    for (size_t i = 0; i < q->length; i++)
+        a.value[i] = (uint8_t)below(256);
+    return a;
 }
 
 /* The version before a current one. */
 static uint64_t older(void) {
     uint64_t place = kept.rows[5 * below(FILES) + 1];
-    return place && place <= pages ? plain_get(page_at(place), 12, 16) : 0;
+    return place && place <= pages ? link_of(place) : 0;
 }
 
 /* Something lent that no call has left. */
@@ -273,41 +230,78 @@ static void damage(void) {
     case 6:
     case 7:
         if (place && place <= pages)
-            sheet[PAGE * (place - 1) + below(PAGE)] ^= (uint8_t)(1 + below(255));
+            page_at(place)[below(PAGE)] ^= (uint8_t)(1 + below(255));
         break;
     default:
         kept.end = below(pages + 2);
     }
 }
 
-static int runs_alike(int wild) {
-    for (int run = 0; run < RUNS; run++) {
-        pages = below(4) ? MOST - below(8) : 1 + below(MOST);
-        memset(sheet, 0, sizeof sheet);
-        memset(&kept, 0, sizeof kept);
-        opened(below(4));
-        for (int i = 0; i < CALLS; i++) {
-            struct ask q = random_ask();
-            if (wild && below(20) == 0) {
-                damage();
-                if (below(2))
-                    q.kind = READ, q.time = below(3), q.action = 0;
-            }
-            if (!called_alike(&q))
-                return 0;
-            if (below(30) == 0) { /* the page last stored is cut, and the sheet opened again */
-                if (kept.end > 0 && kept.end <= pages && below(2))
-                    memset(sheet + PAGE * (kept.end - 1) + 1 + below(62), 0, 1), sheet[PAGE * kept.end - 1] = 0;
-                opened(below(8));
-                if (kept.end == 0)
-                    break; /* refused, or blank */
-            }
+/* The call that was made is cut: what stood before it comes back from some byte of its page on. */
+static int cut_is_right(uint64_t place) {
+    int n = cut_page(place, before + PAGE * (place - 1));
+    seen_cut[n]++;
+    return n == 0 ? is_blank(place) : n == PAGE ? plain_fits(page_at(place), place, FILES) : is_torn(place);
+}
+
+/* An opening, and calls, some of them cut, with openings between them; up to a refused opening. */
+static int calls_alike(int wild) {
+    int refused;
+    if (!opened_alike(below(4), wild, &refused))
+        return 0;
+    for (int i = 0; i < CALLS && !refused; i++) {
+        struct ask q = random_ask();
+        uint64_t a[TOLD];
+        if (wild && below(20) == 0) {
+            damage();
+            if (below(2))
+                q.call.kind = READ, q.call.time = below(3), q.call.action = 0;
         }
+        if (!asked_alike(&q, a))
+            return 0;
+        int is_cut = a[WHICH] == STORED && below(15) == 0;
+        if (is_cut && !cut_is_right(a[FIRST]))
+            return 0;
+        if ((is_cut || below(60) == 0) && !opened_alike(below(8), wild, &refused))
+            return 0;
     }
     return 1;
 }
 
-/* Every answer and every refusal that these calls can give has come often; 2 is open's, and no sheet leads to 14. */
+static void blank_sheet(uint64_t count) {
+    pages = count;
+    memset(sheet, 0, PAGE * pages);
+    memset(&kept, 0, sizeof kept);
+    kept.floor = below(4);
+}
+
+static int runs_alike(int wild) {
+    for (int run = 0; run < RUNS; run++) {
+        blank_sheet(below(4) ? SMALL - below(8) : 1 + below(SMALL));
+        if (!calls_alike(wild))
+            return 0;
+    }
+    return 1;
+}
+
+/* Sheets of more than 1,024 pages: filled by the plain calls, and then both ways. */
+static int large_alike(int wild) {
+    for (int run = 0; run < LARGE_RUNS; run++) {
+        blank_sheet(1025 + below(MOST - 1024));
+        uint64_t used = pages - below(2 * CALLS), a[TOLD];
+        for (int i = 0; i < 20 * MOST && kept.end < used; i++) {
+            struct ask q = random_ask();
+            q.call.value = q.value;
+            q.call.time = q.call.time == UINT64_MAX ? 1 : q.call.time; /* it would bar the file */
+            plain_call(a, &q.call);
+        }
+        if (kept.end + 8 < used || !calls_alike(wild))
+            return 0;
+    }
+    return 1;
+}
+
+/* Every answer, every refusal that these calls can give and every cut has come often; 2 is open's, and no sheet leads to 14. */
 static int all_seen(void) {
     for (int n = 1; n <= 13; n++)
         if (n != 2 && seen_refusal[n] < 20)
@@ -315,6 +309,9 @@ static int all_seen(void) {
     for (int n = STORED; n <= FATE; n++)
         if (seen_answer[n] < 500)
             return printf("answer %d came %d times\n", n, seen_answer[n]), 0;
+    for (int n = 0; n <= PAGE + 1; n++)
+        if (seen_cut[n] < 20)
+            return printf("a cut after %d bytes came %d times\n", n, seen_cut[n]), 0;
     return 1;
 }
 
@@ -323,7 +320,9 @@ int main(int count, char **words) {
     printf("seed %llu\n", (unsigned long long)seed);
     told("runs of calls with cuts", runs_alike(0));
     told("runs on damaged sheets, fates, rows and states", runs_alike(1));
-    told("every answer and refusal seen", all_seen());
+    told("runs with cuts on more than 1,024 pages", large_alike(0));
+    told("runs with damage on more than 1,024 pages", large_alike(1));
+    told("every answer, refusal and cut seen", all_seen());
     printf("%d passed, %d failed\n", passed, failed);
     return failed != 0;
 }

@@ -1,11 +1,8 @@
 /* The proved page layer beside the plain one of plain.h, on sheets of good, damaged, cut and random pages.
    Prints a line for each test and 'N passed, M failed'; the seed may be given, so that a failure can be run again. */
+#include "door.h"
 #include "plain.h"
 #include "tell.h"
-
-uint64_t bench_test(const uint8_t *sheet, size_t size, uint64_t files);
-uint64_t bench_seek(const uint8_t *sheet, size_t size, uint64_t files, uint64_t file);
-uint64_t bench_pack(uint8_t *sheet, size_t size, uint64_t files, uint64_t used, const uint8_t *value);
 
 enum { MOST = 40, SHEETS = 20000 };
 static uint8_t sheet[MOST * PAGE];
@@ -51,7 +48,7 @@ static void random_page(uint8_t *page) {
 }
 
 /* What is done to the pages of a sheet before both sides look at it. */
-enum change { NOTHING, ONE_BYTE, CUT, EDGES, RANDOM };
+enum change { AS_IT_IS, ONE_BYTE, CUT, EDGES, RANDOM };
 
 static void change_page(uint8_t *page, uint64_t place, uint64_t files, enum change change) {
     if (change == ONE_BYTE)
@@ -125,7 +122,7 @@ int main(int count, char **words) {
     uint64_t fitting;
     seed = count > 1 ? strtoull(words[1], NULL, 10) | 1 : 20261115;
     printf("seed %llu\n", (unsigned long long)seed);
-    told("good pages fit", agree(NOTHING, &fitting) && fitting > SHEETS);
+    told("good pages fit", agree(AS_IT_IS, &fitting) && fitting > SHEETS);
     told("pages with one byte changed", agree(ONE_BYTE, &fitting) && fitting > SHEETS);
     told("pages cut after any byte", agree(CUT, &fitting) && fitting > SHEETS);
     told("fields on and beside every bound", agree(EDGES, &fitting) && fitting > SHEETS);

@@ -1,19 +1,21 @@
-/* The plain recovery layer that the proved one is compared with, from document 01 page by page. Places are counted from 1. */
+/* A sheet in plain C, read page by page as document 01 says it: what is sealed, the fates, a file's row, an opening. Places are
+   counted from 1. */
 #ifndef PLAINSHEET_H
 #define PLAINSHEET_H
+#include "door.h"
 #include "plain.h"
 #include "tell.h"
 
-enum { MOST = 30, FILES = 4 };
-/* what a call of the proved code tells by index: which answer, its values, and the state */
-enum { WHICH, FIRST, SECOND, END = 5, FLOOR, UNDECIDED, TOLD };
-enum { REFUSED, OPENED, REBUILT, STORED, VALUE, NOTHING, FATE };
+/* Most sheets have up to SMALL pages; some have above 1,024, up to MOST: there open and inspect keep more. */
+enum { SMALL = 30, MOST = 1400, FILES = 4, NUMBERS = 5 * FILES };
 
 static uint8_t sheet[MOST * PAGE];
 static uint64_t pages;
 
-static const uint8_t *page_at(uint64_t place) { return sheet + PAGE * (place - 1); }
+static uint8_t *page_at(uint64_t place) { return sheet + PAGE * (place - 1); }
+static uint64_t file_of(uint64_t place) { return plain_get(page_at(place), 4, 8); }
 static uint64_t action_of(uint64_t place) { return plain_get(page_at(place), 8, 12); }
+static uint64_t link_of(uint64_t place) { return plain_get(page_at(place), 12, 16); }
 static uint64_t start_of(uint64_t place) { return plain_get(page_at(place), 16, 24); }
 
 static int is_blank(uint64_t place) {
@@ -23,15 +25,15 @@ static int is_blank(uint64_t place) {
     return 1;
 }
 static int is_torn(uint64_t place) { return page_at(place)[0] >= 1 && page_at(place)[0] <= 3 && page_at(place)[63] == 0; }
-static int is_opening(uint64_t place) { return plain_fits(page_at(place), place, FILES) && page_at(place)[0] == 1; }
+static int is_opening(uint64_t place) { return page_at(place)[0] == 1 && plain_fits(page_at(place), place, FILES); }
 static int is_sealed(uint64_t place) {
     return plain_fits(page_at(place), place, FILES) && (page_at(place)[0] == 1 || is_opening(action_of(place)));
 }
-static int is_kind(uint64_t place, int kind) { return is_sealed(place) && page_at(place)[0] == kind; }
-static int is_image(uint64_t place, uint64_t file) { return is_kind(place, 2) && plain_get(page_at(place), 4, 8) == file; }
-__attribute__((unused)) static int is_bad(uint64_t place) { return is_blank(place) || (!is_torn(place) && !is_sealed(place)); }
+static int is_kind(uint64_t place, int kind) { return page_at(place)[0] == kind && is_sealed(place); }
+static int is_image(uint64_t place, uint64_t file) { return file_of(place) == file && is_kind(place, 2); }
+static int is_bad(uint64_t place) { return is_blank(place) || (!is_torn(place) && !is_sealed(place)); }
 
-__attribute__((unused)) static uint64_t end_of(void) {
+static uint64_t end_of(void) {
     uint64_t end = pages;
     while (end > 0 && is_blank(end))
         end--;
@@ -39,23 +41,23 @@ __attribute__((unused)) static uint64_t end_of(void) {
 }
 
 /* The fate of an action by the newest outcome up to a place. */
-__attribute__((unused)) static uint8_t fate_of(uint64_t action, uint64_t upto) {
+static uint8_t fate_of(uint64_t action, uint64_t upto) {
     if (action < 1 || action > upto || !is_opening(action))
         return 0;
     for (uint64_t p = upto; p > action; p--)
-        if (is_kind(p, 3) && action_of(p) == action)
+        if (action_of(p) == action && is_kind(p, 3))
             return (uint8_t)(page_at(p)[1] + 1);
     return 1;
 }
 
-/* A file's row by the fates that are lent. */
-__attribute__((unused)) static void row_of(uint64_t file, const uint8_t *fates, uint64_t end, uint64_t row[5]) {
+/* A file's row by the fates that are lent, or by the pages up to the end if none are. */
+static void row_of(uint64_t file, const uint8_t *fates, uint64_t end, uint64_t row[5]) {
     memset(row, 0, 5 * sizeof *row);
     row[0] = 1;
     for (uint64_t p = end; p > 0; p--) {
         if (!is_image(p, file))
             continue;
-        uint8_t fate = fates[action_of(p) - 1];
+        uint8_t fate = fates ? fates[action_of(p) - 1] : fate_of(action_of(p), end);
         if (fate == 2) {
             row[1] = p;
             row[2] = start_of(p);
@@ -66,5 +68,74 @@ __attribute__((unused)) static void row_of(uint64_t file, const uint8_t *fates, 
             row[4] = start_of(p);
         }
     }
+}
+
+/* What is kept from call to call. */
+struct kept {
+    uint8_t fates[MOST];
+    uint64_t rows[NUMBERS], end, floor, undecided;
+};
+
+static struct lent lent(uint8_t *bytes, struct kept *k) {
+    return (struct lent){bytes, PAGE * pages, k->fates, pages, k->rows, NUMBERS, k->end, k->floor, k->undecided};
+}
+
+/* The five numbers of an answer. */
+static void answer(uint64_t a[TOLD], uint64_t which, uint64_t first, uint64_t second, uint64_t third, uint64_t fourth) {
+    a[WHICH] = which, a[FIRST] = first, a[SECOND] = second, a[THIRD] = third, a[FOURTH] = fourth;
+}
+static void no(uint64_t a[TOLD], uint64_t number, uint64_t place) { answer(a, REFUSED, number, place, 0, 0); }
+
+/* Refused: the highest bad page, three zeros as the state, and fates and rows as they were. */
+static void plain_open(uint64_t a[TOLD], struct kept *k) {
+    uint64_t end = end_of(), bad = end;
+    while (bad > 0 && !is_bad(bad))
+        bad--;
+    k->end = k->undecided = 0;
+    if (bad) {
+        k->floor = 0;
+        return no(a, 2, bad);
+    }
+    for (uint64_t p = 1; p <= pages; p++) {
+        k->fates[p - 1] = fate_of(p, end);
+        k->undecided += k->fates[p - 1] == 1;
+    }
+    memset(k->rows, 0, sizeof k->rows);
+    k->end = end;
+    answer(a, OPENED, end, k->undecided, 0, 0);
+}
+
+/* A call of the proved code on a copy of the sheet, beside what the plain one answered and left: the eight numbers, and all that is
+   lent. `before` and `was` are what both were given; the sheet and `left` are what the plain one left. */
+static int called_alike(struct call c, const uint8_t *before, struct kept was, uint64_t a[TOLD], const struct kept *left) {
+    static uint8_t after[MOST * PAGE];
+    uint64_t got[TOLD];
+    memcpy(after, before, PAGE * pages);
+    a[END] = left->end, a[FLOOR] = left->floor, a[UNDECIDED] = left->undecided;
+    make_call(lent(after, &was), c, got);
+    if (!memcmp(got, a, sizeof got) && !memcmp(after, sheet, PAGE * pages) && !memcmp(was.fates, left->fates, pages)
+        && !memcmp(was.rows, left->rows, sizeof was.rows))
+        return 1;
+    printf("call %d file %llu time %llu action %llu, on %llu pages:\n", c.kind, (unsigned long long)c.file, (unsigned long long)c.time,
+           (unsigned long long)c.action, (unsigned long long)pages);
+    for (int i = 0; i < TOLD; i++)
+        printf("number %d is %llu, expected %llu\n", i, (unsigned long long)got[i], (unsigned long long)a[i]);
+    return 0;
+}
+
+/* A cut while the page at a place was stored: its bytes from n on are as before, or any are but byte 0, and byte 63 is. Answers n, or
+   65 for the second. */
+static int cut_page(uint64_t place, const uint8_t *before) {
+    static const int often[] = {0, 1, 62, 63, 64};
+    uint8_t *page = page_at(place);
+    if (below(3) == 0) {
+        for (int i = 1; i < PAGE; i++)
+            if (i == 63 || below(2))
+                page[i] = before[i];
+        return 65;
+    }
+    int n = below(4) ? (int)below(PAGE + 1) : often[below(5)];
+    memcpy(page + n, before + n, (size_t)(PAGE - n));
+    return n;
 }
 #endif

@@ -1,17 +1,9 @@
 /* Document 01's points that the command program cannot show, at the calls themselves: a cold row that stays cold under refusals 1 to
-   6 and is rebuilt under the later ones, damaged rows, a page above the end that is not blank, and a link that leads nowhere. Prints
-   a line for each and 'N passed, M failed'. */
+   6 and is rebuilt under the later ones, damaged rows, a page above the end that is not blank, a link that leads nowhere, and an
+   outcome that is lost on two pages. Prints a line for each and 'N passed, M failed'. */
+#include "door.h"
 #include "plain.h"
 #include "tell.h"
-
-#define LENT(K) K uint8_t *sheet, size_t size, K uint8_t *fates, size_t pages
-#define STATE uint64_t end, uint64_t floor, uint64_t undecided
-uint64_t call_begin(LENT(), const uint64_t *rows, size_t numbers, STATE, uint64_t which);
-uint64_t call_write(uint8_t *sheet, size_t size, const uint8_t *fates, size_t pages, uint64_t *rows, size_t numbers, STATE,
-                    uint64_t file, uint64_t start, uint64_t action, const uint8_t *value, size_t length, uint64_t which);
-uint64_t call_read(LENT(const), uint64_t *rows, size_t numbers, STATE, uint64_t file, uint64_t time, uint64_t action,
-                   uint64_t which);
-uint64_t call_commit(LENT(), uint64_t *rows, size_t numbers, STATE, uint64_t action, uint64_t which);
 
 /* Ten pages for two files: actions 1 and 4 wrote file 1 and are committed, action 7 is undecided and holds its token. */
 enum { PAGES = 10, NUMBERS = 10, LAST = 8 };
@@ -41,89 +33,111 @@ static void set_up(void) {
         rows[i] = i % 5 ? 77 + (uint64_t)i : 0;
 }
 
-/* A refusal's number, 0 for an answer. The answer is asked for twice on copies: which it is, and its first number. */
-static uint64_t refusal(int writes, uint64_t file, uint64_t time, uint64_t action, size_t length, uint64_t *place) {
-    static const uint8_t value[33];
-    uint64_t told[3] = {0};
-    static uint64_t kept[NUMBERS];
-    static uint8_t page[sizeof sheet];
-    memcpy(kept, rows, sizeof rows);
-    memcpy(page, sheet, sizeof sheet);
-    for (uint64_t which = 0; which < 3; which++) {
-        memcpy(rows, kept, sizeof rows);
-        memcpy(sheet, page, sizeof sheet);
-        told[which] = writes ? call_write(sheet, sizeof sheet, fates, PAGES, rows, NUMBERS, end, 0, undecided, file, time, action,
-                                          value, length, which)
-                             : call_read(sheet, sizeof sheet, fates, PAGES, rows, NUMBERS, end, 0, undecided, file, time, action, which);
-    }
-    *place = told[2];
-    return told[0] == 0 ? told[1] : 0;
+static struct lent lent(void) { return (struct lent){sheet, sizeof sheet, fates, PAGES, rows, NUMBERS, end, 0, undecided}; }
+
+/* A refusal's number, 0 for an answer. */
+static uint64_t refusal(struct call c, uint64_t *place) {
+    uint64_t told[TOLD];
+    make_call(lent(), c, told);
+    *place = told[SECOND];
+    return told[WHICH] == REFUSED ? told[FIRST] : 0;
 }
 
-static void expect(const char *what, int writes, uint64_t file, uint64_t time, uint64_t action, size_t length, uint64_t number,
-                   uint64_t place, int warm) {
+/* A read or write of a file that is refused with a number and a place; its row is left rebuilt, or all rows as they were. */
+static void expect(const char *what, enum kind kind, uint64_t file, uint64_t time, uint64_t action, size_t length, uint64_t number,
+                   uint64_t place, int rebuilt) {
+    static const uint8_t value[33];
     uint64_t at, before[NUMBERS];
     memcpy(before, rows, sizeof rows);
-    uint64_t got = refusal(writes, file, time, action, length, &at);
-    uint64_t is = file >= 1 && file <= 2 ? rows[5 * (file - 1)] : 0;
-    told(what, got == number && at == place && (warm ? is == 1 : !memcmp(before, rows, sizeof rows)));
+    uint64_t got = refusal((struct call){kind, file, time, action, length, value}, &at);
+    uint64_t mark = file >= 1 && file <= 2 ? rows[5 * (file - 1)] : 0;
+    told(what, got == number && at == place && (rebuilt ? mark == 1 : !memcmp(before, rows, sizeof rows)));
 }
 
 static void cold_rows(void) {
     set_up();
     end = PAGES + 1;
-    expect("refusal 1 leaves a cold row cold", 0, 1, 5, 0, 0, 1, 0, 0);
+    expect("refusal 1 leaves a cold row cold", READ, 1, 5, 0, 0, 1, 0, 0);
     set_up();
-    expect("refusal 3 leaves every row", 0, 3, 5, 0, 0, 3, 0, 0);
-    expect("refusal 4 leaves a cold row cold", 1, 1, 40, 7, 33, 4, 0, 0);
-    expect("refusal 5 leaves a cold row cold", 0, 1, 5, 9, 0, 5, 0, 0);
-    expect("refusal 6 leaves a cold row cold", 1, 1, 40, 4, 0, 6, 0, 0);
-    expect("refusal 8 leaves the row rebuilt", 1, 1, 40, 7, 0, 8, 7, 1);
+    expect("refusal 3 leaves every row", READ, 3, 5, 0, 0, 3, 0, 0);
+    expect("refusal 4 leaves a cold row cold", WRITE, 1, 40, 7, 33, 4, 0, 0);
+    expect("refusal 5 leaves a cold row cold", READ, 1, 5, 9, 0, 5, 0, 0);
+    expect("refusal 6 leaves a cold row cold", WRITE, 1, 40, 4, 0, 6, 0, 0);
+    expect("refusal 8 leaves the row rebuilt", WRITE, 1, 40, 7, 0, 8, 7, 1);
     told("its numbers are those of the pages", rows[1] == 5 && rows[2] == 20 && rows[3] == 8 && rows[4] == 30);
     set_up();
-    expect("refusal 9 leaves the row rebuilt", 0, 1, 30, 0, 0, 9, 7, 1);
+    expect("refusal 9 leaves the row rebuilt", READ, 1, 30, 0, 0, 9, 7, 1);
     set_up();
-    expect("refusal 10 leaves the row rebuilt", 1, 2, 0, 7, 0, 10, 0, 1);
+    expect("refusal 10 leaves the row rebuilt", WRITE, 2, 0, 7, 0, 10, 0, 1);
     told("another file's row is as it was", rows[0] == 0 && rows[1] == 78);
 }
 
 static void damaged_rows(void) {
     set_up();
     rows[0] = 2;
-    expect("a mark of 2 is refused 7", 0, 1, 5, 0, 0, 7, 0, 0);
+    expect("a mark of 2 is refused 7", READ, 1, 5, 0, 0, 7, 0, 0);
     set_up();
     rows[5] = 1, rows[6] = 5, rows[7] = 20, rows[8] = 0, rows[9] = 0;
-    expect("another file's image is refused 7", 0, 2, 5, 0, 0, 7, 0, 0);
+    expect("another file's image is refused 7", READ, 2, 5, 0, 0, 7, 0, 0);
     rows[6] = 1;
-    expect("a place without an image is refused 7", 1, 2, 50, 7, 0, 7, 0, 0);
+    expect("a place without an image is refused 7", WRITE, 2, 50, 7, 0, 7, 0, 0);
     rows[6] = 0, rows[8] = LAST + 1;
-    expect("a place above the end is refused 7", 1, 2, 50, 7, 0, 7, 0, 0);
+    expect("a place above the end is refused 7", WRITE, 2, 50, 7, 0, 7, 0, 0);
     set_up();
     rows[5] = 2, rows[8] = 8;
     uint64_t kept[NUMBERS];
     memcpy(kept, rows, sizeof rows);
-    uint64_t which = call_commit(sheet, sizeof sheet, fates, PAGES, rows, NUMBERS, end, 0, undecided, 7, 0);
-    told("a commit passes over cold and damaged rows", which == 3 && !memcmp(kept, rows, sizeof rows));
+    uint64_t place, number = refusal((struct call){.kind = COMMIT, .action = 7}, &place);
+    told("a commit passes over cold and damaged rows", number == 0 && fates[6] == 2 && !memcmp(kept, rows, sizeof rows));
 }
 
 static void pages_in_the_way(void) {
     set_up();
     sheet[PAGE * LAST + 5] = 1;
-    expect("a page above the end that is not blank is refused 12", 1, 2, 50, 7, 0, 12, 0, 1);
+    expect("a page above the end that is not blank is refused 12", WRITE, 2, 50, 7, 0, 12, 0, 1);
     set_up();
     undecided = 0;
     sheet[PAGE * LAST] = 2;
-    told("begin too", call_begin(sheet, sizeof sheet, fates, PAGES, rows, NUMBERS, end, 0, undecided, 1) == 12);
+    uint64_t place;
+    told("begin too", refusal((struct call){.kind = BEGIN}, &place) == 12);
     set_up();
     put(2, 0, 1, 4, 3, 20, 5);
-    expect("a link to no image is refused 13, with the page that holds it", 0, 1, 15, 0, 0, 13, 5, 1);
+    expect("a link to no image is refused 13, with the page that holds it", READ, 1, 15, 0, 0, 13, 5, 1);
     told("and no end was raised", rows[2] == 20 && rows[4] == 30);
+}
+
+/* Two pages, begin, and a commit that is cut after some bytes: with 1 to 63 the action stays undecided for ever. */
+static int outcome_is_lost(int bytes) {
+    uint8_t two[2 * PAGE] = {0}, two_fates[2] = {0};
+    uint64_t number[NUMBERS] = {0}, told[TOLD];
+    struct lent l = {two, sizeof two, two_fates, 2, number, NUMBERS, 0, 0, 0};
+    make_call(l, (struct call){.kind = BEGIN}, told);
+    l.end = told[END], l.undecided = told[UNDECIDED];
+    make_call(l, (struct call){.kind = COMMIT, .action = 1}, told);
+    memset(two + PAGE + bytes, 0, (size_t)(PAGE - bytes));
+    make_call(l, (struct call){.kind = OPEN}, told);
+    l.end = told[END], l.undecided = told[UNDECIDED];
+    int is_lost = told[WHICH] == OPENED && l.end == 2 && l.undecided == 1 && two_fates[0] == 1;
+    for (enum kind kind = COMMIT; kind <= ABORT; kind++) {
+        make_call(l, (struct call){.kind = kind, .action = 1}, told);
+        is_lost = is_lost && told[WHICH] == REFUSED && told[FIRST] == 11;
+    }
+    return is_lost;
+}
+
+static void outcomes(void) {
+    int lost = 0;
+    for (int bytes = 1; bytes < PAGE; bytes++)
+        lost += outcome_is_lost(bytes);
+    told("on two pages an outcome cut after 1 to 63 bytes is lost: commit and abort are refused 11", lost == PAGE - 1);
+    told("cut after none or all, it is not", !outcome_is_lost(0) && !outcome_is_lost(PAGE));
 }
 
 int main(void) {
     cold_rows();
     damaged_rows();
     pages_in_the_way();
+    outcomes();
     printf("%d passed, %d failed\n", passed, failed);
     return failed != 0;
 }

@@ -2,13 +2,7 @@
    sheets, lawful, unlawful, damaged and cut. Prints a line for each test and 'N passed, M failed'. */
 #include "plainsheet.h"
 
-uint64_t bench_open(const uint8_t *sheet, size_t size, uint8_t *fates, size_t pages, uint64_t *rows, size_t numbers,
-                    uint64_t floor, uint64_t which);
-uint64_t bench_rebuild(const uint8_t *sheet, size_t size, const uint8_t *fates, size_t pages, uint64_t *rows, size_t numbers,
-                       uint64_t end, uint64_t undecided, uint64_t file, uint64_t which);
-uint64_t bench_inspect(const uint8_t *sheet, size_t size, uint64_t files);
-
-enum { SHEETS = 8000, UNTOUCHED = 77 };
+enum { SHEETS = 8000, LARGE_SHEETS = 40, UNTOUCHED = 77 };
 
 static int page_fits(uint64_t place) {
     if (is_bad(place))
@@ -19,12 +13,9 @@ static int page_fits(uint64_t place) {
         return 0;
     if (is_kind(place, 3))
         return 1;
-    uint8_t fates[MOST];
     uint64_t row[5];
-    for (uint64_t a = 1; a <= pages; a++)
-        fates[a - 1] = fate_of(a, place - 1);
-    row_of(plain_get(page_at(place), 4, 8), fates, place - 1, row);
-    return row[3] == 0 && plain_get(page_at(place), 12, 16) == row[1] && start_of(place) > row[2];
+    row_of(file_of(place), NULL, place - 1, row);
+    return row[3] == 0 && link_of(place) == row[1] && start_of(place) > row[2];
 }
 
 static uint64_t inspected(void) {
@@ -37,16 +28,14 @@ static uint64_t inspected(void) {
 
 /* ---- random sheets */
 
-/* A page at a place that goes on from those below: mostly lawful, and now and then not. */
+/* A page at a place that goes on from those below: mostly lawful, and now and then not. It may be cut, and the place be blank again. */
 static void add_page(uint64_t place, int wild) {
-    uint8_t *page = sheet + PAGE * (place - 1), value[32] = {1, 2, 3}, fates[MOST];
-    static const uint8_t none[32];
+    static const uint8_t none[PAGE];
+    uint8_t *page = page_at(place), value[32] = {1, 2, 3};
     uint64_t row[5], kind = place == 1 ? 1 : 1 + below(4), file = 1 + below(FILES), action = 1 + below(place);
-    for (int k = 0; k < 20 && place > 1 && fate_of(action, place - 1) != 1; k++)
-        action = 1 + below(place - 1);
-    for (uint64_t a = 1; a <= pages; a++)
-        fates[a - 1] = fate_of(a, place - 1);
-    row_of(file, fates, place - 1, row);
+    for (uint64_t k = 0; k < 20 && place > 1 && fate_of(action, place - 1) != 1; k++)
+        action = 1 + (k < 10 ? below(place - 1) : (action + place - 3) % (place - 1));
+    row_of(file, NULL, place - 1, row);
     if (kind == 1)
         plain_pack(page, 1, 0, 0, place, 0, 0, none, place);
     else if (kind == 4)
@@ -57,107 +46,113 @@ static void add_page(uint64_t place, int wild) {
     if (!page_fits(place) && !(wild && below(4) == 0))
         plain_pack(page, 1, 0, 0, place, 0, 0, none, place);
     if (below(12) == 0)
-        memset(page + 1 + below(63), 0, 1), page[63] = 0; /* cut, or so it looks */
-    if (wild && below(30) == 0)
-        page[below(PAGE)] ^= (uint8_t)(1 + below(255));
-    if (wild && below(40) == 0)
-        memset(page, 0, PAGE);
+        cut_page(place, none);
 }
 
-static void fill_sheet(int wild) {
-    pages = 1 + below(MOST);
-    memset(sheet, 0, sizeof sheet);
-    uint64_t used = below(pages + 1);
-    for (uint64_t p = 1; p <= used; p++)
-        add_page(p, wild);
+static void damage(uint64_t place, uint64_t among) {
+    if (below(30 * among) == 0)
+        page_at(place)[below(PAGE)] ^= (uint8_t)(1 + below(255));
+    if (below(40 * among) == 0)
+        memset(page_at(place), 0, PAGE);
 }
+
+/* A large sheet has about as many wrong pages as a small one, so that some lie far up. */
+static void fill_sheet(uint64_t count, int wild) {
+    uint64_t used = count <= SMALL ? below(count + 1) : count - below(200), among = count <= SMALL ? 1 : count / 6;
+    pages = count;
+    memset(sheet, 0, PAGE * pages);
+    for (uint64_t p = 1; p <= used; p += !is_blank(p))
+        add_page(p, wild && below(among) == 0);
+    for (uint64_t p = 1; p <= used && wild; p++)
+        damage(p, among);
+}
+
+static uint64_t small_count(void) { return 1 + below(SMALL); }
+static uint64_t large_count(void) { return 1025 + below(MOST - 1024); }
 
 /* ---- the tests */
 
-static int opens_alike(int wild) {
-    for (int k = 0; k < SHEETS; k++) {
-        uint8_t fates[MOST];
-        uint64_t rows[5 * FILES], end, bad = 0, undecided = 0, got[TOLD];
-        fill_sheet(wild);
-        end = end_of();
-        for (uint64_t p = 1; p <= end; p++)
-            if (is_bad(p))
-                bad = p;
-        for (uint64_t a = 1; a <= pages; a++)
-            undecided += fate_of(a, end) == 1;
-        for (int w = 0; w < TOLD; w++) {
-            memset(fates, UNTOUCHED, sizeof fates);
-            memset(rows, UNTOUCHED, sizeof rows);
-            got[w] = bench_open(sheet, PAGE * pages, fates, pages, rows, 5 * FILES, 9, (uint64_t)w);
-        }
-        int is_right = got[WHICH] == (bad ? REFUSED : OPENED) && got[FIRST] == (bad ? 2 : end)
-                       && got[SECOND] == (bad ? bad : undecided) && got[END] == (bad ? 0 : end)
-                       && got[FLOOR] == (bad ? 0 : 9) && got[UNDECIDED] == (bad ? 0 : undecided);
-        for (uint64_t a = 1; a <= pages; a++)
-            is_right = is_right && fates[a - 1] == (bad ? UNTOUCHED : fate_of(a, end));
-        for (int i = 0; i < 5 * FILES; i++)
-            is_right = is_right && rows[i] == (bad ? UNTOUCHED * 0x0101010101010101u : 0);
-        if (!is_right)
-            return 0;
-    }
-    return 1;
+static int refused_seen;
+
+static int open_is_alike(void) {
+    struct kept was, left;
+    uint64_t a[TOLD];
+    memset(&was, UNTOUCHED, sizeof was);
+    was.floor = 9;
+    left = was;
+    plain_open(a, &left);
+    refused_seen += a[WHICH] == REFUSED;
+    return called_alike((struct call){.kind = OPEN}, sheet, was, a, &left);
 }
 
-/* Rows that are cold, rebuilt or damaged, under fates that may be anything. */
-static int rebuilds_alike(void) {
+static int opens_alike(uint64_t (*count)(void), int sheets, int wild) {
+    refused_seen = 0;
+    for (int k = 0; k < sheets; k++) {
+        fill_sheet(count(), wild);
+        if (!open_is_alike())
+            return 0;
+    }
+    return wild ? refused_seen > sheets / 20 && refused_seen < sheets - sheets / 20 : refused_seen == 0; /* not all alike */
+}
+
+static void plain_rebuild(uint64_t a[TOLD], struct kept *k, uint64_t file) {
+    if (k->end > pages || k->undecided > k->end)
+        return no(a, 1, 0);
+    if (file < 1 || file > FILES)
+        return no(a, 3, 0);
+    uint64_t *row = k->rows + 5 * (file - 1);
+    if (row[0] == 0)
+        row_of(file, k->fates, k->end, row);
+    for (int i = 1; i < 5; i += 2)
+        if (row[0] > 1 || (row[i] != 0 && (row[i] > k->end || !is_image(row[i], file))))
+            return no(a, 7, 0);
+    answer(a, REBUILT, row[1], row[2], row[3], row[4]);
+}
+
+/* Rows that are cold, rebuilt or damaged, under fates and a state that may be anything. */
+static struct kept random_kept(void) {
+    struct kept k = {.end = below(4) ? end_of() : below(pages + 2)};
+    k.undecided = below(4) ? 0 : below(k.end + 2);
+    for (uint64_t a = 1; a <= pages; a++)
+        k.fates[a - 1] = (uint8_t)(below(8) ? fate_of(a, k.end < pages ? k.end : pages) : below(6));
+    for (int i = 0; i < NUMBERS; i++)
+        k.rows[i] = below(2) ? 0 : below(pages + 2);
+    for (int i = 0; i < FILES; i++)
+        k.rows[5 * i] = below(10) ? below(2) : below(4);
+    return k;
+}
+
+static int rebuilds_alike(uint64_t (*count)(void), int sheets) {
     int seen[8] = {0};
-    for (int k = 0; k < SHEETS; k++) {
-        uint8_t fates[MOST];
-        uint64_t rows[5 * FILES], was[5 * FILES], number = 0;
-        fill_sheet(1);
-        uint64_t end = below(4) ? end_of() : below(pages + 2), file = below(FILES + 2);
-        for (uint64_t a = 1; a <= pages; a++)
-            fates[a - 1] = (uint8_t)(below(8) ? fate_of(a, end < pages ? end : pages) : below(6));
-        for (int i = 0; i < 5 * FILES; i++)
-            rows[i] = below(2) ? 0 : below(pages + 2);
-        for (int i = 0; i < FILES; i++)
-            rows[5 * i] = below(10) ? below(2) : below(4);
-        memcpy(was, rows, sizeof was);
-        if (end > pages)
-            number = 1;
-        else if (file < 1 || file > FILES)
-            number = 3;
-        else {
-            uint64_t *row = was + 5 * (file - 1);
-            if (row[0] == 0)
-                row_of(file, fates, end, row);
-            if (row[0] > 1)
-                number = 7;
-            for (int i = 1; i < 5; i += 2)
-                if (row[i] != 0 && (row[i] > end || !is_image(row[i], file)))
-                    number = 7;
-        }
-        uint64_t which = bench_rebuild(sheet, PAGE * pages, fates, pages, rows, 5 * FILES, end, 0, file, WHICH);
-        uint64_t first = bench_rebuild(sheet, PAGE * pages, fates, pages, rows, 5 * FILES, end, 0, file, FIRST);
-        if (which != (number ? REFUSED : REBUILT) || first != (number ? number : was[5 * (file - 1) + 1]))
+    for (int k = 0; k < sheets; k++) {
+        fill_sheet(count(), 1);
+        struct kept was = random_kept(), left = was;
+        uint64_t a[TOLD], file = below(10) ? 1 + below(FILES) : below(FILES + 2);
+        plain_rebuild(a, &left, file);
+        if (!called_alike((struct call){.kind = REBUILD, .file = file}, sheet, was, a, &left))
             return 0;
-        if (memcmp(rows, was, sizeof rows))
-            return 0;
-        seen[number]++;
+        seen[a[WHICH] == REFUSED ? a[FIRST] : 0]++;
     }
-    return seen[0] > SHEETS / 10 && seen[1] > 100 && seen[3] > 100 && seen[7] > 100;
+    return seen[0] > sheets / 10 && (sheets < SHEETS || (seen[1] > 100 && seen[3] > 100 && seen[7] > 100));
 }
 
-static int inspects_alike(int wild, int *lawful) {
-    for (int k = 0; k < SHEETS; k++) {
-        fill_sheet(wild);
+static int inspects_alike(uint64_t (*count)(void), int sheets, int wild) {
+    int lawful = 0, far = 0;
+    for (int k = 0; k < sheets; k++) {
+        fill_sheet(count(), wild);
         uint64_t place = inspected();
-        *lawful += place == 0;
+        lawful += place == 0;
+        far += place > pages / 2;
         if (bench_inspect(sheet, PAGE * pages, FILES) != place)
             return 0;
     }
-    return 1;
+    return wild ? lawful > sheets / 20 && lawful < sheets - sheets / 20 && far > sheets / 20 : lawful == sheets;
 }
 
 /* Line 1: the lengths. */
 static int sizes_alike(void) {
-    uint8_t fates[MOST] = {0};
-    uint64_t rows[5 * FILES] = {0};
+    uint8_t fates[4] = {0};
+    uint64_t rows[NUMBERS] = {0};
     memset(sheet, 0, sizeof sheet);
     for (uint64_t size = 0; size <= 3 * PAGE; size++)
         for (uint64_t n = 0; n <= 4; n++)
@@ -169,16 +164,68 @@ static int sizes_alike(void) {
     return 1;
 }
 
+/* ---- the longest sheet, full: an opening at each odd place and its commit above it but, at each eighth pair, another opening */
+
+enum { LONGEST = 65536 };
+static uint8_t longest[LONGEST * PAGE], longest_fates[LONGEST];
+
+static int is_pair_undecided(uint64_t place) { return (place - 1) % 16 < 2; }
+static int longest_fate(uint64_t place) { return is_pair_undecided(place) ? 1 : place % 2 ? 2 : 0; }
+
+static void fill_longest(void) {
+    static const uint8_t none[32];
+    for (uint64_t p = 1; p <= LONGEST; p++) {
+        int is_outcome = longest_fate(p) == 0;
+        plain_pack(longest + PAGE * (p - 1), is_outcome ? 3 : 1, is_outcome, 0, p - (uint64_t)is_outcome, 0, 0, none, p);
+    }
+}
+
+static int longest_opens(uint64_t bad) {
+    uint64_t rows[NUMBERS], told[TOLD], undecided = LONGEST / 8;
+    struct lent l = {longest, sizeof longest, longest_fates, LONGEST, rows, NUMBERS, 0, 9, 0};
+    memset(rows, UNTOUCHED, sizeof rows);
+    memset(longest_fates, UNTOUCHED, sizeof longest_fates);
+    make_call(l, (struct call){.kind = OPEN}, told);
+    int right = told[WHICH] == (bad ? REFUSED : OPENED) && told[FIRST] == (bad ? 2 : LONGEST) && told[SECOND] == (bad ? bad : undecided)
+                && told[END] == (bad ? 0 : LONGEST) && told[UNDECIDED] == (bad ? 0 : undecided) && (rows[0] == 0) == (bad == 0);
+    for (uint64_t p = 1; p <= LONGEST; p++)
+        right = right && longest_fates[p - 1] == (bad ? UNTOUCHED : longest_fate(p));
+    return right;
+}
+
+/* As it is, and with a byte of a check word changed: an opening takes the commit above it along. */
+static int longest_is_right(void) {
+    static const struct {
+        uint64_t changed, highest;
+    } cases[] = {{1, 1}, {1024, 1024}, {1025, 1025}, {1027, 1028}, {LONGEST - 1, LONGEST}, {LONGEST, LONGEST}};
+    fill_longest();
+    if (!longest_opens(0) || bench_inspect(longest, sizeof longest, FILES) != 0)
+        return 0;
+    for (size_t k = 0; k < sizeof cases / sizeof *cases; k++) {
+        uint8_t *byte = longest + PAGE * cases[k].changed - 3;
+        *byte ^= 1;
+        if (!longest_opens(cases[k].highest) || bench_inspect(longest, sizeof longest, FILES) != cases[k].changed)
+            return 0;
+        *byte ^= 1;
+    }
+    return 1;
+}
+
 int main(int count, char **words) {
-    int lawful = 0, unlawful = 0;
     seed = count > 1 ? strtoull(words[1], NULL, 10) | 1 : 20261115;
     printf("seed %llu\n", (unsigned long long)seed);
-    told("open, lawful sheets", opens_alike(0));
-    told("open, any sheets", opens_alike(1));
+    told("open, lawful sheets", opens_alike(small_count, SHEETS, 0));
+    told("open, any sheets", opens_alike(small_count, SHEETS, 1));
     told("open, lengths", sizes_alike());
-    told("rebuild, any rows and fates", rebuilds_alike());
-    told("inspect, lawful sheets", inspects_alike(0, &lawful) && lawful == SHEETS);
-    told("inspect, any sheets", inspects_alike(1, &unlawful) && unlawful > SHEETS / 10 && unlawful < SHEETS - SHEETS / 10);
+    told("rebuild, any rows and fates", rebuilds_alike(small_count, SHEETS));
+    told("inspect, lawful sheets", inspects_alike(small_count, SHEETS, 0));
+    told("inspect, any sheets", inspects_alike(small_count, SHEETS, 1));
+    told("open, lawful sheets of more than 1,024 pages", opens_alike(large_count, LARGE_SHEETS, 0));
+    told("open, any sheets of more than 1,024 pages", opens_alike(large_count, LARGE_SHEETS, 1));
+    told("rebuild, on more than 1,024 pages", rebuilds_alike(large_count, LARGE_SHEETS));
+    told("inspect, lawful sheets of more than 1,024 pages", inspects_alike(large_count, LARGE_SHEETS, 0));
+    told("inspect, any sheets of more than 1,024 pages", inspects_alike(large_count, LARGE_SHEETS, 1));
+    told("open and inspect, 65,536 pages", longest_is_right());
     printf("%d passed, %d failed\n", passed, failed);
     return failed != 0;
 }

@@ -203,23 +203,33 @@ static int long_files_are_right(void) {
     return 1;
 }
 
+/* The options that are answered alone; any other, and any word after one, is wrong. */
+static int is_option(int count, char **words) {
+    return count == 2 && (strcmp(words[1], "-h") == 0 || strcmp(words[1], "--version") == 0);
+}
+
 /* Words that are no command, or a command with wrong ones. */
 static int words_are_right(void) {
-    static char *const known[] = {"blank", "inspect", "show", "pack", "image", "opening", "committed", "aborted", "0", "1", "2", "5",
-                                  "257", "65537", "-1", "18446744073709551616", "", "0x", "0x0", "0xzz", "a", "1 ", "no/file"};
+    static char *const known[] = {"blank", "inspect", "show", "pack", "-h", "--version", "-x", "image", "opening", "committed",
+                                  "aborted", "0", "1", "2", "5", "257", "65537", "-1", "18446744073709551616", "", "0x", "0x0",
+                                  "0xzz", "a", "1 ", "no/file"};
+    int options_seen = 0;
     for (int run = 0; run < 20 * RUNS; run++) {
         char *words[12] = {"sheet"};
         int count = 1 + (int)below(11);
         for (int i = 1; i < count; i++)
-            words[i] = known[below(i == 1 ? 4 : sizeof known / sizeof *known)];
+            words[i] = known[below(i == 1 ? 7 : sizeof known / sizeof *known)];
         struct said s = say(count, words);
-        /* no file of these names is there: only pages can be answered */
-        int is_right = s.status == FINE ? s.out_size == PAGE && s.err_size == 0 : s.out_size == 0 && s.err_size > 0;
+        /* no file of these names is there: only pages and options can be answered */
+        int is_asked = is_option(count, words), is_page = s.out_size == PAGE && !is_asked;
+        int is_right = s.status == FINE ? (is_page || is_asked) && s.out_size > 0 && s.err_size == 0
+                                        : !is_asked && s.out_size == 0 && s.err_size > 0;
         if (!is_right)
             return printf("%s: %s%s\n", words[1], s.out, s.err), 0;
+        options_seen += is_asked;
         forget(s);
     }
-    return 1;
+    return options_seen > RUNS / 4;
 }
 
 int main(int count, char **words) {

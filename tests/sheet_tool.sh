@@ -123,14 +123,21 @@ expect 1 "" "sheet: no such page: a value has at most 32 bytes, not 33" pack 8 2
 expect 2 "" "sheet: VALUE: not pairs of hexadecimal digits (0 to 9, a to f): 0x123" pack 8 2 image 1 1 0 1 0x123
 expect 2 "" "sheet: VALUE: not pairs of hexadecimal digits (0 to 9, a to f): 0x1G" pack 8 2 image 1 1 0 1 0x1G
 expect 2 "" "sheet: LINK: not a number from 0 to 18446744073709551615: -1" pack 8 2 image 1 1 -1 1 a
-expect 2 "" "sheet: PLACE: not a number from 0 to 65536: 65537" pack 8 65537 opening
-expect 2 "" "sheet: PLACE is 1 to 65536, not 0" pack 8 0 opening
+for place in 0 65537 18446744073709551617 -1 ""; do
+    expect 2 "" "sheet: PLACE is 1 to 65536, not $place" pack 8 "$place" opening
+done
+expect 2 "" "sheet: FILES is 1 to 256, not 0" pack 0 0 opening
 expect 2 "" "sheet: pack what? See sheet help" pack 8 1 opening 1
 
-# ---- words
+# ---- words and options
 help=$("$tool" help)
 expect 0 "$help" "" --help
+expect 0 "$help" "" -h
+expect 0 "sheet 1.0" "" --version
 expect 2 "" "$help"
+expect 2 "" "$help" -x
+expect 2 "" "$help" --help blank
+expect 2 "" "$help" --version 1
 expect 2 "" "$help" blank
 expect 2 "" "$help" show 8
 expect 2 "" "$help" repair 8 lawful

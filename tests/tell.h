@@ -18,6 +18,7 @@ __attribute__((unused)) static uint64_t below(uint64_t n) {
 
 static void told(const char *what, int ok) {
     printf("%s: %s\n", ok ? "ok" : "FAILED", what);
+    fflush(stdout);
     if (ok)
         passed++;
     else

@@ -5,6 +5,7 @@ pub mod Refusals
 pub mod OnePage
 pub mod OtherRows
 pub mod Rebuilding
+pub mod CutLaws
 pub mod Once
 pub mod DecideLines
 pub mod DecideRows

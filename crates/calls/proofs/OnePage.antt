@@ -87,3 +87,17 @@ module _ (s fs rs : List ℕ) (st : State) where
       go : (b : Bool) → SameBut (st .end) s (cond b (lower s (st .end) (call (lent s fs rs st) k)) (refused 1 0 s fs rs st) .sheet)
       go true = lowered (call (lent s fs rs st) k) (grows (lent s fs rs st) k)
       go false = same (st .end) s
+
+  -- a call that raises the end had a whole page above it
+  raised : (r : Result) → Grows (lent s fs rs st) r → (r .1 .end ≡ st .end → ⊥) → pageSize * st .end + pageSize ≤ length s
+  unfolding Grows
+  raised r (inl e) h = absurd (h e)
+  raised r (inr g) h = let room : st .end < length s / pageSize = rw (pages-long (length rs / rowLength) (length s / pageSize) s) at (g .0) in omega arith
+
+  pub room-above : (k : Call) → (callLeaves s fs rs st k .state .end ≡ st .end → ⊥) → pageSize * st .end + pageSize ≤ length s
+  unfolding callLeaves
+  room-above k = go (whole (length s) (length rs))
+    where
+      go : (b : Bool) → (cond b (lower s (st .end) (call (lent s fs rs st) k)) (refused 1 0 s fs rs st) .state .end ≡ st .end → ⊥) → pageSize * st .end + pageSize ≤ length s
+      go true h = raised (call (lent s fs rs st) k) (grows (lent s fs rs st) k) h
+      go false h = absurd (h refl)

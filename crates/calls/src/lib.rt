@@ -2,6 +2,7 @@
 // call left them, trusts none of it, and answers with the state that the next one gets.
 mod appending;
 mod deciding;
+mod making;
 mod reading;
 mod writing;
 
@@ -9,5 +10,7 @@ pub use deciding::abort;
 pub use deciding::begin;
 pub use deciding::commit;
 pub use deciding::test;
+pub use making::Call;
+pub use making::make;
 pub use reading::read;
 pub use writing::write;

@@ -14,7 +14,8 @@ use Rattle.page.specs.Layout.{valueSize}
 use Rattle.page.specs.Answers.{packs, packNumber, tested, testNumber, testValues}
 use Rattle.recovery.specs.declared.Inspected.{Inspected}
 use Rattle.recovery.specs.Lent.{inspected}
-use Rattle.desk.specs.Exports.{fieldCount, numbered, packedFor, fieldsGiven, testedFor, placeOrRefusal, inspectedFor}
+use Rattle.recovery.specs.Numbers.{inspectNumber, inspectPlace}
+use Rattle.desk.specs.Exports.{fieldCount, numbered, packedFor, fieldsGiven, testedFor, refusal, inspectedFor}
 
 -- six stores fill six numbers
 pub six-stores : (xs : List ℕ) (a b c d e f : ℕ) → length xs ≡ fieldCount
@@ -62,6 +63,10 @@ pack-left p value bytes zeros place files out left a r l z b h n =
 
 -- ---- inspection
 
-pub inspect-told : (s : List ℕ) (files : ℕ) (a v : Inspected) → a ≡ inspected s files → a ≡ v → placeOrRefusal v ≡ inspectedFor s files
+-- the answer in one number
+abbrev told : Inspected → ℕ
+told x = cond (eqb (inspectNumber x) 0) (inspectPlace x) refusal
+
+pub inspect-told : (s : List ℕ) (files : ℕ) (a v : Inspected) → a ≡ inspected s files → a ≡ v → told v ≡ inspectedFor s files
 unfolding inspectedFor
-inspect-told s files a v e h = ap placeOrRefusal (sym h ∙ e)
+inspect-told s files a v e h = ap told (sym h ∙ e)

@@ -9,9 +9,8 @@ use Rattle.page.specs.declared.Packing.{Packing}
 use Rattle.page.specs.declared.Unpacked.{Unpacked}
 use Rattle.page.specs.Layout.{valueSize}
 use Rattle.page.specs.Answers.{packs, packNumber, tested, testNumber, testValues}
-use Rattle.recovery.specs.declared.Inspected as inspection
-use Rattle.recovery.specs.declared.Inspected.{Inspected}
 use Rattle.recovery.specs.Lent.{inspected}
+use Rattle.recovery.specs.Numbers.{inspectNumber, inspectPlace}
 
 -- kind to start
 abbrev pub fieldCount : ℕ
@@ -35,9 +34,5 @@ testedFor part place files fields = cond (eqb (length fields) fieldCount) (field
 abbrev pub refusal : ℕ
 refusal = 0xffffffffffffffff
 
-abbrev pub placeOrRefusal : Inspected → ℕ
-placeOrRefusal inspection.Inspected.Refused = refusal
-placeOrRefusal (inspection.Inspected.Lowest place) = place
-
 unfoldable pub inspectedFor : List ℕ → ℕ → ℕ
-inspectedFor s files = placeOrRefusal (inspected s files)
+inspectedFor s files = cond (eqb (inspectNumber (inspected s files)) 0) (inspectPlace (inspected s files)) refusal

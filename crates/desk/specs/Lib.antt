@@ -1,3 +1,4 @@
+pub mod Wording
 pub mod Conversation
 pub mod Turns
 pub mod Exports

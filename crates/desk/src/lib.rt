@@ -1,10 +1,13 @@
 // The desk: its conversation with the store, command by command, and three functions for C.
-mod conversation;
+mod cutting;
 mod exports;
+mod showing;
+mod talking;
 
-pub use conversation::Desk;
-pub use conversation::ROWS;
-pub use conversation::SHEET;
-pub use conversation::Said;
-pub use conversation::answer;
-pub use conversation::closed_desk;
+pub use talking::Desk;
+pub use talking::PAGES;
+pub use talking::ROWS;
+pub use talking::SHEET;
+pub use talking::Said;
+pub use talking::answer;
+pub use talking::closed_desk;

@@ -4,12 +4,13 @@ use Prim.Native.Nat.{ℕ}
 use mathlib.Core.Path.{_≡_, refl}
 use mathlib.Core.List.{List, [], _∷_}
 use lib.ListN.{replicate}
-use Rattle.lines.specs.Names.{openName, beginName, writeName, readName, testName, commitName, abortName, cutName}
-use Rattle.lines.specs.Commands.{words, numberOf, three, isText, alone, withOne, withTwo, withThree, withText, commandOf, parsed}
+use Rattle.commands.specs.Names.{openName, beginName, writeName, readName, testName, commitName, abortName, cutName}
+use Rattle.commands.specs.Commands.{words, numberOf, three, isText, alone, withOne, withTwo, withThree, withText, commandOf, parsed}
 use Rattle.promises.specs.Runs.{Run}
-use Rattle.program.specs.Talks.{runOf, AllKeep, pageCount, turned, tableAfter}
-use Rattle.lines.specs.declared.parsing.Command as command
-use Rattle.lines.specs.declared.printing.Reply as reply
+use Rattle.program.specs.Program.{runOf, AllKeep, pageCount, turned, memoryAfter}
+use Rattle.calls.specs.declared.making.Call as code
+use Rattle.commands.specs.declared.parsing.Command as command
+use Rattle.commands.specs.declared.printing.Reply as reply
 use Rattle.page.specs.Table.{head, front, packed, fieldsOf, lowest, highest, within, between, meetsRules, isPageOf, torn}
 use Rattle.page.specs.Answers.{inBounds, tested}
 use Rattle.recovery.specs.Places.{tabulate}
@@ -21,10 +22,11 @@ use Rattle.recovery.specs.Numbers.{isRefused}
 use Rattle.calls.specs.Walk.{follow}
 use Rattle.calls.specs.Calls.{eachRow, call}
 use Rattle.calls.specs.Effect.{packedEntry, withPage, callLeaves}
+use Rattle.desk.specs.Wording.{callReply, openReply}
 use Rattle.desk.specs.Conversation.{startedFor, openedFor, calledFor, acted}
 use Rattle.program.specs.Typing.{WasTyped, textOf}
-use Rattle.program.proofs.Talked.{talks}
-use Rattle.program.proofs.Typed.{reads-typed}
+use Rattle.program.proofs.Proved.{program}
+use Rattle.program.proofs.TextTyped.{reads-typed}
 
 abbrev pub listing : List (List ℕ)
 listing =
@@ -51,7 +53,7 @@ unfolding words numberOf three isText alone withOne withTwo withThree withText c
 listing-keeps = (λ e. refl, (tt, (tt, (tt, (tt, (tt, (tt, (tt, (tt, (tt, (tt, (λ e. refl, (tt, (tt, (tt, (tt, tt))))))))))))))))
 
 pub listing-runs : Run pageCount 8 (runOf 8 (replicate 256 0) (replicate 1280 0) listing)
-listing-runs = talks 8 refl (replicate 256 0) (replicate 1280 0) refl .is-run listing listing-keeps
+listing-runs = program 8 refl (replicate 256 0) (replicate 1280 0) refl .is-run listing listing-keeps
 
 -- a value written and read within its action
 abbrev short : List (List ℕ)
@@ -60,18 +62,18 @@ short = (111 ∷ 112 ∷ 101 ∷ 110 ∷ []) ∷ (98 ∷ 101 ∷ 103 ∷ 105 ∷
 abbrev asks : List ℕ
 asks = 114 ∷ 101 ∷ 97 ∷ 100 ∷ 32 ∷ 51 ∷ 32 ∷ 49 ∷ 48 ∷ 32 ∷ 49 ∷ []
 
-shown-short : turned (tableAfter 8 (replicate 256 0) (replicate 1280 0) short) asks .turn .reply ≡ reply.Reply.Shown 2 10
-unfolding words numberOf three isText alone withOne withTwo withThree withText commandOf parsed openName beginName writeName readName testName commitName abortName cutName startedFor openedFor calledFor acted head front packed fieldsOf lowest highest within between meetsRules isPageOf torn inBounds tested tabulate fateOf imagesOf currentOf tokenOf decoded sealed pages down warmRow rowHolds lentRight endOf highestBad undecidedOf coldRows opened rowsOf flat sizesRight openLeaves follow eachRow call packedEntry withPage callLeaves isRefused
+shown-short : turned (memoryAfter 8 (replicate 256 0) (replicate 1280 0) short) asks .turn .reply ≡ reply.Reply.Shown 2 10 2
+unfolding words numberOf three isText alone withOne withTwo withThree withText commandOf parsed openName beginName writeName readName testName commitName abortName cutName callReply openReply startedFor openedFor calledFor acted head front packed fieldsOf lowest highest within between meetsRules isPageOf torn inBounds tested tabulate fateOf imagesOf currentOf tokenOf decoded sealed pages down warmRow rowHolds lentRight endOf highestBad undecidedOf coldRows opened rowsOf flat sizesRight openLeaves follow eachRow call packedEntry withPage callLeaves isRefused
 shown-short = refl
 
 short-keeps : AllKeep 8 short
 unfolding words numberOf three isText alone withOne withTwo withThree withText commandOf parsed openName beginName writeName readName testName commitName abortName cutName
 short-keeps = (λ e. refl, (tt, (tt, tt)))
 
-asks-read : parsed asks ≡ command.Command.Read 3 10 1
+asks-read : parsed asks ≡ command.Command.Call (code.Call.Read 3 10 1) 11
 unfolding words numberOf three isText alone withOne withTwo withThree withText commandOf parsed openName beginName writeName readName testName commitName abortName cutName
 asks-read = refl
 
 -- the text that it shows was typed
-pub short-typed : WasTyped short 3 10 (textOf (turned (tableAfter 8 (replicate 256 0) (replicate 1280 0) short) asks))
-short-typed = reads-typed 8 refl (replicate 256 0) (replicate 1280 0) refl short asks 3 10 1 2 10 short-keeps asks-read shown-short
+pub short-typed : WasTyped short 3 10 (textOf (turned (memoryAfter 8 (replicate 256 0) (replicate 1280 0) short) asks))
+short-typed = reads-typed 8 refl (replicate 256 0) (replicate 1280 0) refl short asks 3 10 1 11 2 10 2 short-keeps asks-read shown-short

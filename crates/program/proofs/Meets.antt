@@ -1,18 +1,16 @@
--- A line said to the program and the event that it is: they leave the same sheet, and the reply is what the box answers.
-use Prim.Native.Nat.{ℕ, _+_, _*_, _/_, _≤_}
+-- A line said to the program and the event that it is: they leave the same sheet, and the reply is what the box answers. Assumes nothing.
+use Prim.Native.Nat.{ℕ, _*_, _/_, _≤_}
 use mathlib.Core.Path.{_≡_, refl, sym, ap, _∙_, subst}
 use mathlib.Core.List.{List, [], _++_}
 use mathlib.Core.Bool.{Bool, true, false, cond, not, _&&_}
-use mathlib.Core.Option.{none}
 use native.Mathlib.Omega.{arith}
-use lib.ListN.{length, take, drop, length-append, length-take, length-drop, length-replicate}
+use lib.ListN.{length, take, drop, length-append, length-drop, length-replicate}
 use lib.Seq.{take-at, length-take-le}
-use lib.Dec.{eqb, leb}
+use lib.Dec.{eqb}
 use Rattle.encoding.proofs.Logic.{by-test, and-true, is-false}
-use Rattle.page.specs.Layout.{pageSize, mostFiles}
-use Rattle.recovery.specs.declared.Answer as answers
+use Rattle.page.specs.Layout.{mostFiles}
 use Rattle.recovery.specs.declared.Answer.{Answer}
-use Rattle.recovery.specs.Numbers.{isRefused}
+use Rattle.recovery.specs.Numbers.{numbersOf, isRefused}
 use Rattle.recovery.specs.World.{Result, sizes, isFile, coldRows, opened, down, endOf, highestBad, refuse, unopened}
 use Rattle.recovery.specs.Lent.{Left, rowLength, rowsOf, flat, pagesOf, whole, sizesRight, leaves, refused, closed, leftBy, openLeaves}
 use Rattle.recovery.specs.OpenSteps.{refusal}
@@ -22,125 +20,105 @@ use Rattle.recovery.proofs.OpeningLaws.{open-refused}
 use Rattle.recovery.proofs.OpeningRuns.{cold-flat}
 use Rattle.recovery.proofs.Lookups.{is-file}
 use Rattle.recovery.proofs.Leaves.{rows-back}
+use Rattle.calls.specs.declared.making.Call as code
 use Rattle.calls.specs.Calls.{Call}
+use Rattle.calls.specs.Asked.{asked}
 use Rattle.calls.specs.Effect.{callLeaves}
-use Rattle.calls.proofs.OnePage.{only-one-page}
-use Rattle.lines.specs.declared.parsing.Command as command
-use Rattle.lines.specs.declared.parsing.Command.{Command}
-use Rattle.lines.specs.declared.printing.Reply as reply
-use Rattle.desk.specs.Conversation.{After, callOf, replyOf, answered, lost, acted, openedFor, lending, replied, isOpen, calledFor, startedFor, conversed, sheetSize}
-use Rattle.calls.specs.Cuts.{storedOf, firstBytes}
-use Rattle.promises.specs.Runs.{Box, on, off, sheetOf, Event, calls, opens, cuts, boxOf, answerTo, after, runs}
-use Rattle.promises.proofs.FirstToLast.{first-to-last}
-use Rattle.seams.proofs.OtherRows.{rows-as-many}
-use Rattle.program.specs.Talks.{Table, leftOn, callEvent, rowsFor, eventOf, listed, inWords, shownOf, replyHeard, sizeHeard}
+use Rattle.calls.specs.Cuts.{firstBytes}
+use Rattle.commands.specs.declared.parsing.Command as command
+use Rattle.commands.specs.declared.parsing.Command.{Command}
+use Rattle.commands.specs.declared.printing.Reply as reply
+use Rattle.desk.specs.Wording.{callReply, openReply}
+use Rattle.desk.specs.Conversation.{After, answered, lost, isStruck, acted, openedFor, lending, replied, isOpen, calledFor, startedFor, conversed}
+use Rattle.promises.specs.Runs.{Box, on, off, sheetOf, Event, calls, cuts, boxOf, answerTo, numbered, after, runs}
+use Rattle.calls.proofs.OtherRows.{rows-as-many}
+use Rattle.program.specs.Program.{Memory, memoryOf, callEvent, openEvent, eventsOf, inWords, replyHeard}
 
--- ---- a table and a box that has the same
+-- ---- the program's memory and a box that has the same
 
-abbrev pub leftFor : Table → Answer → Left
-leftFor t a = record { answer = a; state = t .desk .state; sheet = t .sheet; fates = t .fates; rows = take (rowLength * t .desk .files) (t .rows) }
+abbrev pub leftFor : Memory → Answer → Left
+leftFor m a = record { answer = a; state = m .desk .state; sheet = m .sheet; fates = m .fates; rows = take (rowLength * m .desk .files) (m .rows) }
 
-pub data Met (t : Table) : Box → Type 0 where
-  met-on : isOpen (t .desk) ≡ true → (a : Answer) → Met t (on (leftFor t a))
-  met-off : isOpen (t .desk) ≡ false → Met t (off (t .sheet))
+pub data Met (m : Memory) : Box → Type 0 where
+  met-on : isOpen (m .desk) ≡ true → (a : Answer) → Met m (on (leftFor m a))
+  met-off : isOpen (m .desk) ≡ false → Met m (off (m .sheet))
 
-pub record SetUp (t : Table) : Type 0 where
-  pub sheet : length (t .sheet) ≡ sheetSize
-  pub rows : length (t .rows) ≡ rowLength * mostFiles
+pub met-sheet : (m : Memory) (b : Box) → Met m b → m .sheet ≡ sheetOf b
+met-sheet m b (met-on o a) = refl
+met-sheet m b (met-off o) = refl
 
--- ---- what a line leaves, and the event
-
-pub record Steps (t : Table) (b : Box) (c : Command) (x : After) (e : Event) : Type 0 where
-  pub next : Met (leftOn x) (after b e)
-  pub set : SetUp (leftOn x)
-  pub reply : x .turn .reply ≡ inWords c e (answerTo b e)
-  pub size : x .turn .size ≡ shownOf e (answerTo b e)
+-- the rows of as many files as there can be
+abbrev pub AllRows : List ℕ → Type 0
+AllRows rows = length rows ≡ rowLength * mostFiles
 
 -- rows lent from the front of all there are, and given back
-module _ (rows back : List ℕ) (n : ℕ) (l : length rows ≡ rowLength * mostFiles) (h : n ≤ rowLength * mostFiles) (k : length back ≡ n) where
+module _ (rows back : List ℕ) (n : ℕ) (l : AllRows rows) (h : n ≤ rowLength * mostFiles) (k : length back ≡ n) where
   front-back : take n (back ++ drop n rows) ≡ back
   front-back = take-at back (drop n rows) n k
 
-  back-long : length (back ++ drop n rows) ≡ rowLength * mostFiles
+  back-long : AllRows (back ++ drop n rows)
   back-long = simp (length-append, length-drop) (omega arith)
+
+-- what a line leaves, and the box after its event
+pub record Steps (x : After) (b : Box) (r : reply.Reply) : Type 0 where
+  pub next : Met (memoryOf x) b
+  pub rows : AllRows (x .rows)
+  pub reply : x .turn .reply ≡ r
 
 -- ---- a call
 
-module _ (t : Table) (s : SetUp t) (c : Command) (line : List ℕ) where
+module _ (m : Memory) (s : AllRows (m .rows)) (c : code.Call) (value : List ℕ) where
   abbrev k : Call
-  k = callOf c line
+  k = asked c value
 
   abbrev n : ℕ
-  n = rowLength * t .desk .files
+  n = rowLength * m .desk .files
 
   abbrev X : Left
-  X = callLeaves (t .sheet) (t .fates) (take n (t .rows)) (t .desk .state) k
+  X = callLeaves (m .sheet) (m .fates) (take n (m .rows)) (m .desk .state) k
 
   abbrev madeBy : Bool → After
-  madeBy z = lending (t .rows) n (cond z (lost (t .desk) (t .sheet) X) (answered (t .desk) c X))
+  madeBy z = lending (m .rows) n (cond z (lost (m .desk) (m .sheet) X) (answered (m .desk) c X))
 
   abbrev eventBy : Bool → Event
-  eventBy z = cond z (cuts k (firstBytes (t .desk .cut))) (calls k)
+  eventBy z = cond z (cuts k (firstBytes (m .desk .cut))) (calls k)
 
-  module _ (o : isOpen (t .desk) ≡ true) (a : Answer) where
+  abbrev StepsBy : Box → After → Event → Type 0
+  StepsBy b x e = Steps x (after b e) (inWords (callReply c) e (numbered (answerTo b e)))
+
+  module _ (o : isOpen (m .desk) ≡ true) (a : Answer) where
     few : n ≤ rowLength * mostFiles
-    few = let f = is-file mostFiles (t .desk .files) (and-true (t .desk .on) (isFile mostFiles (t .desk .files)) o .1) in omega arith
-
-    lent-long : length (take n (t .rows)) ≡ n
-    lent-long = length-take-le n (t .rows) (omega (arith, few, s .rows))
+    few = let f = is-file mostFiles (m .desk .files) (and-true (m .desk .on) (isFile mostFiles (m .desk .files)) o .1) in omega arith
 
     rows-are : length (X .rows) ≡ n
-    rows-are = rows-as-many (t .sheet) (t .fates) (take n (t .rows)) (t .desk .state) k ∙ lent-long
+    rows-are = rows-as-many (m .sheet) (m .fates) (take n (m .rows)) (m .desk .state) k ∙ length-take-le n (m .rows) (omega (arith, few, s))
 
-    sheet-is : length (X .sheet) ≡ sheetSize
-    sheet-is = only-one-page (t .sheet) (t .fates) (take n (t .rows)) (t .desk .state) k .long ∙ s .sheet
-
-    -- what the cut leaves is what a cut of the run leaves
-    cut-sheet : storedOf (firstBytes (t .desk .cut)) (t .desk .state .end) (X .sheet) (t .sheet)
-        ≡ take (pageSize * t .desk .state .end + t .desk .cut) (X .sheet) ++ drop (pageSize * t .desk .state .end + t .desk .cut) (t .sheet)
-    cut-sheet = first-to-last (t .desk .state .end) (t .desk .cut) (t .sheet) (X .sheet) (only-one-page (t .sheet) (t .fates) (take n (t .rows)) (t .desk .state) k)
-
-    made : (z : Bool) → Steps t (on (leftFor t a)) c (madeBy z) (eventBy z)
-    made true = record {
-      next = subst (λ u. Met (leftOn (madeBy true)) (off u)) (sym cut-sheet) (met-off refl);
-      set = record {
-        sheet = simp (length-append, length-take, length-drop) (omega (arith, sheet-is, s .sheet));
-        rows = back-long (t .rows) (X .rows) n (s .rows) few rows-are;
-      };
-      reply = refl;
-      size = refl;
-    }
+    made : (z : Bool) → StepsBy (on (leftFor m a)) (madeBy z) (eventBy z)
+    made true = record { next = met-off refl; rows = back-long (m .rows) (X .rows) n s few rows-are; reply = refl }
     made false = record {
-      next = subst (λ r. Met (leftOn (madeBy false)) (on (record { answer = X .answer; state = X .state; sheet = X .sheet; fates = X .fates; rows = r })))
-          (front-back (t .rows) (X .rows) n (s .rows) few rows-are) (met-on (and-true (t .desk .on) (isFile mostFiles (t .desk .files)) o .1) (X .answer));
-      set = record { sheet = sheet-is; rows = back-long (t .rows) (X .rows) n (s .rows) few rows-are };
+      next = subst (λ r. Met (memoryOf (madeBy false)) (on (record { answer = X .answer; state = X .state; sheet = X .sheet; fates = X .fates; rows = r })))
+          (front-back (m .rows) (X .rows) n s few rows-are) (met-on (and-true (m .desk .on) (isFile mostFiles (m .desk .files)) o .1) (X .answer));
+      rows = back-long (m .rows) (X .rows) n s few rows-are;
       reply = refl;
-      size = refl;
     }
 
   abbrev struck : Bool
-  struck = leb (t .desk .cut) pageSize && not (eqb (X .state .end) (t .desk .state .end))
+  struck = isStruck (m .desk) (X .state)
 
-  call-open : isOpen (t .desk) ≡ true → madeBy struck ≡ calledFor (t .desk) (t .sheet) (t .fates) (t .rows) c line
+  -- what is left, and the event, by whether there is a state
+  abbrev leftBy-open : Bool → After
+  leftBy-open b = cond b (madeBy struck) (replied reply.Reply.Closed (m .desk) (m .sheet) (m .fates) (m .rows))
+
+  abbrev event-open : Bool → Event
+  event-open b = eventBy (b && struck)
+
+  by-open : (b : Box) (z : Bool) → isOpen (m .desk) ≡ z → StepsBy b (leftBy-open z) (event-open z) → StepsBy b (calledFor (m .desk) (m .sheet) (m .fates) (m .rows) c value) (callEvent m k)
   unfolding calledFor acted
-  call-open o = sym (ap (λ b. cond b (madeBy struck) (replied reply.Reply.Closed (t .desk) (t .sheet) (t .fates) (t .rows))) o)
+  by-open b z e h = subst (λ z. StepsBy b (leftBy-open z) (event-open z)) (sym e) h
 
-  event-open : isOpen (t .desk) ≡ true → eventBy struck ≡ callEvent t k
-  event-open o = sym (ap (λ b. cond (b && leb (t .desk .cut) pageSize && not (eqb (X .state .end) (t .desk .state .end))) (cuts k (firstBytes (t .desk .cut))) (calls k)) o)
-
-  call-closed : isOpen (t .desk) ≡ false → replied reply.Reply.Closed (t .desk) (t .sheet) (t .fates) (t .rows) ≡ calledFor (t .desk) (t .sheet) (t .fates) (t .rows) c line
-  unfolding calledFor acted
-  call-closed o = sym (ap (λ b. cond b (madeBy struck) (replied reply.Reply.Closed (t .desk) (t .sheet) (t .fates) (t .rows))) o)
-
-  event-closed : isOpen (t .desk) ≡ false → calls k ≡ callEvent t k
-  event-closed o = sym (ap (λ b. cond (b && leb (t .desk .cut) pageSize && not (eqb (X .state .end) (t .desk .state .end))) (cuts k (firstBytes (t .desk .cut))) (calls k)) o)
-
-  pub call-steps : (b : Box) → Met t b → Steps t b c (calledFor (t .desk) (t .sheet) (t .fates) (t .rows) c line) (callEvent t k)
-  call-steps b (met-on o a) = subst (λ x. Steps t (on (leftFor t a)) c x (callEvent t k)) (call-open o) (subst (λ e. Steps t (on (leftFor t a)) c (madeBy struck) e) (event-open o) (made o a struck))
-  call-steps b (met-off o) =
-      subst (λ x. Steps t (off (t .sheet)) c x (callEvent t k)) (call-closed o)
-      (subst (λ e. Steps t (off (t .sheet)) c (replied reply.Reply.Closed (t .desk) (t .sheet) (t .fates) (t .rows)) e) (event-closed o)
-      (record { next = met-off o; set = s; reply = refl; size = refl }))
+  call-steps : (b : Box) → Met m b → StepsBy b (calledFor (m .desk) (m .sheet) (m .fates) (m .rows) c value) (callEvent m k)
+  call-steps b (met-on o a) = by-open (on (leftFor m a)) true o (made o a struck)
+  call-steps b (met-off o) = by-open (off (m .sheet)) false o (record { next = met-off o; rows = s; reply = refl })
 
 -- ---- an opening
 
@@ -158,126 +136,68 @@ opened-long s fates rows floor =
     (λ k. by-test (λ (r : Result). length (flat (r .1 .rows)) ≡ length rows) (eqb (highestBad (down (pagesOf s (length rows / rowLength)) (endOf (pagesOf s (length rows / rowLength)) (length (pagesOf s (length rows / rowLength)))))) 0)
     (λ q. cold-long) (λ q. ap length back)) (λ k. ap length back)) (λ e. refl)
 
-opened-sheet : (s fates rows : List ℕ) (floor : ℕ) → openLeaves s fates rows floor .sheet ≡ s
-unfolding openLeaves
-opened-sheet s fates rows floor = by-test (λ (x : Left). x .sheet ≡ s) (whole (length s) (length rows))
-    {x = leaves s (opened (pagesOf s (length rows / rowLength)) fates (rowsOf rows) floor)} {y = refused 1 0 s fates rows closed} (λ e. refl) (λ e. refl)
-
 -- with no rows it is refused by line 1
 no-rows : (s fates : List ℕ) (floor : ℕ) → leftBy (refusal 1 0) s fates [] ≡ openLeaves s fates [] floor
 no-rows s fates floor =
     open-refused s fates [] floor (is-false (sizesRight (length s) (length fates) 0) (λ e. omega (arith, sizes-right (length s) (length fates) 0 e .some-files))) (refusal 1 0) refl
 
--- a word of another command: only a place that was stored is told apart
-same-word : (files floor : ℕ) (x : Answer) → replyOf command.Command.What x ≡ replyOf (command.Command.Open files floor) x
-same-word files floor (answers.Answer.Refused number place) = refl
-same-word files floor (answers.Answer.Opened end undecided) = refl
-same-word files floor (answers.Answer.Rebuilt a b c d) = refl
-same-word files floor (answers.Answer.Stored place) = refl
-same-word files floor (answers.Answer.Value place start size) = refl
-same-word files floor answers.Answer.Nothing = refl
-same-word files floor (answers.Answer.Told fate) = refl
-
-met-sheet : (t : Table) (b : Box) → Met t b → sheetOf b ≡ t .sheet
-met-sheet t b (met-on o a) = refl
-met-sheet t b (met-off o) = refl
-
-module _ (t : Table) (s : SetUp t) (files floor : ℕ) where
-  abbrev c : Command
-  c = command.Command.Open files floor
-
-  abbrev m : ℕ
-  m = rowLength * files
+module _ (m : Memory) (s : AllRows (m .rows)) (files floor : ℕ) where
+  abbrev q : ℕ
+  q = rowLength * files
 
   abbrev Y : Left
-  Y = openLeaves (t .sheet) (t .fates) (take m (t .rows)) floor
+  Y = openLeaves (m .sheet) (m .fates) (take q (m .rows)) floor
 
   abbrev openBy : Bool → After
-  openBy r = lending (t .rows) m (record {
-    turn = record { reply = replyOf command.Command.What (Y .answer); size = 0; desk = record { on = not r; files = files; state = Y .state; cut = t .desk .cut } };
+  openBy r = lending (m .rows) q (record {
+    turn = record { reply = openReply (numbersOf (Y .answer)); desk = record { on = not r; files = files; state = Y .state; cut = m .desk .cut } };
     sheet = Y .sheet;
     fates = Y .fates;
     rows = Y .rows;
   })
 
-  -- the box that it leaves, and what is said, where there are rows to lend
-  record Opens (x : After) (b : Box) (a : Answer) : Type 0 where
-    pub next : Met (leftOn x) b
-    pub set : SetUp (leftOn x)
-    pub reply : x .turn .reply ≡ replyOf c a
-    pub size : x .turn .size ≡ 0
-
+  -- where there are rows to lend
   module _ (f : isFile mostFiles files ≡ true) where
-    few-rows : m ≤ rowLength * mostFiles
-    few-rows = let q = is-file mostFiles files f in omega arith
+    few-rows : q ≤ rowLength * mostFiles
+    few-rows = let h = is-file mostFiles files f in omega arith
 
-    open-rows : length (Y .rows) ≡ m
-    open-rows = opened-long (t .sheet) (t .fates) (take m (t .rows)) floor ∙ length-take-le m (t .rows) (omega (arith, few-rows, s .rows))
+    open-rows : length (Y .rows) ≡ q
+    open-rows = opened-long (m .sheet) (m .fates) (take q (m .rows)) floor ∙ length-take-le q (m .rows) (omega (arith, few-rows, s))
 
-    open-set : (r : Bool) → SetUp (leftOn (openBy r))
-    open-set r = record { sheet = ap length (opened-sheet (t .sheet) (t .fates) (take m (t .rows)) floor) ∙ s .sheet; rows = back-long (t .rows) (Y .rows) m (s .rows) few-rows open-rows }
-
-    lends : (r : Bool) → Opens (openBy r) (cond r (off (Y .sheet)) (on Y)) (Y .answer)
-    lends true = record { next = met-off refl; set = open-set true; reply = same-word files floor (Y .answer); size = refl }
+    lends : (r : Bool) → Steps (openBy r) (cond r (off (Y .sheet)) (on Y)) (openReply (numbersOf (Y .answer)))
+    lends true = record { next = met-off refl; rows = back-long (m .rows) (Y .rows) q s few-rows open-rows; reply = refl }
     lends false = record {
-      next = subst (λ r. Met (leftOn (openBy false)) (on (record { answer = Y .answer; state = Y .state; sheet = Y .sheet; fates = Y .fates; rows = r })))
-          (front-back (t .rows) (Y .rows) m (s .rows) few-rows open-rows) (met-on f (Y .answer));
-      set = open-set false;
-      reply = same-word files floor (Y .answer);
-      size = refl;
+      next = subst (λ r. Met (memoryOf (openBy false)) (on (record { answer = Y .answer; state = Y .state; sheet = Y .sheet; fates = Y .fates; rows = r })))
+          (front-back (m .rows) (Y .rows) q s few-rows open-rows) (met-on f (Y .answer));
+      rows = back-long (m .rows) (Y .rows) q s few-rows open-rows;
+      reply = refl;
     }
 
   abbrev refusedOpen : After
-  refusedOpen = replied (reply.Reply.No 1 0) (record { on = false; files = t .desk .files; state = closed; cut = t .desk .cut }) (t .sheet) (t .fates) (t .rows)
+  refusedOpen = replied (reply.Reply.No 1 0) (record { on = false; files = m .desk .files; state = closed; cut = m .desk .cut }) (m .sheet) (m .fates) (m .rows)
 
-  -- and where there are none
-  lends-none : Opens refusedOpen (boxOf (openLeaves (t .sheet) (t .fates) [] floor)) (openLeaves (t .sheet) (t .fates) [] floor .answer)
-  unfolding isRefused
-  lends-none = subst (λ (x : Left). Opens refusedOpen (boxOf x) (x .answer)) (no-rows (t .sheet) (t .fates) floor) (record { next = met-off refl; set = record { sheet = s .sheet; rows = s .rows }; reply = refl; size = refl })
+  abbrev StepsFrom : List ℕ → After → List ℕ → Type 0
+  StepsFrom u x rows = Steps x (boxOf (openLeaves u (m .fates) rows floor)) (openReply (numbersOf (openLeaves u (m .fates) rows floor .answer)))
 
-  abbrev startedBy : Bool → After
-  startedBy z = cond z (openBy (isRefused (Y .answer))) refusedOpen
-
-  starts : (z : Bool) → isFile mostFiles files ≡ z
-      → Opens (startedBy z) (boxOf (openLeaves (t .sheet) (t .fates) (cond z (take m (t .rows)) []) floor)) (openLeaves (t .sheet) (t .fates) (cond z (take m (t .rows)) []) floor .answer)
+  starts : (z : Bool) → isFile mostFiles files ≡ z → StepsFrom (m .sheet) (cond z (openBy (isRefused (Y .answer))) refusedOpen) (cond z (take q (m .rows)) [])
+  unfolding isRefused openReply
   starts true f = lends f (isRefused (Y .answer))
-  starts false f = lends-none
+  starts false f = subst (λ (x : Left). Steps refusedOpen (boxOf x) (openReply (numbersOf (x .answer)))) (no-rows (m .sheet) (m .fates) floor) (record { next = met-off refl; rows = s; reply = refl })
 
-  pub open-steps : (b : Box) → Met t b → Steps t b c (startedFor (t .desk) (t .sheet) (t .fates) (t .rows) files floor) (opens floor (t .fates) (rowsFor t files))
+  open-steps : (b : Box) → Met m b → Steps (startedFor (m .desk) (m .sheet) (m .fates) (m .rows) files floor) (after b (openEvent m files floor)) (inWords openReply (openEvent m files floor) (numbered (answerTo b (openEvent m files floor))))
   unfolding startedFor openedFor
-  open-steps b h =
-      let o = subst (λ u. Opens (startedBy (isFile mostFiles files)) (boxOf (openLeaves u (t .fates) (rowsFor t files) floor)) (openLeaves u (t .fates) (rowsFor t files) floor .answer))
-      (sym (met-sheet t b h)) (starts (isFile mostFiles files) refl) in
-      record { next = o .next; set = o .set; reply = o .reply; size = o .size }
+  open-steps b h = subst (λ u. StepsFrom u (cond (isFile mostFiles files) (openBy (isRefused (Y .answer))) refusedOpen) (cond (isFile mostFiles files) (take q (m .rows)) [])) (met-sheet m b h) (starts (isFile mostFiles files) refl)
 
 -- ---- every line
 
-pub record LineSteps (t : Table) (b : Box) (c : Command) (line : List ℕ) (x : After) : Type 0 where
-  pub next : Met (leftOn x) (runs b (listed (eventOf t c line)))
-  pub set : SetUp (leftOn x)
-  pub reply : x .turn .reply ≡ replyHeard b c (eventOf t c line)
-  pub size : x .turn .size ≡ sizeHeard b (eventOf t c line)
-
 -- one that changes the waiting cut alone
-idle-steps : (t : Table) (b : Box) (n : ℕ) → Met t b → Met (record { desk = record { on = t .desk .on; files = t .desk .files; state = t .desk .state; cut = n }; sheet = t .sheet; fates = t .fates; rows = t .rows }) b
-idle-steps t b n (met-on o a) = met-on o a
-idle-steps t b n (met-off o) = met-off o
+waits : (m : Memory) (b : Box) (n : ℕ) → Met m b → Met (record { desk = record { on = m .desk .on; files = m .desk .files; state = m .desk .state; cut = n }; sheet = m .sheet; fates = m .fates; rows = m .rows }) b
+waits m b n (met-on o a) = met-on o a
+waits m b n (met-off o) = met-off o
 
-module _ (t : Table) (s : SetUp t) (b : Box) (h : Met t b) (line : List ℕ) where
-  pub line-steps : (c : Command) → LineSteps t b c line (conversed (t .desk) (t .sheet) (t .fates) (t .rows) c line)
-  line-steps command.Command.What = record { next = h; set = s; reply = refl; size = refl }
-  line-steps (command.Command.Open files floor) =
-      let o = open-steps t s files floor b h in record { next = o .next; set = o .set; reply = o .reply; size = o .size }
-  line-steps command.Command.Begin =
-      let o = call-steps t s command.Command.Begin line b h in record { next = o .next; set = o .set; reply = o .reply; size = o .size }
-  line-steps (command.Command.Write f st a from) =
-      let o = call-steps t s (command.Command.Write f st a from) line b h in record { next = o .next; set = o .set; reply = o .reply; size = o .size }
-  line-steps (command.Command.Read f time a) =
-      let o = call-steps t s (command.Command.Read f time a) line b h in record { next = o .next; set = o .set; reply = o .reply; size = o .size }
-  line-steps (command.Command.Test a) =
-      let o = call-steps t s (command.Command.Test a) line b h in record { next = o .next; set = o .set; reply = o .reply; size = o .size }
-  line-steps (command.Command.Commit a) =
-      let o = call-steps t s (command.Command.Commit a) line b h in record { next = o .next; set = o .set; reply = o .reply; size = o .size }
-  line-steps (command.Command.Abort a) =
-      let o = call-steps t s (command.Command.Abort a) line b h in record { next = o .next; set = o .set; reply = o .reply; size = o .size }
-  line-steps (command.Command.Cut n) = record { next = idle-steps t b n h; set = record { sheet = s .sheet; rows = s .rows }; reply = refl; size = refl }
+module _ (m : Memory) (s : AllRows (m .rows)) (b : Box) (h : Met m b) (line : List ℕ) where
+  pub line-steps : (c : Command) → Steps (conversed (m .desk) (m .sheet) (m .fates) (m .rows) c line) (runs b (eventsOf m c line)) (replyHeard b m c line)
+  line-steps command.Command.What = record { next = h; rows = s; reply = refl }
+  line-steps (command.Command.Open files floor) = open-steps m s files floor b h
+  line-steps (command.Command.Cut n) = record { next = waits m b n h; rows = s; reply = refl }
+  line-steps (command.Command.Call k from) = call-steps m s k (drop from line) b h

@@ -3,11 +3,13 @@ use Prim.Native.Nat.{ℕ}
 use mathlib.Core.Path.{_≡_}
 use mathlib.Core.List.{List, _∷_, _++_}
 use lib.ListN.{drop}
-use Rattle.lines.specs.declared.parsing.Command as command
-use Rattle.lines.specs.declared.printing.Reply as reply
-use Rattle.lines.specs.Commands.{parsed}
-use Rattle.desk.specs.Conversation.{After, shown}
-use Rattle.program.specs.Talks.{turned, tableAfter, AllKeep}
+use Rattle.calls.specs.declared.making.Call as call
+use Rattle.commands.specs.declared.parsing.Command as command
+use Rattle.commands.specs.declared.printing.Reply as reply
+use Rattle.commands.specs.Commands.{parsed}
+use Rattle.desk.specs.Wording.{shown}
+use Rattle.desk.specs.Conversation.{After}
+use Rattle.program.specs.Program.{turned, memoryAfter, AllKeep}
 
 pub record WasTyped (lines : List (List ℕ)) (file start : ℕ) (text : List ℕ) : Type 0 where
   pub before : List (List ℕ)
@@ -16,13 +18,15 @@ pub record WasTyped (lines : List (List ℕ)) (file start : ℕ) (text : List �
   pub parts : lines ≡ before ++ line ∷ rest
   pub action : ℕ
   pub from : ℕ
-  pub is : parsed line ≡ command.Command.Write file start action from
+  pub is : parsed line ≡ command.Command.Call (call.Call.Write file start action) from
   pub text-is : drop from line ≡ text
 
 -- the bytes of a value that a reply prints
 abbrev pub textOf : After → List ℕ
-textOf x = shown (x .turn .reply) (x .turn .size) (x .sheet)
+textOf x = shown (x .turn .reply) (x .sheet)
 
 abbrev pub ReadsTyped : ℕ → List ℕ → List ℕ → Type 0
-ReadsTyped files fates rows = (lines : List (List ℕ)) (line : List ℕ) (file time action place start : ℕ) → AllKeep files lines → parsed line ≡ command.Command.Read file time action
-    → turned (tableAfter files fates rows lines) line .turn .reply ≡ reply.Reply.Shown place start → WasTyped lines file start (textOf (turned (tableAfter files fates rows lines) line))
+ReadsTyped files fates rows = (lines : List (List ℕ)) (line : List ℕ) (file time action from place start size : ℕ) → AllKeep files lines
+    → parsed line ≡ command.Command.Call (call.Call.Read file time action) from
+    → turned (memoryAfter files fates rows lines) line .turn .reply ≡ reply.Reply.Shown place start size
+    → WasTyped lines file start (textOf (turned (memoryAfter files fates rows lines) line))

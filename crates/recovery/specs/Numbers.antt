@@ -1,7 +1,9 @@
 -- Each answer as numbers, as document 01 gives them.
 use Prim.Native.Nat.{ℕ}
 use mathlib.Core.List.{List, [], _∷_}
-use mathlib.Core.Bool.{Bool, true, false}
+use mathlib.Core.Bool.{Bool}
+use lib.ListN.{getD}
+use lib.Dec.{eqb}
 use Rattle.recovery.specs.declared.Answer.{Answer}
 use Rattle.recovery.specs.declared.Answer.the-variants.{Refused, Opened, Rebuilt, Stored, Value, Nothing, Told}
 use Rattle.recovery.specs.declared.Inspected as inspection
@@ -17,14 +19,9 @@ numbersOf (Value p s l) = 4 ∷ p ∷ s ∷ l ∷ 0 ∷ []
 numbersOf Nothing = 5 ∷ 0 ∷ 0 ∷ 0 ∷ 0 ∷ []
 numbersOf (Told f) = 6 ∷ f ∷ 0 ∷ 0 ∷ 0 ∷ []
 
+-- the first of them tells a refusal
 unfoldable pub isRefused : Answer → Bool
-isRefused (Refused n p) = true
-isRefused (Opened e u) = false
-isRefused (Rebuilt a b c d) = false
-isRefused (Stored p) = false
-isRefused (Value p s l) = false
-isRefused Nothing = false
-isRefused (Told f) = false
+isRefused a = eqb (getD (numbersOf a) 0 0) 0
 
 -- inspect: the refusal's number, and the place
 abbrev pub inspectNumber : Inspected → ℕ

@@ -2,6 +2,7 @@
 // row; inspect the lowest page that is bad or does not fit those below it.
 mod inspection;
 mod lookup;
+mod numbering;
 mod opening;
 mod rebuilding;
 mod rolling;
@@ -15,6 +16,7 @@ pub use lookup::is_blank_at;
 pub use lookup::is_opening_at;
 pub use lookup::page_at;
 pub use lookup::seek_at;
+pub use numbering::numbers_of;
 pub use opening::open;
 use page::Page;
 pub use rebuilding::is_row_held;

@@ -1,5 +1,8 @@
 // The command program: lines from standard input to the desk, and its replies to standard output, line by line.
 use desk::Desk;
+use desk::PAGES;
+use desk::ROWS;
+use desk::SHEET;
 use libc::STDIN_FILENO;
 use libc::STDOUT_FILENO;
 ghost use mathlib.Core.Path.{_≡_};
@@ -141,9 +144,9 @@ fn take_last(text: &[u8], sheet: &mut [u8], fates: &mut [u8], rows: &mut [u64], 
 
 // A conversation on a blank sheet of 256 pages.
 pub fn run() {
-    let mut text = [0u8; 256];
-    let mut sheet = [0u8; 16384];
-    let mut fates = [0u8; 256];
-    let mut rows = [0u64; 1280];
+    let mut text = [0u8; KEPT];
+    let mut sheet = [0u8; SHEET];
+    let mut fates = [0u8; PAGES];
+    let mut rows = [0u64; ROWS];
     take_all(&mut text, &mut sheet, &mut fates, &mut rows);
 }
