@@ -1,13 +1,13 @@
 -- The value that a reply shows, out of the sheet. Assumes nothing.
-use Prim.Native.Nat.{ℕ, zero, suc, _+_, _-_, _*_, _/_, min, _≤_, _<_}
+use Prim.Native.Nat.{ℕ, _-_, _≤_}
 use mathlib.Core.Path.{_≡_, refl, sym, ap, _∙_}
 use mathlib.Core.List.{List, [], _∷_}
 use mathlib.Core.Bool.{Bool, true, false, cond}
 use native.Mathlib.Omega.{arith}
-use lib.ListN.{length, take, drop, replicate, length-drop, length-replicate, drop-of-length-le}
+use lib.ListN.{length, take, drop, replicate, length-replicate}
 use lib.Seq.{take-all}
-use lib.Dec.{eqb, leb}
-use borrow.Author.Tests.{eqb-true, leb-true, leb-false}
+use lib.Dec.{eqb}
+use borrow.Author.Tests.{eqb-true}
 use types.Run.{OneOf, miss}
 use denote.Enum.Declared.{tagOf}
 use Rattle.commands.proofs.printing.Reply.{the-type}
@@ -20,29 +20,6 @@ use Rattle.commands.specs.declared.printing.Reply.{Reply}
 use Rattle.commands.specs.declared.printing.Reply.the-variants.{What, Closed, Lost, Cut, Opened, Begun, Written, Shown, Nothing, Told, Committed, Aborted, No}
 use Rattle.commands.specs.Replies.{prints}
 use Rattle.desk.specs.Wording.{shown}
-
--- the page above a place, as the code cuts it
-pub above-none : (s : List ℕ) (n place : ℕ) → n ≡ length s → n / pageSize < place → take (n - n) (drop n s) ≡ pageBytes s (suc place)
-above-none s n place e h =
-    let z : n - n ≡ 0 = omega arith in
-    rw (z, drop-of-length-le s {i = pageSize * place} (omega arith))
-
-pub above-some : (s : List ℕ) (n place a e : ℕ) → n ≡ length s → place ≤ n / pageSize → a ≡ pageSize * place → e ≡ min (a + pageSize) n → take (e - a) (drop a s) ≡ pageBytes s (suc place)
-above-some s n place a e l h p q = go (leb (a + pageSize) n) refl
-  where
-    go : (b : Bool) → leb (a + pageSize) n ≡ b → take (e - a) (drop a s) ≡ pageBytes s (suc place)
-    go true k = let z : e - a ≡ pageSize = omega (arith, leb-true (a + pageSize) n k) in rw (z, p)
-    go false k =
-        let f : n < a + pageSize = leb-false (a + pageSize) n k in
-        take-all (e - a) (drop a s) (omega (arith, length-drop a s)) ∙ ap (λ i. drop i s) p ∙ sym (take-all pageSize (drop (pageSize * place) s) (omega (arith, length-drop (pageSize * place) s)))
-
-pub no-value : (s : List ℕ) (place : ℕ) → place < 1 → replicate valueSize 0 ≡ valueIn (pageBytes s place)
-unfolding valueIn
-no-value s place h = let z : place ≡ 0 = omega arith in rw z
-
-pub value-is : (s page : List ℕ) (place : ℕ) → 1 ≤ place → page ≡ pageBytes s (suc (place - 1)) → valueIn page ≡ valueIn (pageBytes s place)
-value-is s page zero h e = absurd (omega arith)
-value-is s page (suc q) h e = let z : suc q - 1 ≡ q = omega arith in ap valueIn (e ∙ ap (λ i. pageBytes s (suc i)) z)
 
 value-long : (s : List ℕ) → length (valueIn s) ≡ valueSize
 unfolding valueIn

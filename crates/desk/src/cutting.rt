@@ -1,6 +1,5 @@
 // A call on a desk that has a state, and what a waiting cut leaves of it.
 use crate::showing::call_reply;
-use crate::showing::page_above;
 use crate::talking::Desk;
 use crate::talking::NO_CUT;
 use crate::talking::Turn;
@@ -12,6 +11,7 @@ use page::Page;
 use recovery::Done;
 use recovery::State;
 use recovery::numbers_of;
+use recovery::part_above;
 ghost use mathlib.Core.Path.{_≡_};
 ghost use mathlib.Core.List.{_++_};
 ghost use Prim.Native.Nat.{suc, _+_, _*_, _≤_};
@@ -94,7 +94,7 @@ pub(crate) fn act(
 {
     let mut old = [0u8; Page::SIZE];
     let state = desk.state;
-    encoding::copy(&mut old, page_above(&sheet[..], state.end));
+    encoding::copy(&mut old, part_above(&sheet[..], state.end));
     let done = make(sheet, fates, rows, state, call, value);
     let left = done.state;
     if !is_struck(desk, left) {

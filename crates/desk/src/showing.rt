@@ -3,21 +3,12 @@ use calls::Call;
 use commands::Reply;
 use commands::print;
 use page::Page;
+use recovery::part_at;
 ghost use mathlib.Core.Path.{_≡_};
-ghost use Prim.Native.Nat.{suc, min};
 ghost use Rattle.page.specs.Answers.{valueIn};
 ghost use Rattle.recovery.specs.Sheet.{pageBytes};
 ghost use Rattle.commands.specs.Replies.{prints};
 ghost use Rattle.desk.specs.Wording.{storedBy, callReply, openReply, shown};
-
-pub(crate) fn least(a: usize, b: usize) -> usize
-    ensures { λ r. ⌜ r ≡ min a b ⌝ }
-{
-    if a <= b {
-        return a;
-    }
-    b
-}
 
 // A place that was stored, in the call's own word.
 fn stored_by(call: Call, place: u64) -> Reply
@@ -63,27 +54,11 @@ pub(crate) fn open_reply(numbers: [u64; 5]) -> Reply
     Reply::Opened(numbers[1], numbers[2])
 }
 
-// The bytes of the page above a place, none where the sheet ends.
-pub(crate) fn page_above(sheet: &[u8], place: u64) -> &[u8]
-    ensures { λ r. ⌜ now r ≡ pageBytes (now (sheet .entry)) (suc place) ⌝ }
-{
-    let n = sheet.len();
-    if ((n / Page::SIZE) as u64) < place {
-        return &sheet[n..n];
-    }
-    let a = Page::SIZE * (place as usize);
-    let e = least(a + Page::SIZE, n);
-    &sheet[a..e]
-}
-
 // The value's 32 bytes of the page at a place, zeros where the sheet has no such place.
 fn value_at(sheet: &[u8], place: u64) -> [u8; 32]
     ensures { λ r. ⌜ r ≡ valueIn (pageBytes (now (sheet .entry)) place) ⌝ }
 {
-    if place < 1 {
-        return [0u8; 32];
-    }
-    Page::value(page_above(sheet, place - 1))
+    Page::value(part_at(sheet, place))
 }
 
 // The bytes of a reply, and how many they are.

@@ -1,12 +1,12 @@
 // A conversation: commands, one a line, on one sheet.
 use crate::cutting::act;
-use crate::showing::least;
 use crate::showing::open_reply;
 use crate::showing::tell;
 use calls::Call;
 use commands::Command;
 use commands::Reply;
 use commands::parse;
+use encoding::least;
 use page::Page;
 use recovery::ROW_LENGTH;
 use recovery::State;
@@ -170,7 +170,7 @@ fn rest(line: &[u8], from: usize) -> &[u8]
     ensures { λ r. ⌜ now r ≡ drop from (now (line .entry)) ⌝ }
 {
     let n = line.len();
-    let at = least(from, n);
+    let at = least(from as u64, n as u64) as usize;
     &line[at..n]
 }
 

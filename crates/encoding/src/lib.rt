@@ -2,7 +2,7 @@
 // Every public function takes every run: none asks anything of its caller.
 ghost use mathlib.Core.Bool.{cond};
 ghost use mathlib.Core.Path.{_≡_};
-ghost use Prim.Native.Nat.{ℕ, _+_, _*_, _-_, _≤_, _<_};
+ghost use Prim.Native.Nat.{ℕ, _+_, _*_, _-_, _≤_, _<_, min};
 ghost use mathlib.Core.List.{[], _∷_, _++_};
 ghost use lib.ListN.{length, take, drop, getD};
 ghost use lib.Dec.{eqb};
@@ -111,6 +111,16 @@ pub fn is_zero(s: &[u8]) -> bool
         i += 1;
     }
     x == 0
+}
+
+// The smaller of two.
+pub fn least(a: u64, b: u64) -> u64
+    ensures { λ r. ⌜ r ≡ min a b ⌝ }
+{
+    if a <= b {
+        return a;
+    }
+    b
 }
 
 // n - k, and 0 where n is the smaller.

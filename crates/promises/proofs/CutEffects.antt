@@ -190,9 +190,9 @@ module _ (pages files : ℕ) (b : Box) (m : Modelled pages files b) (k : Call) (
       let u = cut-used (isOn b) (m .model) k kept h in
       let before : modelAnswer (isOn b) (m .model) (calls (test action)) ≡ some (Told fate) = sym (answer-modelled pages files b m (calls (test action)) tt) ∙ e in
       let later : openedAnswer (usedTo (u .used) (m .model)) ≡ some x = sym (
-        answer-modelled pages files (after (after b (cuts k kept)) (opens floor fates rows)) cut-opened (calls (test action)) tt
-        ∙ ap (λ c. modelAnswer c (cut-opened .model) (calls (test action))) (power-modelled pages files (after b (cuts k kept)) cut-box (opens floor fates rows) o)
-        ∙ ap openedAnswer (u .is)) ∙ l in
+      answer-modelled pages files (after (after b (cuts k kept)) (opens floor fates rows)) cut-opened (calls (test action)) tt
+      ∙ ap (λ c. modelAnswer c (cut-opened .model) (calls (test action))) (power-modelled pages files (after b (cuts k kept)) cut-box (opens floor fates rows) o)
+      ∙ ap openedAnswer (u .is)) ∙ l in
       go (u .used) (isOn b) (isLent (m .model) fates rows) before later
     where
       openedAnswer : Model → Option Answer

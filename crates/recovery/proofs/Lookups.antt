@@ -47,9 +47,6 @@ module _ (s : List ℕ) (p files : ℕ) where
 
 -- ---- a blank page at a place
 
-pub blank-out : (s : List ℕ) (p files : ℕ) → (1 ≤ p → pageSize * p ≤ length s → ⊥) → false ≡ isBlankPage (tested (pageBytes s p) p files)
-blank-out s p files h = ap isBlankPage (test-out s p files h)
-
 -- ---- an element at a place
 
 pub nth-none : (d : ℕ) (l : List ℕ) (p : ℕ) → p < 1 → d ≡ nth d l p

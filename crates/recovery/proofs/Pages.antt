@@ -1,10 +1,13 @@
 -- The page at a place, from its bytes and from what the page test answers. Assumes nothing.
-use Prim.Native.Nat.{ℕ, zero, suc, _*_, _+_, _-_, _<_, _≤_}
-use mathlib.Core.Path.{_≡_, refl, ap}
-use mathlib.Core.List.{List}
+use Prim.Native.Nat.{ℕ, zero, suc, _*_, _+_, _-_, _/_, min, _<_, _≤_}
+use mathlib.Core.Path.{_≡_, refl, sym, ap, _∙_}
+use mathlib.Core.List.{List, []}
+use mathlib.Core.Bool.{Bool, true, false}
 use native.Mathlib.Omega.{arith}
-use borrow.Author.Tests.{ne-eqb}
-use lib.ListN.{length, take, drop, getD, length-take, length-drop}
+use borrow.Author.Tests.{ne-eqb, leb-true, leb-false}
+use lib.Dec.{leb}
+use lib.Seq.{take-all}
+use lib.ListN.{length, take, drop, getD, length-take, length-drop, drop-of-length-le}
 use Rattle.page.specs.declared.Unpacked.{Unpacked}
 use Rattle.page.specs.declared.Unpacked.the-variants.{Refused}
 use Rattle.page.specs.Layout.{pageSize}
@@ -25,6 +28,29 @@ part-is s a e (suc q) h ha he =
 
 pub test-is : (s : List ℕ) (a e p files : ℕ) → 1 ≤ p → a ≡ pageSize * (p - 1) → e ≡ a + pageSize → tested (take (e - a) (drop a s)) p files ≡ tested (pageBytes s p) p files
 test-is s a e p files h ha he = ap (λ (l : List ℕ). tested l p files) (part-is s a e p h ha he)
+
+-- the part above a place: none past the sheet, what there is where it ends before
+pub above-none : (s : List ℕ) (n q : ℕ) → n ≡ length s → n / pageSize < q → take (n - n) (drop n s) ≡ pageBytes s (suc q)
+above-none s n q e h =
+    let z : n - n ≡ 0 = omega arith in
+    rw (z, drop-of-length-le s {i = pageSize * q} (omega arith))
+
+pub above-some : (s : List ℕ) (n q a e : ℕ) → n ≡ length s → q ≤ n / pageSize → a ≡ pageSize * q → e ≡ min (a + pageSize) n → take (e - a) (drop a s) ≡ pageBytes s (suc q)
+above-some s n q a e l h k i = go (leb (a + pageSize) n) refl
+  where
+    go : (b : Bool) → leb (a + pageSize) n ≡ b → take (e - a) (drop a s) ≡ pageBytes s (suc q)
+    go true j = let z : e - a ≡ pageSize = omega (arith, leb-true (a + pageSize) n j) in rw (z, k)
+    go false j =
+        let f : n < a + pageSize = leb-false (a + pageSize) n j in
+        take-all (e - a) (drop a s) (omega (arith, length-drop a s)) ∙ ap (λ i. drop i s) k ∙ sym (take-all pageSize (drop (pageSize * q) s) (omega (arith, length-drop (pageSize * q) s)))
+
+-- the part of a place
+pub part-none : (s : List ℕ) (p : ℕ) → p < 1 → take (0 - 0) (drop 0 s) ≡ pageBytes s p
+part-none s p h = let z : p ≡ 0 = omega arith in rw z
+
+pub part-below : (s : List ℕ) (p : ℕ) → 1 ≤ p → pageBytes s (suc (p - 1)) ≡ pageBytes s p
+part-below s zero h = absurd (omega arith)
+part-below s (suc q) h = let z : suc q - 1 ≡ q = omega arith in ap (λ i. pageBytes s (suc i)) z
 
 -- a place that the sheet does not have
 pub test-out : (s : List ℕ) (p files : ℕ) → (1 ≤ p → pageSize * p ≤ length s → ⊥) → Refused ≡ tested (pageBytes s p) p files

@@ -1,74 +1,66 @@
 // Look-ups in what is lent: the page at a place, the fate of an action, the sealed image of a file. They take every number.
+use encoding::least;
 use page::Page;
 use page::Sought;
 use page::Unpacked;
 ghost use mathlib.Core.Bool.{_||_};
 ghost use mathlib.Core.Path.{_≡_};
+ghost use Prim.Native.Nat.{suc};
 ghost use lib.Dec.{eqb};
 ghost use Rattle.page.specs.Answers.{tested, isBlankPage, imageOf};
 ghost use Rattle.recovery.specs.Places.{nth};
 ghost use Rattle.recovery.specs.Sheet.{pageBytes, isOpening, decoded};
 ghost use Rattle.recovery.specs.Steps.{countedFate, sealedImage};
 
+// The part above a place: the 64 bytes of the next page, or what is left of them where the sheet ends before.
+pub fn part_above(sheet: &[u8], place: u64) -> &[u8]
+    ensures { λ r. ⌜ now r ≡ pageBytes (now (sheet .entry)) (suc place) ⌝ }
+{
+    let n = sheet.len();
+    if ((n / Page::SIZE) as u64) < place {
+        return &sheet[n..n];
+    }
+    let a = Page::SIZE * (place as usize);
+    let e = least((a + Page::SIZE) as u64, n as u64) as usize;
+    &sheet[a..e]
+}
+
+// The part of a place, none for no place.
+pub fn part_at(sheet: &[u8], place: u64) -> &[u8]
+    ensures { λ r. ⌜ now r ≡ pageBytes (now (sheet .entry)) place ⌝ }
+{
+    if place < 1 {
+        return &sheet[0..0];
+    }
+    part_above(sheet, place - 1)
+}
+
 // The page at a place, by the page test on its part of the sheet; Refused where the sheet has no such place.
 pub fn page_at(sheet: &[u8], place: u64, files: u64) -> Unpacked
     ensures { λ r. ⌜ r ≡ tested (pageBytes (now (sheet .entry)) place) place files ⌝ }
 {
-    if place < 1 {
-        return Unpacked::Refused;
-    }
-    let pages = sheet.len() / Page::SIZE;
-    if (pages as u64) < place {
-        return Unpacked::Refused;
-    }
-    let a = Page::SIZE * (place as usize - 1);
-    let e = a + Page::SIZE;
-    Page::test(&sheet[a..e], place, files)
+    Page::test(part_at(sheet, place), place, files)
 }
 
 // The quick look at a place; Other where the sheet has no such place.
 pub fn seek_at(sheet: &[u8], place: u64, files: u64, file: u64) -> Sought
     ensures { λ r. ⌜ r ≡ imageOf file (tested (pageBytes (now (sheet .entry)) place) place files) ⌝ }
 {
-    if place < 1 {
-        return Sought::Other;
-    }
-    if ((sheet.len() / Page::SIZE) as u64) < place {
-        return Sought::Other;
-    }
-    let a = Page::SIZE * (place as usize - 1);
-    let e = a + Page::SIZE;
-    Page::seek(&sheet[a..e], place, files, file)
+    Page::seek(part_at(sheet, place), place, files, file)
 }
 
 // Whether the page at a place is blank.
 pub fn is_blank_at(sheet: &[u8], place: u64, files: u64) -> bool
     ensures { λ r. ⌜ r ≡ isBlankPage (tested (pageBytes (now (sheet .entry)) place) place files) ⌝ }
 {
-    if place < 1 {
-        return false;
-    }
-    if ((sheet.len() / Page::SIZE) as u64) < place {
-        return false;
-    }
-    let a = Page::SIZE * (place as usize - 1);
-    let e = a + Page::SIZE;
-    Page::is_blank(&sheet[a..e], place, files)
+    Page::is_blank(part_at(sheet, place), place, files)
 }
 
 // Whether the page at a place is an opening.
 pub fn is_opening_at(sheet: &[u8], place: u64, files: u64) -> bool
     ensures { λ r. ⌜ r ≡ isOpening (decoded files (now (sheet .entry)) place) ⌝ }
 {
-    if place < 1 {
-        return false;
-    }
-    if ((sheet.len() / Page::SIZE) as u64) < place {
-        return false;
-    }
-    let a = Page::SIZE * (place as usize - 1);
-    let e = a + Page::SIZE;
-    Page::is_opening(&sheet[a..e], place, files)
+    Page::is_opening(part_at(sheet, place), place, files)
 }
 
 // The fields of a sealed image of a file at a place.

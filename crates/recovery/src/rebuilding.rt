@@ -11,29 +11,20 @@ use crate::is_lent_right;
 use crate::refuse;
 use crate::row_of;
 use crate::set_row;
+use encoding::least;
 use page::Page;
 use page::Sought;
 use page::Unpacked;
 ghost use mathlib.Core.Path.{_≡_};
-ghost use Prim.Native.Nat.{min};
 ghost use Rattle.recovery.specs.Lent.{leftBy, rebuildLeaves};
 ghost use Rattle.recovery.specs.Steps.{rowFromPages, placeHoldsIn, rowHoldsIn, Warmed};
-
-fn lesser(a: u64, b: u64) -> u64
-    ensures { λ r. ⌜ r ≡ min a b ⌝ }
-{
-    if a < b {
-        return a;
-    }
-    b
-}
 
 // The row of a file from the pages up to the end, going down: the first committed image is the current one, and the newest
 // undecided image above it the token. A page that is not an image of the file is passed over at once.
 pub fn rebuilt_row(sheet: &[u8], fates: &[u8], files: u64, file: u64, end: u64) -> Row
     ensures { λ r. ⌜ r ≡ rowFromPages (now (sheet .entry)) (now (fates .entry)) files file end ⌝ }
 {
-    let mut place = lesser(end, (sheet.len() / Page::SIZE) as u64) as usize;
+    let mut place = least(end, (sheet.len() / Page::SIZE) as u64) as usize;
     let mut token: u64 = 0;
     let mut tokenend: u64 = 0;
     while 0 < place {

@@ -1,23 +1,18 @@
--- `desk::showing::value_at`: the value in the page there. Assumes nothing.
-use Rattle.desk.proofs.ValueShown.{no-value, value-is}
-use native.Mathlib.Omega.{arith}
-use mathlib.Core.Path.{_∙_}
-use denote.Ref.{now}
+-- `desk::showing::value_at`: the value in the part of the place. Assumes nothing.
+use Rattle.page.specs.Answers.{valueIn}
+use mathlib.Core.Path.{ap, _∙_}
 use borrow.Author.Needs.{needs}
 use Rattle.desk.proofs.showing.value_at.Statement.{statement}
 use Rattle.desk.proofs.showing.value_at.Tie as tie
 
-returns : tie.Need-returns
-returns c = no-value (now (c .before .before .args .sheet)) (c .before .before .args .place) (c .if1 .taken)
-
-page-above-requires : tie.Need-page-above-requires
-page-above-requires c κs = search needs
+part-at-requires : tie.Need-part-at-requires
+part-at-requires c κs = search needs
 
 value-requires : tie.Need-value-requires
 value-requires c κs = search needs
 
-returns-2 : tie.Need-returns-2
-returns-2 c = c .value .ensures ∙ value-is (now (c .before .before .before .before .args .sheet)) _ (c .before .before .before .before .args .place) (omega arith) (c .before .page-above .ensures)
+returns : tie.Need-returns
+returns c = c .value .ensures ∙ ap valueIn (c .before .part-at .ensures)
 
 pub value-at-spec : {M : Type 1} → statement M
-value-at-spec = tie.close (tie.spec returns page-above-requires value-requires returns-2)
+value-at-spec = tie.close (tie.spec part-at-requires value-requires returns)

@@ -44,13 +44,13 @@ image-at c = named-image (pageBytes (now (c .before .before .before .before .bef
 in-sheet : (c : tie.In-loop Inv-loop μ-loop) → 64 * c .before .loop .place ≤ length (now (c .before .before .before .before .before .args .sheet))
 in-sheet c = omega arith
 
-lesser-requires : tie.Need-lesser-requires Inv-loop μ-loop
-lesser-requires c κs = search needs
+least-requires : tie.Need-least-requires Inv-loop μ-loop
+least-requires c κs = search needs
 
 loop-holds : tie.Need-loop-holds Inv-loop μ-loop
 loop-holds c =
     let a = c .before .before .before .args in
-    (omega (arith, c .lesser .ensures), over-none _ ∙ ap (rowTo (a .files) (now (a .sheet)) (now (a .fates)) (a .file)) (c .lesser .ensures) ∙ row-from (a .files) (now (a .sheet)) (now (a .fates)) (a .file) (a .end), λ z. refl)
+    (omega (arith, c .least .ensures), over-none _ ∙ ap (rowTo (a .files) (now (a .sheet)) (now (a .fates)) (a .file)) (c .least .ensures) ∙ row-from (a .files) (now (a .sheet)) (now (a .fates)) (a .file) (a .end), λ z. refl)
 
 sub-place : tie.Need-sub-place Inv-loop μ-loop
 sub-place c = search needs
@@ -168,7 +168,7 @@ rebuilt-row-spec =
     (tie.spec
     Inv-loop
     μ-loop
-    lesser-requires
+    least-requires
     loop-holds
     sub-place
     mul-a
