@@ -11,7 +11,7 @@ use lib.Dec.{eqb, ltb}
 use lib.ListN.{length, take, getD, replicate, length-append, length-replicate, List·getD-append}
 use lib.Seq.{take-at, take-all, getD-append-add, getD-take, length-take-le, getD-at}
 use Rattle.encoding.specs.Bytes.{bytes, zeros, same, check}
-use Rattle.encoding.proofs.Logic.{and-true, and-end, and-false}
+use Rattle.encoding.proofs.Logic.{and-true, and-end, and-false, by-test}
 use Rattle.encoding.proofs.Numbers.{number-bytes, number-byte, same-refl, same-true, zeros-replicate, not-zeros}
 use Rattle.page.specs.declared.Page.{Page}
 use Rattle.page.specs.declared.Unpacked.the-variants.{Blank, Torn, Unfit}
@@ -111,6 +111,15 @@ module _ (p : Page) (value : List ℕ) (place : ℕ) (l : length value ≡ value
       → tested (packed p value place) place files ≡ cond (meetsRules p value place files) (byKind p) Unfit
   unfolding tested
   packed-tested files q w = simp (length-packed, are-in-bounds q, not-blank, not-torn, fields-back w, page-of files)
+
+-- ---- a refused pack writes nothing
+
+pub refused-unwritten : (p : Page) (value out : List ℕ) (place files : ℕ) → (packs p value place files out .0 ≡ Packing.Packed → ⊥) → packs p value place files out .1 ≡ out
+unfolding packs
+refused-unwritten p value out place files =
+    by-test (λ (r : Packing × List ℕ). (r .0 ≡ Packing.Packed → ⊥) → r .1 ≡ out) (inBounds (length out) place files)
+    (λ e. by-test (λ (r : Packing × List ℕ). (r .0 ≡ Packing.Packed → ⊥) → r .1 ≡ out) (meetsRules p value place files) (λ e h. absurd (h refl)) (λ e h. refl))
+    (λ e h. refl)
 
 -- ---- the first round trip: fields packed and unpacked are the same fields
 

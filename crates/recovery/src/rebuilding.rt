@@ -35,8 +35,7 @@ pub fn rebuilt_row(sheet: &[u8], fates: &[u8], files: u64, file: u64, end: u64) 
         if !Page::names(&sheet[a..e], file) {
             continue;
         }
-        let found = Page::test(&sheet[a..e], at, files);
-        let Unpacked::Image(image) = found else {
+        let Unpacked::Image(image) = Page::test(&sheet[a..e], at, files) else {
             continue;
         };
         let fate = counted_fate(sheet, fates, files, image.action);

@@ -38,8 +38,8 @@ tested-at : (c : tie.After-test Inv-loop μ-loop) → c .test .result ≡ tested
 tested-at c = c .test .ensures ∙ ap (λ l. tested l (c .before .before .before .before .before .before .loop .place) (c .before .before .before .before .before .before .before .before .before .before .args .files)) (part-is _ _ _ (c .before .before .before .before .before .before .loop .place) (c .before .before .before .before .before .loop-test .taken) refl refl)
 
 -- an image of the file
-image-at : (c : tie.After-found Inv-loop μ-loop) → sought.Sought.Image (c .found .given .0 .0) ≡ imageOf (c .before .before .before .before .before .before .before .before .before .before .before .before .args .file) (tested (pageBytes (now (c .before .before .before .before .before .before .before .before .before .before .before .before .args .sheet)) (c .before .before .before .before .before .before .before .before .loop .place)) (c .before .before .before .before .before .before .before .before .loop .place) (c .before .before .before .before .before .before .before .before .before .before .before .before .args .files))
-image-at c = named-image (pageBytes (now (c .before .before .before .before .before .before .before .before .before .before .before .before .args .sheet)) (c .before .before .before .before .before .before .before .before .loop .place)) (c .before .before .before .before .before .before .before .before .loop .place) (c .before .before .before .before .before .before .before .before .before .before .before .before .args .files) (c .before .before .before .before .before .before .before .before .before .before .before .before .args .file) _ (passed (named-at (c .before .before .before .before .before)) (c .before .before .before .before .if1 .left)) (sym (c .found .given .1) ∙ tested-at (c .before .before))
+image-at : (c : tie.After-image Inv-loop μ-loop) → sought.Sought.Image (c .image .given .0 .0) ≡ imageOf (c .before .before .before .before .before .before .before .before .before .before .before .before .args .file) (tested (pageBytes (now (c .before .before .before .before .before .before .before .before .before .before .before .before .args .sheet)) (c .before .before .before .before .before .before .before .before .loop .place)) (c .before .before .before .before .before .before .before .before .loop .place) (c .before .before .before .before .before .before .before .before .before .before .before .before .args .files))
+image-at c = named-image (pageBytes (now (c .before .before .before .before .before .before .before .before .before .before .before .before .args .sheet)) (c .before .before .before .before .before .before .before .before .loop .place)) (c .before .before .before .before .before .before .before .before .loop .place) (c .before .before .before .before .before .before .before .before .before .before .before .before .args .files) (c .before .before .before .before .before .before .before .before .before .before .before .before .args .file) _ (passed (named-at (c .before .before .before .before .before)) (c .before .before .before .before .if1 .left)) (sym (c .image .given .1) ∙ tested-at (c .before .before))
 
 in-sheet : (c : tie.In-loop Inv-loop μ-loop) → 64 * c .before .loop .place ≤ length (now (c .before .before .before .before .before .args .sheet))
 in-sheet c = omega arith
@@ -94,8 +94,8 @@ part-test-end c = search needs
 test-requires : tie.Need-test-requires Inv-loop μ-loop
 test-requires c κs = search needs
 
-enum-known-found : tie.Need-enum-known-found Inv-loop μ-loop
-enum-known-found c = search needs
+enum-known-image : tie.Need-enum-known-image Inv-loop μ-loop
+enum-known-image c = search needs
 
 loop-less-2 : tie.Need-loop-less-2 Inv-loop μ-loop
 loop-less-2 c = search needs
@@ -183,7 +183,7 @@ rebuilt-row-spec =
     part-test-start
     part-test-end
     test-requires
-    enum-known-found
+    enum-known-image
     loop-less-2
     loop-again-2
     counted-fate-requires
