@@ -1,5 +1,5 @@
 /* Times the store's layers, beside the plain check word loop, beside SQLite and beside each other, in one run. The loops over
-   the pages are Rattle's own (crates/bench). The rows of a table take turns, and each keeps its best round, so that a busy
+   the pages are Rattle's own (crates/harness). The rows of a table take turns, and each keeps its best round, so that a busy
    machine troubles all alike. */
 #include <stdio.h>
 #include <stdlib.h>
@@ -46,7 +46,14 @@ static uint64_t run_bytes(struct sheet s) {
 static uint64_t run_test(struct sheet s) { return bench_test(s.bytes, PAGE * s.pages, FILES); }
 static uint64_t run_seek(struct sheet s) { return bench_seek(s.bytes, PAGE * s.pages, FILES, ABSENT); }
 static uint64_t run_pack(struct sheet s) { return bench_pack(s.bytes, PAGE * s.pages, FILES, USED, value); }
-static uint64_t run_open(struct sheet s) { return bench_open(s.bytes, PAGE * s.pages, s.fates, s.pages, s.numbers, 5 * FILES, 0, 5); }
+/* A call on a sheet with this end, and one of the numbers that it tells. Inlined, so that no struct is copied on the way. */
+static inline __attribute__((always_inline)) uint64_t called(struct sheet s, uint64_t files, uint64_t end, uint64_t undecided,
+                                                             struct call c, int which) {
+    uint64_t told[TOLD];
+    make_call((struct lent){s.bytes, PAGE * s.pages, s.fates, s.pages, s.numbers, 5 * files, end, 0, undecided}, c, told);
+    return told[which];
+}
+static uint64_t run_open(struct sheet s) { return called(s, FILES, 0, 0, (struct call){.kind = OPEN}, END); }
 static uint64_t run_inspect(struct sheet s) { return bench_inspect(s.bytes, PAGE * s.pages, FILES); }
 static uint64_t rebuild(struct sheet s, uint64_t file) {
     return bench_walk(s.bytes, PAGE * s.pages, s.fates, s.pages, FILES, file, s.pages);
@@ -57,20 +64,19 @@ static uint64_t run_absent(struct sheet s) { return rebuild(s, ABSENT); }
 
 /* Whole actions of begin, two writes and commit on a blank sheet, until it is full: how many. */
 static uint64_t act(struct sheet s, uint64_t files) {
-    size_t size = PAGE * s.pages;
     uint64_t end = 0, done = 0;
-    memset(s.bytes, 0, size);
+    memset(s.bytes, 0, PAGE * s.pages);
     memset(s.fates, 0, s.pages);
     memset(s.numbers, 0, 5 * FILES * sizeof *s.numbers);
     for (uint64_t f = 0; f < files; f++)
         s.numbers[5 * f] = 1; /* rebuilt: these files have no version */
     for (; end + 4 <= s.pages; done++) {
-        uint64_t action = call_begin(s.bytes, size, s.fates, s.pages, s.numbers, 5 * files, end, 0, 0, 1);
+        uint64_t action = called(s, files, end, 0, (struct call){.kind = BEGIN}, FIRST);
         for (uint64_t k = 1; k <= 2; k++)
-            if (call_write(s.bytes, size, s.fates, s.pages, s.numbers, 5 * files, end + k, 0, 1, 1 + (2 * done + k) % files, done + 1, action,
-                           value, USED, 0) != 3)
+            if (called(s, files, end + k, 1, (struct call){WRITE, 1 + (2 * done + k) % files, done + 1, action, USED, value}, WHICH)
+                != STORED)
                 return 0;
-        if (call_commit(s.bytes, size, s.fates, s.pages, s.numbers, 5 * files, end + 3, 0, 1, action, 0) != 3)
+        if (called(s, files, end + 3, 1, (struct call){.kind = COMMIT, .action = action}, WHICH) != STORED)
             return 0;
         end += 4;
     }
@@ -83,19 +89,19 @@ static uint64_t run_act_many(struct sheet s) { return act(s, FILES); }
 static uint64_t run_current(struct sheet s) {
     uint64_t values = 0;
     for (uint64_t p = 0; p < s.pages; p++)
-        values += call_read(s.bytes, PAGE * s.pages, s.fates, s.pages, s.numbers, 5 * FILES, s.pages, 0, 0, 1 + p % 250, UINT64_MAX, 0, 0) == 4;
+        values += called(s, FILES, s.pages, 0, (struct call){.kind = READ, .file = 1 + p % 250, .time = UINT64_MAX}, WHICH) == VALUE;
     return values;
 }
 /* One read from the newest version of file 1 past the oldest: none. */
 static uint64_t run_links(struct sheet s) {
-    return call_read(s.bytes, PAGE * s.pages, s.fates, s.pages, s.numbers, 5 * FILES, s.pages, 0, 0, 1, 0, 0, 0);
+    return called(s, FILES, s.pages, 0, (struct call){.kind = READ, .file = 1}, WHICH);
 }
 /* So many reads of file 1, each at a time that lies some versions back. */
 static uint64_t back;
 static uint64_t run_past(struct sheet s) {
     uint64_t start = 0;
     for (int k = 0; k < READS; k++)
-        start = call_read(s.bytes, PAGE * s.pages, s.fates, s.pages, s.numbers, 5 * FILES, s.pages, 0, 0, 1, s.pages - back, 0, 2);
+        start = called(s, FILES, s.pages, 0, (struct call){.kind = READ, .file = 1, .time = s.pages - back}, SECOND);
     return start;
 }
 static uint64_t run_past_sqlite(struct sheet s) { return sqlite_read(READS, s.pages - back); }
@@ -108,8 +114,8 @@ static uint64_t run_commit(struct sheet s) {
     }
     memset(s.bytes + PAGE * (FILES + 1), 0, PAGE);
     s.fates[0] = 1;
-    uint64_t which = call_commit(s.bytes, PAGE * s.pages, s.fates, s.pages, s.numbers, 5 * FILES, FILES + 1, 0, 1, 1, 0);
-    return which == 3 && s.numbers[1] == 2 && s.numbers[5 * FILES - 4] == FILES + 1;
+    uint64_t which = called(s, FILES, FILES + 1, 1, (struct call){.kind = COMMIT, .action = 1}, WHICH);
+    return which == STORED && s.numbers[1] == 2 && s.numbers[5 * FILES - 4] == FILES + 1;
 }
 
 struct row {

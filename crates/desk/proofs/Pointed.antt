@@ -41,7 +41,7 @@ refuses size e =
 row : {x y : List ℕ} {xs ys : List (List ℕ)} → x ≡ y → xs ≡ ys → x ∷ xs ≡ y ∷ ys
 row e f = λ i. e i ∷ f i
 
-sizes-hold : point.given point.sizes ≡ point.asked point.sizes
+sizes-hold : point.given point.sizes ≡ point.stated point.sizes
 unfolding sizesRight
 sizes-hold =
     row (fits 1 (omega arith) (omega arith))
@@ -104,7 +104,7 @@ cut-at n k e = (λ i. point.kindOf (sealed 8 (storedOf (firstBytes n) 0 (first i
 numbers : {x y : Left} → x ≡ y → numbersOf (x .answer) ≡ numbersOf (y .answer)
 numbers e = ap (λ x. numbersOf (x .answer)) e
 
-runs-hold : point.given point.runs ≡ point.asked point.runs
+runs-hold : point.given point.runs ≡ point.stated point.runs
 runs-hold =
     row (computed .one-page)
     (row (numbers first)
@@ -116,8 +116,8 @@ runs-hold =
     (row (cut-at 64 3 (computed .cut-all))
     refl)))))))
 
-words-hold : point.given point.words ≡ point.asked point.words
+words-hold : point.given point.words ≡ point.stated point.words
 words-hold = refl
 
-pub points-hold : point.given point.points ≡ point.asked point.points
+pub points-hold : point.given point.points ≡ point.stated point.points
 points-hold = λ i. words-hold i ++ sizes-hold i ++ runs-hold i

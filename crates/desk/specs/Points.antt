@@ -93,6 +93,6 @@ abbrev pub given : List (List ℕ × List ℕ) → List (List ℕ)
 given [] = []
 given (p ∷ ps) = p .0 ∷ given ps
 
-abbrev pub asked : List (List ℕ × List ℕ) → List (List ℕ)
-asked [] = []
-asked (p ∷ ps) = p .1 ∷ asked ps
+abbrev pub stated : List (List ℕ × List ℕ) → List (List ℕ)
+stated [] = []
+stated (p ∷ ps) = p .1 ∷ stated ps

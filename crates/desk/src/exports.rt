@@ -8,6 +8,11 @@ ghost use lib.ListN.{length};
 ghost use Rattle.page.specs.Answers.{packNumber, fieldList};
 ghost use Rattle.desk.specs.Exports.{fieldCount, fieldsGiven, packedFor, testedFor, inspectedFor};
 
+// The bytes of a value, and the fields from kind to start.
+const VALUE: usize = 32;
+
+const FIELDS: usize = 6;
+
 // What inspection answers for a sheet or a file count that it refuses: above every place.
 const REFUSED: u64 = 0xffff_ffff_ffff_ffff;
 
@@ -37,10 +42,10 @@ pub extern "C" fn desk_pack(
 ) -> u64
     ensures { λ r. ⌜ (r, now (out .exit)) ≡ packedFor (record { kind = kind; small = small; file = file; action = action; link = link; start = start }) (now (value .entry)) place files (now (out .entry)) ⌝ }
 {
-    if value.len() != 32 {
+    if value.len() != VALUE {
         return 1;
     }
-    let mut bytes = [0u8; 32];
+    let mut bytes = [0u8; VALUE];
     encoding::copy(&mut bytes, value);
     let page = Page {
         kind,
@@ -98,7 +103,7 @@ fn give_found(fields: &mut [u64], found: Unpacked) -> u64
 pub extern "C" fn desk_test(part: &[u8], place: u64, files: u64, fields: &mut [u64]) -> u64
     ensures { λ r. ⌜ (r, now (fields .exit)) ≡ testedFor (now (part .entry)) place files (now (fields .entry)) ⌝ }
 {
-    if fields.len() != 6 {
+    if fields.len() != FIELDS {
         return 1;
     }
     let found = Page::test(part, place, files);

@@ -13,7 +13,7 @@ ghost use lib.ListN.{length};
 const KEPT: usize = 256;
 
 // The desk, and how many bytes of a line are kept.
-struct Talk {
+struct Session {
     desk: Desk,
     len: usize,
 }
@@ -21,16 +21,22 @@ struct Talk {
 // What is left of the turns: none at the end of the input.
 struct Read {
     turns: u64,
-    talk: Talk,
+    session: Session,
 }
 
 // The end of a line: its reply is written.
-fn reply(text: &[u8], sheet: &mut [u8], fates: &mut [u8], rows: &mut [u64], talk: Talk) -> Desk
-    requires { ⌜ (length (now text) ≡ 256) × (talk .len ≤ 256) ⌝ }
+fn reply(
+    text: &[u8],
+    sheet: &mut [u8],
+    fates: &mut [u8],
+    rows: &mut [u64],
+    session: Session,
+) -> Desk
+    requires { ⌜ (length (now text) ≡ 256) × (session .len ≤ 256) ⌝ }
 {
     let mut out = [0u8; 128];
-    let len = talk.len;
-    let before = talk.desk;
+    let len = session.len;
+    let before = session.desk;
     let said = desk::answer(sheet, fates, rows, before, &text[0..len], &mut out);
     let n = said.count;
     let after = said.desk;
@@ -46,26 +52,26 @@ fn take_byte(
     sheet: &mut [u8],
     fates: &mut [u8],
     rows: &mut [u64],
-    talk: Talk,
+    session: Session,
     byte: u8,
-) -> Talk
-    requires { ⌜ (length (now text) ≡ 256) × (talk .len ≤ 256) ⌝ }
+) -> Session
+    requires { ⌜ (length (now text) ≡ 256) × (session .len ≤ 256) ⌝ }
     ensures { λ r. ⌜ r .len ≤ 256 ⌝ }
 {
     if byte == b'\n' {
-        let after = reply(&text[..], sheet, fates, rows, talk);
-        return Talk {
+        let after = reply(&text[..], sheet, fates, rows, session);
+        return Session {
             desk: after,
             len: 0,
         };
     }
-    let len = talk.len;
-    let same = talk.desk;
+    let len = session.len;
+    let same = session.desk;
     if KEPT <= len {
-        return Talk { desk: same, len };
+        return Session { desk: same, len };
     }
     text[len] = byte;
-    Talk {
+    Session {
         desk: same,
         len: len + 1,
     }
@@ -78,12 +84,12 @@ fn take_bytes(
     sheet: &mut [u8],
     fates: &mut [u8],
     rows: &mut [u64],
-    talk: Talk,
-) -> Talk
-    requires { ⌜ (length (now text) ≡ 256) × (talk .len ≤ 256) ⌝ }
+    session: Session,
+) -> Session
+    requires { ⌜ (length (now text) ≡ 256) × (session .len ≤ 256) ⌝ }
     ensures { λ r. ⌜ r .len ≤ 256 ⌝ }
 {
-    let mut at = talk;
+    let mut at = session;
     let mut i = 0;
     while i < bytes.len() {
         at = take_byte(text, sheet, fates, rows, at, bytes[i]);
@@ -98,22 +104,22 @@ fn take_some(
     sheet: &mut [u8],
     fates: &mut [u8],
     rows: &mut [u64],
-    talk: Talk,
+    session: Session,
     turns: u64,
 ) -> Read
-    requires { ⌜ (length (now text) ≡ 256) × (talk .len ≤ 256) × (0 < turns) ⌝ }
-    ensures { λ r. ⌜ (r .talk .len ≤ 256) × (r .turns < turns) ⌝ }
+    requires { ⌜ (length (now text) ≡ 256) × (session .len ≤ 256) × (0 < turns) ⌝ }
+    ensures { λ r. ⌜ (r .session .len ≤ 256) × (r .turns < turns) ⌝ }
 {
     let mut buffer = io::buffer();
     let got = libc::read(STDIN_FILENO, &mut buffer);
     if got <= 0 {
-        return Read { turns: 0, talk };
+        return Read { turns: 0, session };
     }
     let n = io::count(got, &buffer);
-    let after = take_bytes(&buffer[..n], text, sheet, fates, rows, talk);
+    let after = take_bytes(&buffer[..n], text, sheet, fates, rows, session);
     Read {
         turns: turns - 1,
-        talk: after,
+        session: after,
     }
 }
 
@@ -122,23 +128,23 @@ fn take_all(text: &mut [u8], sheet: &mut [u8], fates: &mut [u8], rows: &mut [u64
     requires { ⌜ length (now text) ≡ 256 ⌝ }
 {
     let mut turns = u64::MAX;
-    let mut talk = Talk {
+    let mut session = Session {
         desk: desk::closed_desk(),
         len: 0,
     };
     while turns > 0 {
-        let read = take_some(text, sheet, fates, rows, talk, turns);
-        talk = read.talk;
+        let read = take_some(text, sheet, fates, rows, session, turns);
+        session = read.session;
         turns = read.turns;
     }
-    take_last(&text[..], sheet, fates, rows, talk);
+    take_last(&text[..], sheet, fates, rows, session);
 }
 
-fn take_last(text: &[u8], sheet: &mut [u8], fates: &mut [u8], rows: &mut [u64], talk: Talk)
-    requires { ⌜ (length (now text) ≡ 256) × (talk .len ≤ 256) ⌝ }
+fn take_last(text: &[u8], sheet: &mut [u8], fates: &mut [u8], rows: &mut [u64], session: Session)
+    requires { ⌜ (length (now text) ≡ 256) × (session .len ≤ 256) ⌝ }
 {
-    if 0 < talk.len {
-        reply(text, sheet, fates, rows, talk);
+    if 0 < session.len {
+        reply(text, sheet, fates, rows, session);
     }
 }
 

@@ -6,10 +6,10 @@ use Rattle.terminal.proofs.take_all.Statement.{statement}
 use Rattle.terminal.proofs.take_all.Tie as tie
 
 abbrev Inv-loop : tie.InvT-loop
-Inv-loop text₀ sheet₀ fates₀ rows₀ turns₀ talk₀ text sheet fates rows turns talk = (length text ≡ 256) × (talk .len ≤ 256) × (length text₀ ≡ 256) × (length sheet ≡ length sheet₀) × (length fates ≡ length fates₀) × (length rows ≡ length rows₀)
+Inv-loop text₀ sheet₀ fates₀ rows₀ turns₀ session₀ text sheet fates rows turns session = (length text ≡ 256) × (session .len ≤ 256) × (length text₀ ≡ 256) × (length sheet ≡ length sheet₀) × (length fates ≡ length fates₀) × (length rows ≡ length rows₀)
 
 abbrev μ-loop : tie.MeasureT-loop
-μ-loop text₀ sheet₀ fates₀ rows₀ turns₀ talk₀ text sheet fates rows turns talk = turns
+μ-loop text₀ sheet₀ fates₀ rows₀ turns₀ session₀ text sheet fates rows turns session = turns
 
 closed-desk-requires : tie.Need-closed-desk-requires Inv-loop μ-loop
 closed-desk-requires c κs = search needs

@@ -1,0 +1,54 @@
+-- A call as numbers, for the tests and timings outside Rattle, and all that it leaves of what is lent.
+use Prim.Native.Nat.{ℕ}
+use mathlib.Core.Bool.{cond}
+use mathlib.Core.List.{List, [], _∷_, _++_}
+use lib.ListN.{length}
+use lib.Dec.{eqb, leb}
+use Rattle.recovery.specs.declared.Answer.{Answer}
+use Rattle.recovery.specs.declared.State.{State}
+use Rattle.recovery.specs.Lent.{Left, refused}
+use Rattle.recovery.specs.Numbers.{numbersOf}
+use Rattle.calls.specs.declared.making.Call.{Call}
+use Rattle.calls.specs.declared.making.Call.the-variants.{Begin, Write, Read, Test, Commit, Abort}
+use Rattle.calls.specs.Asked.{asked}
+use Rattle.calls.specs.Effect.{callLeaves}
+
+-- ---- what is asked
+
+unfoldable pub callOf : ℕ → ℕ → ℕ → ℕ → Call
+callOf kind file time action =
+    cond (eqb kind 0) Begin
+    (cond (eqb kind 1) (Write file time action)
+    (cond (eqb kind 2) (Read file time action)
+    (cond (eqb kind 3) (Test action)
+    (cond (eqb kind 4) (Commit action) (Abort action)))))
+
+abbrev pub stateWith : ℕ → ℕ → ℕ → State
+stateWith end floor undecided = record { end = end; floor = floor; undecided = undecided }
+
+-- a number above abort's is no call's, and is refused 1
+unfoldable pub made : List ℕ → List ℕ → List ℕ → State → ℕ → Call → List ℕ → Left
+made s fates rows state kind k value = cond (leb kind 5) (callLeaves s fates rows state (asked k value)) (refused 1 0 s fates rows state)
+
+-- ---- what is left
+
+pub record Given : Type 0 where
+  pub sheet : List ℕ
+  pub fates : List ℕ
+  pub rows : List ℕ
+  pub numbers : List ℕ
+
+abbrev pub left : List ℕ → List ℕ → List ℕ → List ℕ → Given
+left s fates rows out = record { sheet = s; fates = fates; rows = rows; numbers = out }
+
+abbrev pub toldCount : ℕ
+toldCount = 8
+
+-- the answer's five numbers, then end, floor and open count
+abbrev pub told : Answer → State → List ℕ
+told a state = numbersOf a ++ (state .end ∷ state .floor ∷ state .undecided ∷ [])
+
+-- into a run of eight numbers; with another nothing is done
+unfoldable pub given : List ℕ → List ℕ → List ℕ → List ℕ → Left → Given
+given s fates rows out x =
+    cond (eqb (length out) toldCount) (left (x .sheet) (x .fates) (x .rows) (told (x .answer) (x .state))) (left s fates rows out)

@@ -1,0 +1,150 @@
+// The door of the tests and timings outside Rattle: a call, an opening or a rebuild as numbers. What it answers is given as eight
+// numbers, the answer's five and the state's three, in a lent run; with a run of another length nothing is done.
+use calls::Call;
+use calls::make;
+use recovery::Done;
+use recovery::State;
+use recovery::numbers_of;
+use recovery::refuse;
+ghost use mathlib.Core.Path.{_≡_};
+ghost use lib.ListN.{length};
+ghost use Rattle.recovery.specs.Lent.{leftBy, openLeaves, rebuildLeaves};
+ghost use Rattle.harness.specs.Door.{toldCount, told, callOf, made, stateWith, left, given};
+
+// How many numbers are told.
+const TOLD: usize = 8;
+
+fn tell(out: &mut [u64], done: Done)
+    requires { ⌜ length (now out) ≡ toldCount ⌝ }
+    ensures { λ _. ⌜ now (out .exit) ≡ told (done .answer) (done .state) ⌝ }
+{
+    let answer = done.answer;
+    let state = done.state;
+    let numbers = numbers_of(answer);
+    out[0] = numbers[0];
+    out[1] = numbers[1];
+    out[2] = numbers[2];
+    out[3] = numbers[3];
+    out[4] = numbers[4];
+    out[5] = state.end;
+    out[6] = state.floor;
+    out[7] = state.undecided;
+}
+
+// A call by its number.
+fn call_of(kind: u64, file: u64, time: u64, action: u64) -> Call
+    ensures { λ r. ⌜ r ≡ callOf kind file time action ⌝ }
+{
+    if kind == 0 {
+        return Call::Begin;
+    }
+    if kind == 1 {
+        return Call::Write(file, time, action);
+    }
+    if kind == 2 {
+        return Call::Read(file, time, action);
+    }
+    if kind == 3 {
+        return Call::Test(action);
+    }
+    if kind == 4 {
+        return Call::Commit(action);
+    }
+    Call::Abort(action)
+}
+
+// A number that is no call's is refused 1.
+fn made(
+    sheet: &mut [u8],
+    fates: &mut [u8],
+    rows: &mut [u64],
+    state: State,
+    kind: u64,
+    call: Call,
+    value: &[u8],
+) -> Done
+    ensures { λ r. ⌜ leftBy r (now (sheet .exit)) (now (fates .exit)) (now (rows .exit)) ≡ made (now (sheet .entry)) (now (fates .entry)) (now (rows .entry)) state kind call (now (value .entry)) ⌝ }
+{
+    if 5 < kind {
+        return refuse(1, state);
+    }
+    make(sheet, fates, rows, state, call, value)
+}
+
+fn state_with(end: u64, floor: u64, undecided: u64) -> State
+    ensures { λ r. ⌜ r ≡ stateWith end floor undecided ⌝ }
+{
+    State {
+        end,
+        floor,
+        undecided,
+    }
+}
+
+// A call. The kinds are 0 begin, 1 write, 2 read, 3 test, 4 commit, 5 abort; the time is a write's start or a read's time, and what a
+// call does not take is passed over.
+#[no_mangle]
+pub extern "C" fn door_call(
+    sheet: &mut [u8],
+    fates: &mut [u8],
+    rows: &mut [u64],
+    end: u64,
+    floor: u64,
+    undecided: u64,
+    kind: u64,
+    file: u64,
+    time: u64,
+    action: u64,
+    value: &[u8],
+    out: &mut [u64],
+)
+    ensures { λ _. ⌜ left (now (sheet .exit)) (now (fates .exit)) (now (rows .exit)) (now (out .exit)) ≡ given (now (sheet .entry)) (now (fates .entry)) (now (rows .entry)) (now (out .entry)) (made (now (sheet .entry)) (now (fates .entry)) (now (rows .entry)) (stateWith end floor undecided) kind (callOf kind file time action) (now (value .entry))) ⌝ }
+{
+    if out.len() != TOLD {
+        return;
+    }
+    let state = state_with(end, floor, undecided);
+    let call = call_of(kind, file, time, action);
+    let done = made(sheet, fates, rows, state, kind, call, value);
+    tell(out, done);
+}
+
+// An opening.
+#[no_mangle]
+pub extern "C" fn door_open(
+    sheet: &[u8],
+    fates: &mut [u8],
+    rows: &mut [u64],
+    floor: u64,
+    out: &mut [u64],
+)
+    ensures { λ _. ⌜ left (now (sheet .entry)) (now (fates .exit)) (now (rows .exit)) (now (out .exit)) ≡ given (now (sheet .entry)) (now (fates .entry)) (now (rows .entry)) (now (out .entry)) (openLeaves (now (sheet .entry)) (now (fates .entry)) (now (rows .entry)) floor) ⌝ }
+{
+    if out.len() != TOLD {
+        return;
+    }
+    let done = recovery::open(sheet, fates, rows, floor);
+    tell(out, done);
+}
+
+// A rebuild.
+#[no_mangle]
+pub extern "C" fn door_rebuild(
+    sheet: &[u8],
+    fates: &[u8],
+    rows: &mut [u64],
+    end: u64,
+    floor: u64,
+    undecided: u64,
+    file: u64,
+    out: &mut [u64],
+)
+    ensures { λ _. ⌜ left (now (sheet .entry)) (now (fates .entry)) (now (rows .exit)) (now (out .exit)) ≡ given (now (sheet .entry)) (now (fates .entry)) (now (rows .entry)) (now (out .entry)) (rebuildLeaves (now (sheet .entry)) (now (fates .entry)) (now (rows .entry)) (stateWith end floor undecided) file) ⌝ }
+{
+    if out.len() != TOLD {
+        return;
+    }
+    let state = state_with(end, floor, undecided);
+    let done = recovery::rebuild(sheet, fates, rows, state, file);
+    tell(out, done);
+}
