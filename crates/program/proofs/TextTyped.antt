@@ -27,11 +27,11 @@ use Rattle.desk.specs.Wording.{callReply, shown}
 use Rattle.desk.specs.Conversation.{After, conversed}
 use Rattle.calls.specs.Cuts.{firstBytes}
 use Rattle.promises.specs.Runs.{Box, sheetOf, Event, calls, cuts, answerTo, numbered, after, runs, blankBox, Run}
-use Rattle.promises.proofs.Boxes.{reached}
-use Rattle.promises.proofs.BoxKept.{box-kept}
-use Rattle.promises.proofs.BoxShown.{box-shows}
+use Rattle.promises.proofs.boxes.Boxes.{reached}
+use Rattle.promises.proofs.boxes.BoxKept.{box-kept}
+use Rattle.promises.proofs.boxes.BoxShown.{box-shows}
 use Rattle.promises.specs.Promises.{IsWhole, WasWritten}
-use Rattle.promises.proofs.Heard.{hears}
+use Rattle.promises.proofs.answers.Heard.{hears}
 use Rattle.promises.proofs.Proved.{promised}
 use Rattle.program.specs.Program.{Memory, memoryOf, turned, talked, firstMemory, strikes, callEvent, openEvent, eventsOf, eventsIn, inWords, AllKeep, pageCount}
 use Rattle.program.specs.Typing.{WasTyped, textOf, ReadsTyped}

@@ -20,10 +20,10 @@ use Rattle.calls.specs.Cuts.{firstBytes}
 use Rattle.promises.specs.Runs.{Box, sheetOf, Event, calls, opens, cuts, answerTo, after, runs, numbered, Hears, heard, Typed, AllAllowed, Run, blankBox, Floors}
 use Rattle.promises.specs.Model.{Model, blankModel, modelHeard, modelRuns}
 use Rattle.promises.specs.Promises.{boxAfter, NoTornOutcome}
-use Rattle.promises.proofs.Mixed.{first-ordered}
-use Rattle.promises.proofs.Boxes.{page-above}
-use Rattle.promises.proofs.Modelled.{modelled-blank}
-use Rattle.promises.proofs.Fallen.{ends}
+use Rattle.promises.proofs.bytes.Mixed.{first-ordered}
+use Rattle.promises.proofs.boxes.Boxes.{page-above}
+use Rattle.promises.proofs.answers.Modelled.{modelled-blank}
+use Rattle.promises.proofs.answers.Fallen.{ends}
 use Rattle.promises.proofs.Proved.{promised}
 
 clash : {A : Type 0} → _≡_ {A = ℕ} 0 1 → A

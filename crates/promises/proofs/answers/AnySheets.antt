@@ -1,0 +1,110 @@
+-- A box that is given a lawful sheet stands for the model read off its log.
+use Prim.Native.Nat.{ℕ, zero, suc, _*_, _/_, _≤_, _<_}
+use mathlib.Core.Path.{_≡_, refl, ap, _∙_, subst}
+use mathlib.Core.List.{List}
+use mathlib.Core.Bool.{Bool, true, false, cond, false≢true}
+use native.Mathlib.Omega.{arith}
+use lib.ListN.{length, getD, List·getD-eq-default}
+use lib.Dec.{eqb, leb}
+use borrow.Author.Tests.{eqb-true, eqb-false, leb-true, leb-false}
+use Rattle.page.specs.Layout.{pageSize}
+use Rattle.recovery.specs.Places.{nth}
+use Rattle.recovery.specs.Log.{Entry, blank, torn, bad, opening, image, outcome, undecided}
+use Rattle.recovery.specs.Lawful.{lowestUnlawful}
+use Rattle.recovery.specs.Sheet.{pages}
+use Rattle.recovery.specs.World.{sizes, down, endOf, isBlank}
+use Rattle.recovery.specs.Lent.{pagesOf, inspectable, inspected}
+use Rattle.recovery.specs.declared.Inspected as inspection
+use Rattle.recovery.specs.declared.Inspected.the-variants.{Lowest}
+use Rattle.recovery.proofs.Pages.{pages-long, length-down}
+use Rattle.recovery.proofs.InspectLaw.{none-lawful}
+use Rattle.recovery.proofs.OpeningEnds.{end-le}
+use Rattle.promises.specs.Runs.{off, Event, heard, AllAllowed}
+use Rattle.promises.specs.Model.{modelHeard}
+use Rattle.promises.proofs.logs.Logs.{test-lawful}
+use Rattle.promises.proofs.ledger.Ledger.{ledgerOpened}
+use Rattle.promises.proofs.ledger.Openings.{Holds}
+use Rattle.promises.proofs.answers.Objects.{Stands}
+use Rattle.promises.proofs.answers.ModelRuns.{heard-alike}
+use Rattle.promises.proofs.boxes.Boxes.{Reached}
+use Rattle.promises.specs.FromLog.{modelOf, logIn}
+
+blank-is : (g : Entry) → isBlank g ≡ true → g ≡ blank
+blank-is blank e = refl
+blank-is torn e = absurd (false≢true e)
+blank-is bad e = absurd (false≢true e)
+blank-is opening e = absurd (false≢true e)
+blank-is (image i) e = absurd (false≢true e)
+blank-is (outcome a c) e = absurd (false≢true e)
+
+-- above the end all is blank
+clean-above : (P : List Entry) (n p : ℕ) → endOf P n < p → p ≤ n → nth blank P p ≡ blank
+unfolding endOf
+clean-above P zero p h k = absurd (omega arith)
+clean-above P (suc q) p h k = go (isBlank (getD P q blank)) refl h (eqb p (suc q)) refl (λ a b. clean-above P q p a b)
+  where
+    go : (b : Bool) → isBlank (getD P q blank) ≡ b → cond b (endOf P q) (suc q) < p → (c : Bool) → eqb p (suc q) ≡ c → (endOf P q < p → p ≤ q → nth blank P p ≡ blank) → nth blank P p ≡ blank
+    go true e l true f r = ap (nth blank P) (eqb-true p (suc q) f) ∙ blank-is (getD P q blank) e
+    go true e l false f r = r l (omega (arith, eqb-false p (suc q) f))
+    go false e l c f r = absurd (omega arith)
+
+module _ (n files : ℕ) (s : List ℕ) (long : length s ≡ pageSize * n) (sz : sizes n n files ≡ true) (h : inspected s files ≡ Lowest 0) where
+  abbrev P : List Entry
+  P = pagesOf s files
+
+  abbrev e : ℕ
+  e = endOf P (length s / pageSize)
+
+  abbrev l : List Entry
+  l = logIn files s
+
+  nothing-bad : lowestUnlawful l ≡ 0
+  unfolding inspected
+  nothing-bad = go (inspectable (length s) files) h
+    where
+      go : (b : Bool) → cond b (Lowest (lowestUnlawful l)) inspection.Inspected.Refused ≡ Lowest 0 → lowestUnlawful l ≡ 0
+      go true q = cc
+      go false q = let z : _≡_ {A = ℕ} 0 1 = cc in absurd (omega arith)
+
+  n-is : length s / pageSize ≡ n
+  n-is = omega arith
+
+  l-long : length l ≡ e
+  l-long = length-down P e
+
+  holds : Holds P (length s / pageSize) l
+  holds = record {
+    long = pages-long files (length s / pageSize) s;
+    lawful = test-lawful l (none-lawful l nothing-bad);
+    room = omega (arith, l-long, end-le P (length s / pageSize));
+    log = ap (down P) l-long;
+    clean = λ p k. go p (omega (arith, l-long)) (leb p (length s / pageSize)) refl;
+  }
+    where
+      go : (p : ℕ) → e < p → (b : Bool) → leb p (length s / pageSize) ≡ b → nth blank P p ≡ blank
+      go zero k b q = refl
+      go (suc i) k true q = clean-above P (length s / pageSize) (suc i) k (leb-true (suc i) (length s / pageSize) q)
+      go (suc i) k false q = List·getD-eq-default P blank (omega (arith, pages-long files (length s / pageSize) s, leb-false (suc i) (length s / pageSize) q))
+
+  lies : Holds (pages files n s) n l
+  lies = subst (λ m. Holds (pages files m s) m l) n-is holds
+
+  reached : Reached n files (off s)
+  reached = record { ledger = ledgerOpened n files l 0; at = record { sized = sz; long = long; pages-are = refl; files-are = refl; holds = lies; stands = tt } }
+
+  stands : Stands false (reached .ledger) (modelOf n files l)
+  unfolding reached
+  stands = record {
+    pages = refl;
+    files = refl;
+    used = refl;
+    undecided = refl;
+    status = λ a. refl;
+    history = λ f. refl;
+    token = λ f. refl;
+    ends = λ o. absurd (false≢true o);
+  }
+
+pub any-heard : (n files : ℕ) (s : List ℕ) (es : List Event) → sizes n n files ≡ true → length s ≡ pageSize * n → inspected s files ≡ Lowest 0 → AllAllowed n files es
+    → heard (off s) es ≡ modelHeard false (modelOf n files (logIn files s)) es
+any-heard n files s es sz long h t = heard-alike n files (off s) (reached n files s long sz h) (modelOf n files (logIn files s)) (stands n files s long sz h) es t

@@ -1,0 +1,313 @@
+-- What people see, traced to the calls: fates to begins and decisions, values to writes; and whole or not at all.
+use Prim.Native.Nat.{ℕ, suc, _-_, _≤_, _<_}
+use mathlib.Core.Path.{_≡_, refl, sym, ap, _∙_, subst}
+use mathlib.Core.List.{List, [], _∷_}
+use mathlib.Core.Bool.{Bool, true, false, cond, false≢true}
+use mathlib.Core.Option.{some}
+use mathlib.Core.Logic.{_⊎_, inl, inr}
+use native.Mathlib.Omega.{arith}
+use lib.ListN.{length, take, replicate}
+use lib.Seq.{length-take-le}
+use lib.Dec.{eqb, leb}
+use borrow.Author.Tests.{eq-eqb, eqb-true, le-leb, leb-true, leb-false}
+use Rattle.encoding.proofs.Parts.{length-part}
+use Rattle.page.specs.declared.Unpacked.{Unpacked}
+use Rattle.page.specs.declared.Unpacked.the-variants.{Refused, Blank, Torn, Opening, Image as AnImage, Outcome, Unfit}
+use Rattle.page.specs.Layout.{pageSize, valueSize}
+use Rattle.page.specs.Table.{valueOf}
+use Rattle.page.specs.Answers.{tested, valueIn}
+use Rattle.page.proofs.Found.{found, image-is}
+use Rattle.recovery.specs.Log.{Image, Entry, blank, torn, bad, opening, image, outcome, Fate, unknown, undecided, committed, aborted, verdict, fateOf}
+use Rattle.recovery.specs.Sheet.{pageBytes, entryOf, decoded, sealed}
+use Rattle.recovery.specs.World.{fateNumber}
+use Rattle.recovery.specs.declared.Answer.the-variants.{Stored, Value, Told}
+use Rattle.calls.specs.Calls.{Call, begin, write, read, test, decide, rebuild}
+use Rattle.recovery.proofs.Spots.{entryIn, entry-cons, entry-top}
+use Rattle.promises.specs.Runs.{Box, sheetOf, Event, calls, answerTo, runs, blankBox, Run}
+use Rattle.promises.specs.Model as model
+use Rattle.promises.specs.Model.{testing, modelAnswer}
+use Rattle.promises.specs.FromLog.{statusOf}
+use Rattle.promises.specs.Promises.{IsPageOf, Did, AllShow, NoneShows, WasWritten}
+use Rattle.promises.proofs.logs.Logs.{Lawful, Known}
+use Rattle.promises.proofs.bytes.Replaced.{unsealed, bad-image}
+use Rattle.promises.proofs.boxes.Boxes.{isOn, bounds}
+use Rattle.promises.proofs.boxes.Found.{some-is, not-heard}
+use Rattle.promises.proofs.boxes.BoxShown.{box-all, box-shows}
+use Rattle.recovery.proofs.InspectFates.{undecided-known}
+use Rattle.promises.proofs.answers.Heard.{answered, hears}
+use Rattle.promises.proofs.answers.Modelled.{Modelled, modelled, answer-modelled}
+use Rattle.promises.proofs.answers.Origins.{Lies, Solid, solid-opening, solid-image, solid-outcome, lies-page, origin, did}
+
+clash : {A : Type 0} → _≡_ {A = ℕ} 0 1 → A
+clash z = absurd (omega arith)
+
+-- ---- the page that tells a fate
+
+lies-more : (x : Entry) (l : List Entry) (p : ℕ) (g : Entry) → Lies l p g → Lies (x ∷ l) p g
+lies-more x l p g h = record { low = h .low; high = omega (arith, h .high); here = entry-cons x l p (h .high) ∙ h .here }
+
+lies-top : (x : Entry) (l : List Entry) → Lies (x ∷ l) (suc (length l)) x
+lies-top x l = record { low = omega arith; high = omega arith; here = entry-top x l }
+
+-- a place of a log with this page
+abbrev Somewhere : List Entry → Entry → Type 0
+Somewhere l g = (p : ℕ) × Lies l p g
+
+some-more : (x : Entry) (l : List Entry) (g : Entry) → Somewhere l g → Somewhere (x ∷ l) g
+some-more x l g h = (h .0, lies-more x l (h .0) g (h .1))
+
+not-verdict : {A : Type 0} (c : Bool) (x : Fate) → fateNumber x ≤ 1 → x ≡ verdict c → A
+not-verdict true x h e = let z : fateNumber x ≡ 2 = ap fateNumber e in absurd (omega arith)
+not-verdict false x h e = let z : fateNumber x ≡ 3 = ap fateNumber e in absurd (omega arith)
+
+verdict-same : (c d : Bool) → verdict d ≡ verdict c → d ≡ c
+verdict-same true true e = refl
+verdict-same true false e = clash cc
+verdict-same false true e = clash cc
+verdict-same false false e = refl
+
+outcome-in : (l : List Entry) (a : ℕ) (c : Bool) → fateOf l a ≡ verdict c → Somewhere l (outcome a c)
+unfolding fateOf
+outcome-in [] a c e = not-verdict c unknown (omega arith) e
+outcome-in (blank ∷ l) a c e = some-more blank l (outcome a c) (outcome-in l a c e)
+outcome-in (torn ∷ l) a c e = some-more torn l (outcome a c) (outcome-in l a c e)
+outcome-in (bad ∷ l) a c e = some-more bad l (outcome a c) (outcome-in l a c e)
+outcome-in (image i ∷ l) a c e = some-more (image i) l (outcome a c) (outcome-in l a c e)
+outcome-in (opening ∷ l) a c e = go (eqb a (suc (length l))) e (λ q. outcome-in l a c q)
+  where
+    go : (b : Bool) → cond b undecided (fateOf l a) ≡ verdict c → (fateOf l a ≡ verdict c → Somewhere l (outcome a c)) → Somewhere (opening ∷ l) (outcome a c)
+    go true q r = not-verdict c undecided (omega arith) q
+    go false q r = some-more opening l (outcome a c) (r q)
+outcome-in (outcome x d ∷ l) a c e = go (eqb a x) refl e (λ q. outcome-in l a c q)
+  where
+    go : (b : Bool) → eqb a x ≡ b → cond b (verdict d) (fateOf l a) ≡ verdict c → (fateOf l a ≡ verdict c → Somewhere l (outcome a c)) → Somewhere (outcome x d ∷ l) (outcome a c)
+    go true k q r =
+        let i : x ≡ a = sym (eqb-true a x k) in
+        let j : d ≡ c = verdict-same c d q in
+        (suc (length l), subst (λ g. Lies (outcome x d ∷ l) (suc (length l)) g) (λ t. outcome (i t) (j t)) (lies-top (outcome x d) l))
+    go false k q r = some-more (outcome x d) l (outcome a c) (r q)
+
+-- a known action's opening stands at its place
+opening-in : (l : List Entry) (a : ℕ) → Lawful l → Known (fateOf l a) → Lies l a opening
+unfolding fateOf
+opening-in [] a w h = absurd (omega arith)
+opening-in (blank ∷ l) a w h = absurd (w .0)
+opening-in (torn ∷ l) a w h = lies-more torn l a opening (opening-in l a (w .1) h)
+opening-in (bad ∷ l) a w h = absurd (w .0)
+opening-in (image i ∷ l) a w h = lies-more (image i) l a opening (opening-in l a (w .1) h)
+opening-in (opening ∷ l) a w h = go (eqb a (suc (length l))) refl h (opening-in l a (w .1))
+  where
+    go : (b : Bool) → eqb a (suc (length l)) ≡ b → Known (cond b undecided (fateOf l a)) → (Known (fateOf l a) → Lies l a opening) → Lies (opening ∷ l) a opening
+    go true k q r = subst (λ p. Lies (opening ∷ l) p opening) (sym (eqb-true a (suc (length l)) k)) (lies-top opening l)
+    go false k q r = lies-more opening l a opening (r q)
+opening-in (outcome x d ∷ l) a w h = go (eqb a x) refl h (opening-in l a (w .1))
+  where
+    go : (b : Bool) → eqb a x ≡ b → Known (cond b (verdict d) (fateOf l a)) → (Known (fateOf l a) → Lies l a opening) → Lies (outcome x d ∷ l) a opening
+    go true k q r =
+        let i : fateOf l a ≡ undecided = ap (fateOf l) (eqb-true a x k) ∙ w .0 in
+        lies-more (outcome x d) l a opening (r (undecided-known i))
+    go false k q r = lies-more (outcome x d) l a opening (r q)
+
+-- ---- the call of a page
+
+call-opening : (k : Call) → IsPageOf k opening → k ≡ begin
+call-opening begin h = refl
+call-opening (write f s a v) h = let e = h .1 in clash cc
+call-opening (read f t a) h = absurd h
+call-opening (test a) h = absurd h
+call-opening (decide a c) h = clash cc
+call-opening (rebuild f) h = absurd h
+
+call-outcome : (k : Call) (a : ℕ) (c : Bool) → IsPageOf k (outcome a c) → k ≡ decide a c
+call-outcome begin a c h = clash cc
+call-outcome (write f s b v) a c h = let e = h .1 in clash cc
+call-outcome (read f t b) a c h = absurd h
+call-outcome (test b) a c h = absurd h
+call-outcome (decide b d) a c h = let i : b ≡ a = cc in let j : d ≡ c = cc in λ t. decide (i t) (j t)
+call-outcome (rebuild f) a c h = absurd h
+
+call-image : (k : Call) (i : Image) → IsPageOf k (image i) → k ≡ write (i .file) (i .start) (i .action) (i .value)
+call-image begin i h = clash cc
+call-image (write f s a v) i h =
+    let e : i ≡ record { file = f; action = a; link = h .0; start = s; value = v } = same (h .1) in
+    λ t. write (sym e t .file) (sym e t .start) (sym e t .action) (sym e t .value)
+  where
+    same : {x y : Image} → image x ≡ image y → x ≡ y
+    same e = cc
+call-image (read f t a) i h = absurd h
+call-image (test a) i h = absurd h
+call-image (decide a c) i h = clash cc
+call-image (rebuild f) i h = absurd h
+
+-- ---- what a test tells
+
+module _ (n files : ℕ) (b : Box) (m : Modelled n files b) where
+  pub told-fate : (a fate : ℕ) → answerTo b (calls (test a)) ≡ some (Told fate)
+      → (isOn b ≡ true) × Known (fateOf (m .reached .ledger .log) a) × (fateNumber (fateOf (m .reached .ledger .log) a) ≡ fate)
+  told-fate a fate e = go (isOn b) (sym (answer-modelled n files b m (calls (test a)) tt) ∙ e)
+    where
+      by-fate : (x : Fate) → testing (m .model) (statusOf x) .0 ≡ Told fate → Known x × (fateNumber x ≡ fate)
+      by-fate unknown q = clash cc
+      by-fate undecided q = (omega arith, cc)
+      by-fate committed q = (omega arith, cc)
+      by-fate aborted q = (omega arith, cc)
+
+      go : (c : Bool) → modelAnswer c (m .model) (calls (test a)) ≡ some (Told fate) → (c ≡ true) × Known (fateOf (m .reached .ledger .log) a) × (fateNumber (fateOf (m .reached .ledger .log) a) ≡ fate)
+      go true q = let r = by-fate (fateOf (m .reached .ledger .log) a) (ap (λ s. testing (m .model) s .0) (sym (m .stands .status a)) ∙ some-is q) in (refl, r .0, r .1)
+      go false q = not-heard q
+
+  -- an action's status, by its fate
+  pub status-by : (a : ℕ) (x : Fate) → fateOf (m .reached .ledger .log) a ≡ x → m .model .status a ≡ statusOf x
+  status-by a x e = m .stands .status a ∙ ap statusOf e
+
+-- ---- the bytes of a value
+
+image-same : {x y : Image} → image x ≡ image y → x ≡ y
+image-same e = cc
+
+-- the value's bytes in an image's page are the image's value
+value-bytes : (files : ℕ) (s : List ℕ) (p : ℕ) (i : Image) → sealed files s p ≡ image i → take (length (i .value)) (valueIn (pageBytes s p)) ≡ i .value
+unfolding sealed decoded valueIn
+value-bytes files s p i e = go (tested (pageBytes s p) p files) refl (unsealed (decoded files s) (decoded files s p) (image i) (bad-image i) e)
+  where
+    go : (u : Unpacked) → u ≡ tested (pageBytes s p) p files → entryOf (pageBytes s p) u ≡ image i
+        → take (length (i .value)) (cond (eqb (length (pageBytes s p)) pageSize) (valueOf (pageBytes s p)) (replicate valueSize 0)) ≡ i .value
+    go Refused q k = clash cc
+    go Blank q k = clash cc
+    go Torn q k = clash cc
+    go (Opening x) q k = clash cc
+    go (Outcome x) q k = clash cc
+    go Unfit q k = clash cc
+    go (AnImage x) q k =
+        let f = found (pageBytes s p) p files (AnImage x) q in
+        let h = image-is (pageBytes s p) p files x q in
+        let long : length (pageBytes s p) ≡ pageSize = f .bounds .size-is in
+        let v : take (x .small) (valueOf (pageBytes s p)) ≡ i .value = ap (λ (y : Image). y .value) (image-same k) in
+        let n : length (i .value) ≡ x .small = ap length (sym v) ∙ length-take-le (x .small) (valueOf (pageBytes s p)) (omega (arith, h .size, length-part 24 56 (pageBytes s p) (omega arith))) in
+        rw (eq-eqb (length (pageBytes s p)) pageSize long, n) v
+
+-- ---- fates and the calls that made them
+
+verdict-is : (c : Bool) (x : Fate) → fateNumber x ≡ fateNumber (verdict c) → x ≡ verdict c
+verdict-is true unknown e = absurd (omega arith)
+verdict-is true undecided e = absurd (omega arith)
+verdict-is true committed e = refl
+verdict-is true aborted e = absurd (omega arith)
+verdict-is false unknown e = absurd (omega arith)
+verdict-is false undecided e = absurd (omega arith)
+verdict-is false committed e = absurd (omega arith)
+verdict-is false aborted e = refl
+
+pub told-number : (c : Bool) → _≡_ {A = ℕ} (cond c 2 3) (fateNumber (verdict c))
+told-number true = refl
+told-number false = refl
+
+pub undecided-by : (x : Fate) → fateNumber x ≡ 1 → x ≡ undecided
+undecided-by unknown e = absurd (omega arith)
+undecided-by undecided e = refl
+undecided-by committed e = absurd (omega arith)
+undecided-by aborted e = absurd (omega arith)
+
+module _ (n files : ℕ) (es : List Event) (r : Run n files es) where
+  abbrev box : Box
+  box = runs (blankBox n) es
+
+  abbrev m : Modelled n files box
+  m = modelled n files es r
+
+  lawful : Lawful (m .reached .ledger .log)
+  lawful = m .reached .at .holds .lawful
+
+  -- the run did the call whose page lies in the log
+  done : (p : ℕ) (g : Entry) (k : Call) → Solid g → ((c : Call) → IsPageOf c g → c ≡ k) → Lies (m .reached .ledger .log) p g → Did n files es k p
+  done p g k s only h =
+      let a = origin n files es r p g s (lies-page n files box (m .reached) p g h) in
+      subst (λ c. Did n files es c p) (only (a .adds .by) (a .adds .page)) (did n files es p g a)
+
+  pub run-begun-only : (action fate : ℕ) → answerTo box (calls (test action)) ≡ some (Told fate) → Did n files es begin action
+  run-begun-only action fate e =
+      done action opening begin solid-opening call-opening (opening-in (m .reached .ledger .log) action lawful (told-fate n files box m action fate e .1))
+
+  pub run-decided-only : (action : ℕ) (c : Bool) → answerTo box (calls (test action)) ≡ some (Told (cond c 2 3)) → (place : ℕ) × Did n files es (decide action c) place
+  run-decided-only action c e =
+      let o = outcome-in (m .reached .ledger .log) action c (verdict-is c (fateOf (m .reached .ledger .log) action) (told-fate n files box m action (cond c 2 3) e .2 ∙ told-number c)) in
+      (o .0, done (o .0) (outcome action c) (decide action c) (solid-outcome action c) (λ k h. call-outcome k action c h) (o .1))
+
+  -- ---- an undecided action can be decided
+
+  top-blank : (l : List Entry) → Lawful l → 1 ≤ length l → entryIn l (length l) ≡ blank → ⊥
+  top-blank [] w h e = omega arith
+  top-blank (blank ∷ l) w h e = w .0
+  top-blank (torn ∷ l) w h e = let q = sym (entry-top torn l) ∙ e in clash cc
+  top-blank (bad ∷ l) w h e = w .0
+  top-blank (opening ∷ l) w h e = let q = sym (entry-top opening l) ∙ e in clash cc
+  top-blank (image i ∷ l) w h e = let q = sym (entry-top (image i) l) ∙ e in clash cc
+  top-blank (outcome a c ∷ l) w h e = let q = sym (entry-top (outcome a c) l) ∙ e in clash cc
+
+  room-left : sealed files (sheetOf box) n ≡ blank → length (m .reached .ledger .log) < n
+  room-left e = go (leb n (length (m .reached .ledger .log))) refl
+    where
+      o : length (m .reached .ledger .log) ≤ n
+      o = omega (arith, m .reached .at .holds .room)
+
+      go : (b : Bool) → leb n (length (m .reached .ledger .log)) ≡ b → length (m .reached .ledger .log) < n
+      go false q = leb-false n (length (m .reached .ledger .log)) q
+      go true q =
+          let full : length (m .reached .ledger .log) ≡ n = omega (arith, leb-true n (length (m .reached .ledger .log)) q, o) in
+          let some : 1 ≤ n = bounds n files (r .sized) .some-pages in
+          let here : sealed files (sheetOf box) n ≡ entryIn (m .reached .ledger .log) n = lies-page n files box (m .reached) n (entryIn (m .reached .ledger .log) n) (record { low = some; high = omega arith; here = refl }) in
+          absurd (top-blank (m .reached .ledger .log) lawful (omega arith) (ap (entryIn (m .reached .ledger .log)) full ∙ sym here ∙ e))
+
+  pub run-can-be-decided : (action : ℕ) (c : Bool) → answerTo box (calls (test action)) ≡ some (Told 1) → sealed files (sheetOf box) n ≡ blank
+      → (place : ℕ) × (answerTo box (calls (decide action c)) ≡ some (Stored place))
+  run-can-be-decided action c e q =
+      let t = told-fate n files box m action 1 e in
+      let u = status-by n files box m action undecided (undecided-by (fateOf (m .reached .ledger .log) action) (t .2)) in
+      let room : 1 ≤ m .model .pages - m .model .used = omega (arith, room-left q, m .stands .pages, m .stands .used, m .reached .at .pages-are) in
+      (suc (m .model .used), answer-modelled n files box m (calls (decide action c)) tt ∙ rw (t .0, u, le-leb 1 (m .model .pages - m .model .used) room))
+
+  -- ---- whole or not at all
+
+  told-two : isOn box ≡ true → (action : ℕ) → m .model .status action ≡ some model.committed → answerTo box (calls (test action)) ≡ some (Told 2)
+  told-two o action e = answer-modelled n files box m (calls (test action)) tt ∙ rw (o, e)
+
+  all-show : (action : ℕ) → answerTo box (calls (test action)) ≡ some (Told 2) → AllShow n files box action
+  all-show action h place i here mine = hears box (calls (read (i .file) (i .start) 0)) (Value place (i .start) (length (i .value)))
+      (box-all n files box (m .reached) place i here (subst (λ x. answerTo box (calls (test x)) ≡ some (Told 2)) (sym mine) h))
+
+  none-shows : (action : ℕ) → (answerTo box (calls (test action)) ≡ some (Told 2) → ⊥) → NoneShows n files box action
+  none-shows action h file time reader place start size i other here mine e =
+      let v = box-shows n files box (m .reached) file time reader place start size (answered box (calls (read file time reader)) (Value place start size) e) in
+      let a : v .seen .action ≡ action = ap (λ (x : Image). x .action) (image-same (sym (v .here) ∙ here)) ∙ mine in
+      h (subst (λ x. answerTo box (calls (test x)) ≡ some (Told 2)) a (answered box (calls (test (v .seen .action))) (Told 2) (v .whose (λ q. other (sym q ∙ a)) .2)))
+
+  not-two : (action : ℕ) (x : Fate) → fateOf (m .reached .ledger .log) action ≡ x → (fateNumber x ≡ 2 → ⊥) → NoneShows n files box action
+  not-two action x e h = none-shows action (λ q. h (ap fateNumber (sym e) ∙ told-fate n files box m action 2 q .2))
+
+  pub run-whole-or-none : (action : ℕ) → AllShow n files box action ⊎ NoneShows n files box action
+  run-whole-or-none action = go (isOn box) refl (fateOf (m .reached .ledger .log) action) refl
+    where
+      go : (c : Bool) → isOn box ≡ c → (x : Fate) → fateOf (m .reached .ledger .log) action ≡ x → AllShow n files box action ⊎ NoneShows n files box action
+      go c o unknown e = inr (not-two action unknown e (λ q. omega arith))
+      go c o undecided e = inr (not-two action undecided e (λ q. omega arith))
+      go c o aborted e = inr (not-two action aborted e (λ q. omega arith))
+      go true o committed e = inl (all-show action (told-two o action (status-by n files box m action committed e)))
+      go false o committed e = inr (none-shows action (λ q. false≢true (sym o ∙ told-fate n files box m action 2 q .0)))
+
+  -- ---- what is read was written
+
+  pub run-was-written : (file time reader place start size : ℕ) → answerTo box (calls (read file time reader)) ≡ some (Value place start size) → WasWritten n files es file reader place start size
+  run-was-written file time reader place start size e =
+      let v = box-shows n files box (m .reached) file time reader place start size e in
+      let i = v .seen in
+      let a = origin n files es r place (image i) (solid-image i) (v .here) in
+      let d : Did n files es (write (i .file) (i .start) (i .action) (i .value)) place =
+      subst (λ c. Did n files es c place) (call-image (a .adds .by) i (a .adds .page)) (did n files es place (image i) a) in
+      record {
+        writer = i .action;
+        value = i .value;
+        wrote = subst (λ x. Did n files es (write x start (i .action) (i .value)) place) (v .is .0) (subst (λ x. Did n files es (write (i .file) x (i .action) (i .value)) place) (v .is .1) d);
+        bytes = ap (λ x. take x (valueIn (pageBytes (sheetOf box) place))) (sym (v .is .2)) ∙ value-bytes files (sheetOf box) place i (v .here);
+        long = sym (v .is .2);
+        whose = λ o. v .whose o .2;
+      }

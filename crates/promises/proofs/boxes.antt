@@ -1,0 +1,8 @@
+-- Each event leads from a box that stands for a ledger to such a box; what is found, kept, shown and answered alike.
+pub mod Boxes
+pub mod Extends
+pub mod Found
+pub mod BoxKept
+pub mod BoxShown
+pub mod Lasting
+pub mod Stable

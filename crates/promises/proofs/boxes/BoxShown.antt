@@ -1,0 +1,166 @@
+-- Whole or not at all, of a box that a run has reached: a committed action shows all its versions, any other none outside itself.
+use Prim.Native.Nat.{ℕ, zero, suc, _≤_, _<_}
+use mathlib.Core.Path.{_≡_, refl, sym, ap, _∙_, subst}
+use mathlib.Core.Bool.{Bool, true, false}
+use mathlib.Core.Option.{some, none}
+use native.Mathlib.Omega.{arith}
+use lib.ListN.{length}
+use lib.Dec.{leb}
+use borrow.Author.Tests.{leb-true, leb-false, le-leb}
+use Rattle.encoding.proofs.Logic.{by-test}
+use Rattle.recovery.specs.Log.{Image, blank, image, Fate, unknown, undecided, committed, aborted, fateOf}
+use Rattle.recovery.specs.Sheet.{decoded, sealed}
+use Rattle.recovery.specs.World.{World, entryAt, fateAt, fateNumber, isFile}
+use Rattle.recovery.specs.declared.Answer.{Answer}
+use Rattle.recovery.specs.declared.Answer.the-variants.{Refused, Value, Nothing, Told}
+use Rattle.recovery.specs.Lent.{Left}
+use Rattle.calls.specs.Calls.{read, test, call}
+use Rattle.promises.specs.Runs.{Box, on, off, sheetOf, calls, callOn, answerTo}
+use Rattle.promises.specs.Promises.{IsVersion, Shown}
+use Rattle.promises.proofs.ledger.Ledger.{Ledger, LedgerResult, ledgerKnows, toldFate}
+use Rattle.promises.proofs.ledger.Sim.{Sim, fate-eq}
+use Rattle.promises.proofs.ledger.SimCalls.{sim-call}
+use Rattle.promises.proofs.ledger.Shown.{committed-shown, own-shown}
+use Rattle.promises.proofs.ledger.Visible.{Whose, kept, own, read-shows, read-none}
+use Rattle.promises.proofs.bytes.Replaced.{unsealed, bad-image, lies-below, Below}
+use Rattle.promises.proofs.boxes.Boxes.{worldIn, Reached, sim, world-says, end-is, page-in, page-lies}
+use Rattle.promises.proofs.answers.Heard.{answered, hears}
+use Rattle.promises.proofs.boxes.Found.{some-is, not-heard, test-tells}
+
+-- what a test tells is the fate
+told-number : (w : World) (l : Ledger) (s : Sim w l) (a y : ℕ) → call w (test a) .0 ≡ Told y → fateNumber (fateOf (l .log) a) ≡ y
+told-number w l s a y e = by-test (λ (r : LedgerResult). r .0 ≡ Told y → fateNumber (fateOf (l .log) a) ≡ y) (ledgerKnows l a)
+    {x = (toldFate (fateOf (l .log) a), l)} {y = (Refused 5 0, l)} (λ t h. cc) (λ t h. let z : _≡_ {A = ℕ} 0 1 = cc in absurd (omega arith))
+    (sym (sim-call w l s (test a) .answer) ∙ e)
+
+committed-is : (x : Fate) → fateNumber x ≡ 2 → x ≡ committed
+committed-is unknown e = absurd (omega arith)
+committed-is undecided e = absurd (omega arith)
+committed-is committed e = refl
+committed-is aborted e = absurd (omega arith)
+
+undecided-is : (x : Fate) → fateNumber x ≡ 1 → x ≡ undecided
+undecided-is unknown e = absurd (omega arith)
+undecided-is undecided e = refl
+undecided-is committed e = absurd (omega arith)
+undecided-is aborted e = absurd (omega arith)
+
+module _ (n files : ℕ) where
+  -- an image of the box, where its world has it
+  module _ (m : Left) (r : Reached n files (on m)) (place : ℕ) (i : Image) (e : sealed files (m .sheet) place ≡ image i) where
+    abbrev w : World
+    w = worldIn n files m
+
+    below : (1 ≤ place) × (place ≤ n)
+    below = page-lies n files (m .sheet) place (image i) (r .at .long) (bad-image i) e
+
+    entry-is : entryAt w place ≡ image i
+    entry-is = page-in n files (m .sheet) place (below .0) (below .1) ∙ e
+
+    in-log : place ≤ w .end
+    in-log = go (leb place (m .state .end)) refl
+      where
+        go : (b : Bool) → leb place (m .state .end) ≡ b → place ≤ m .state .end
+        go true q = leb-true place (m .state .end) q
+        go false q =
+            let z : image i ≡ blank = sym entry-is ∙ sim n files m r .clean place (leb-false place (m .state .end) q) in
+            let y : _≡_ {A = ℕ} 0 1 = cc in absurd (omega arith)
+
+    numbers : (i .action < place) × (1 ≤ i .action) × (1 ≤ i .file) × (i .file ≤ files)
+    unfolding sealed
+    numbers =
+        let d : decoded files (m .sheet) place ≡ image i = unsealed (decoded files (m .sheet)) (decoded files (m .sheet) place) (image i) (bad-image i) e in
+        subst (Below files (m .sheet) place) d (lies-below files (m .sheet) place)
+
+    file-is : isFile (length (w .rows)) (i .file) ≡ true
+    file-is = rw (sim n files m r .files ∙ r .at .files-are, le-leb 1 (i .file) (numbers .2), le-leb (i .file) files (numbers .3))
+
+    -- its fate, by the test of its action
+    fate-is : (y : ℕ) → callOn m (test (i .action)) .answer ≡ Told y → fateNumber (fateAt w (i .action)) ≡ y
+    fate-is y t =
+        ap fateNumber (fate-eq w (r .ledger) (sim n files m r) (i .action))
+        ∙ told-number w (r .ledger) (sim n files m r) (i .action) y (sym (world-says n files m r (test (i .action))) ∙ t)
+
+    all-on : callOn m (test (i .action)) .answer ≡ Told 2 → callOn m (read (i .file) (i .start) 0) .answer ≡ Value place (i .start) (length (i .value))
+    all-on t =
+        world-says n files m r (read (i .file) (i .start) 0)
+        ∙ committed-shown w (r .ledger) (sim n files m r) place i in-log entry-is file-is (committed-is (fateAt w (i .action)) (fate-is 2 t))
+
+    own-on : callOn m (test (i .action)) .answer ≡ Told 1 → (time : ℕ) → i .start ≤ time
+        → callOn m (read (i .file) time (i .action)) .answer ≡ Value place (i .start) (length (i .value))
+    own-on t time h =
+        world-says n files m r (read (i .file) time (i .action))
+        ∙ own-shown w (r .ledger) (sim n files m r) place i time in-log entry-is file-is (undecided-is (fateAt w (i .action)) (fate-is 1 t)) h
+
+  module _ (b : Box) (r : Reached n files b) (place : ℕ) (i : Image) (e : sealed files (sheetOf b) place ≡ image i) where
+    pub box-all : answerTo b (calls (test (i .action))) ≡ some (Told 2) → answerTo b (calls (read (i .file) (i .start) 0)) ≡ some (Value place (i .start) (length (i .value)))
+    box-all = go b r e
+      where
+        go : (b : Box) → Reached n files b → sealed files (sheetOf b) place ≡ image i → answerTo b (calls (test (i .action))) ≡ some (Told 2)
+            → answerTo b (calls (read (i .file) (i .start) 0)) ≡ some (Value place (i .start) (length (i .value)))
+        go (on m) r e t = ap some (all-on m r place i e (some-is t))
+        go (off s) r e t = not-heard t
+
+    pub box-own : answerTo b (calls (test (i .action))) ≡ some (Told 1) → (time : ℕ) → i .start ≤ time
+        → answerTo b (calls (read (i .file) time (i .action))) ≡ some (Value place (i .start) (length (i .value)))
+    box-own = go b r e
+      where
+        go : (b : Box) → Reached n files b → sealed files (sheetOf b) place ≡ image i → answerTo b (calls (test (i .action))) ≡ some (Told 1) → (time : ℕ) → i .start ≤ time
+            → answerTo b (calls (read (i .file) time (i .action))) ≡ some (Value place (i .start) (length (i .value)))
+        go (on m) r e t time h = ap some (own-on m r place i e (some-is t) time h)
+        go (off s) r e t time h = not-heard t
+
+  -- ---- what a read shows
+
+  module _ (m : Left) (r : Reached n files (on m)) (f t a : ℕ) where
+    -- a place that the world has an image at
+    place-in : (p : ℕ) (i : Image) → entryAt (worldIn n files m) p ≡ image i → (1 ≤ p) × (p ≤ n)
+    place-in zero i e = let z : _≡_ {A = ℕ} 0 1 = cc in absurd (omega arith)
+    place-in (suc q) i e = go (leb (suc q) (m .state .end)) refl
+      where
+        go : (b : Bool) → leb (suc q) (m .state .end) ≡ b → (1 ≤ suc q) × (suc q ≤ n)
+        go true k = (omega arith, omega (arith, leb-true (suc q) (m .state .end) k, end-is n files m r, r .at .holds .room))
+        go false k =
+            let z : image i ≡ blank = sym e ∙ sim n files m r .clean (suc q) (leb-false (suc q) (m .state .end) k) in
+            let y : _≡_ {A = ℕ} 0 1 = cc in absurd (omega arith)
+
+    committed-told : (i : Image) → Whose (worldIn n files m) a i → (i .action ≡ a → ⊥) → callOn m (test (i .action)) .answer ≡ Told 2
+    committed-told i (kept c) o =
+        let d : fateOf (r .ledger .log) (i .action) ≡ committed = sym (fate-eq (worldIn n files m) (r .ledger) (sim n files m r) (i .action)) ∙ c in
+        test-tells n files m r (i .action) (rw d (omega arith)) ∙ ap toldFate d
+    committed-told i (own h q) o = absurd (o q)
+
+    said : (x : Answer) → callOn m (read f t a) .answer ≡ x → call (worldIn n files m) (read f t a) .0 ≡ x
+    said x e = sym (world-says n files m r (read f t a)) ∙ e
+
+    shows-on : (p s l : ℕ) → callOn m (read f t a) .answer ≡ Value p s l → Shown n files (on m) f t a p s l
+    shows-on p s l e =
+        let v = read-shows (worldIn n files m) (r .ledger) (sim n files m r) f t a p s l (said (Value p s l) e) in
+        let inside : (1 ≤ p) × (p ≤ n) = place-in p (v .seen) (v .here) in
+        let here : sealed files (m .sheet) p ≡ image (v .seen) = sym (page-in n files (m .sheet) p (inside .0) (inside .1)) ∙ v .here in
+        record { seen = v .seen; here = here; is = (v .file, v .start, v .len, v .inTime, numbers m r p (v .seen) here .1); whose = λ o. (here, v .file, hears (on m) (calls (test (v .seen .action))) (Told 2) (ap some (committed-told (v .seen) (v .whose) o))) }
+
+    -- the highest start that is not above the time
+    module _ (q : ℕ) (i : Image) (v : IsVersion n files (on m) f q i) where
+      fate : fateAt (worldIn n files m) (i .action) ≡ committed
+      fate = committed-is (fateAt (worldIn n files m) (i .action)) (fate-is m r q i (v .0) 2 (some-is (answered (on m) (calls (test (i .action))) (Told 2) (v .2))))
+
+      highest-on : (p s l : ℕ) → callOn m (read f t a) .answer ≡ Value p s l → i .start ≤ t → i .start ≤ s
+      highest-on p s l e k =
+          read-shows (worldIn n files m) (r .ledger) (sim n files m r) f t a p s l (said (Value p s l) e) .latest q i (in-log m r q i (v .0)) (entry-is m r q i (v .0)) (v .1) fate k
+
+      later-on : callOn m (read f t a) .answer ≡ Nothing → t < i .start
+      later-on e = read-none (worldIn n files m) (r .ledger) (sim n files m r) f t a (said Nothing e) q i (in-log m r q i (v .0)) (entry-is m r q i (v .0)) (v .1) fate
+
+  pub box-shows : (b : Box) → Reached n files b → (f t a p s l : ℕ) → answerTo b (calls (read f t a)) ≡ some (Value p s l) → Shown n files b f t a p s l
+  box-shows (on m) r f t a p s l e = shows-on m r f t a p s l (some-is e)
+  box-shows (off u) r f t a p s l e = not-heard e
+
+  pub box-highest : (b : Box) → Reached n files b → (f t a p s l : ℕ) → answerTo b (calls (read f t a)) ≡ some (Value p s l) → (q : ℕ) (i : Image) → IsVersion n files b f q i
+      → i .start ≤ t → i .start ≤ s
+  box-highest (on m) r f t a p s l e q i v k = highest-on m r f t a q i v p s l (some-is e) k
+  box-highest (off u) r f t a p s l e q i v k = not-heard e
+
+  pub box-later : (b : Box) → Reached n files b → (f t a : ℕ) → answerTo b (calls (read f t a)) ≡ some Nothing → (q : ℕ) (i : Image) → IsVersion n files b f q i → t < i .start
+  box-later (on m) r f t a e q i v = later-on m r f t a q i v (some-is e)
+  box-later (off u) r f t a e q i v = not-heard e

@@ -1,0 +1,76 @@
+-- A run only adds to the log: its pages stay, what was decided stays decided so, and what was known stays known.
+use mathlib.Core.Path.{_≡_, refl, _∙_}
+use mathlib.Core.List.{List, [], _∷_}
+use mathlib.Core.Bool.{Bool, true, false, cond}
+use Prim.Native.Nat.{ℕ, suc, _≤_}
+use native.Mathlib.Omega.{arith}
+use lib.ListN.{length}
+use lib.Dec.{eqb, ltb}
+use borrow.Author.Tests.{eq-eqb, ne-eqb}
+use Rattle.page.specs.Layout.{pageSize}
+use Rattle.recovery.specs.Log.{Entry, blank, torn, fateOf}
+use Rattle.recovery.specs.Sheet.{sealed}
+use Rattle.recovery.proofs.Spots.{entryIn, entry-cons, entry-top}
+use Rattle.promises.proofs.logs.Logs.{Fits, Lawful, Known, Keeps, fate-keeps, fate-knows}
+use Rattle.promises.proofs.ledger.Ledger.{ledgerCall}
+use Rattle.promises.proofs.ledger.SimCalls.{sim-call}
+use Rattle.promises.proofs.bytes.Cuts.{cutLog, Step, stay, add, moves}
+use Rattle.promises.specs.Runs.{Box, on, off, sheetOf, Event, calls, opens, cuts, after, runs, Allowed, AllAllowed}
+use Rattle.promises.proofs.bytes.Stored.{bytesOf}
+use Rattle.promises.proofs.boxes.Boxes.{worldIn, Reached, sim, at-next, reached-next, reached-on, log-page}
+
+-- a log that goes on from another: the same pages, what was decided decided so, what was known known
+pub record Extends (l l′ : List Entry) : Type 0 where
+  pub longer : length l ≤ length l′
+  pub pages : (p : ℕ) → p ≤ length l → entryIn l′ p ≡ entryIn l p
+  pub fates : Keeps (fateOf l) (fateOf l′)
+  pub known : (a : ℕ) → Known (fateOf l a) → Known (fateOf l′ a)
+
+pub ext-refl : (l : List Entry) → Extends l l
+ext-refl l = record { longer = omega arith; pages = λ p h. refl; fates = λ a d. refl; known = λ a d. d }
+
+ext-add : (g : Entry) (l l′ : List Entry) → Fits g l′ → Lawful l′ → Extends l l′ → Extends l (g ∷ l′)
+ext-add g l l′ f w h = record {
+  longer = omega (arith, h .longer);
+  pages = λ p q. entry-cons g l′ p (omega (arith, h .longer)) ∙ h .pages p q;
+  fates = λ a d. fate-keeps g l′ f w a (rw (h .fates a d) d) ∙ h .fates a d;
+  known = λ a d. fate-knows g l′ a (h .known a d);
+}
+
+ext-step : (l k k′ : List Entry) → Step k k′ → Lawful k′ → Extends l k → Extends l k′
+ext-step l k k′ stay w h = h
+ext-step l k k′ (add g) w h = ext-add g l k (w .0) (w .1) h
+
+ext-cut : (l k k′ : List Entry) (n : ℕ) → Step k k′ → Lawful k′ → Extends l k → Extends l (cutLog k k′ n)
+unfolding cutLog
+ext-cut l k k′ n stay w h = rw (eq-eqb (length k) (length k) refl) h
+ext-cut l k k′ n (add g) w h = rw (ne-eqb (suc (length k)) (length k) (λ e. omega arith), entry-top g k) (go (eqb n 0) (ltb n pageSize))
+  where
+    go : (x y : Bool) → Extends l (cond x k (cond x blank (cond y torn g) ∷ k))
+    go true y = h
+    go false true = ext-add torn l k tt (w .1) h
+    go false false = ext-add g l k (w .0) (w .1) h
+
+-- ---- an event and a run only add to the log
+
+module _ (n files : ℕ) where
+  pub event-extends : (b : Box) (r : Reached n files b) (e : Event) (t : Allowed n files e) (l : List Entry) → Extends l (r .ledger .log) → Extends l (reached-next n files b r e t .ledger .log)
+  event-extends (on m) r (calls k) t l h =
+      ext-step l (r .ledger .log) (ledgerCall (r .ledger) k .1 .log) (moves (r .ledger) k .steps) (at-next n files (on m) r (calls k) t .holds .lawful) h
+  event-extends (off s) r (calls k) t l h = h
+  event-extends (on m) r (opens floor fates rows) t l h = h
+  event-extends (off s) r (opens floor fates rows) t l h = h
+  event-extends (on m) r (cuts k kept) t l h =
+      ext-cut l (r .ledger .log) (ledgerCall (r .ledger) k .1 .log) (bytesOf kept) (moves (r .ledger) k .steps) (sim-call (worldIn n files m) (r .ledger) (sim n files m r) k .after .lawful) h
+  event-extends (off s) r (cuts k kept) t l h = h
+
+  pub extends : (b : Box) (r : Reached n files b) (es : List Event) (t : AllAllowed n files es) (l : List Entry) → Extends l (r .ledger .log) → Extends l (reached-on n files b r es t .ledger .log)
+  extends b r [] t l h = h
+  extends b r (e ∷ es) t l h = extends (after b e) (reached-next n files b r e (t .0)) es (t .1) l (event-extends b r e (t .0) l h)
+
+  -- a page of the log stays through any run
+  pub stays : (b : Box) (r : Reached n files b) (es : List Event) → AllAllowed n files es → (p : ℕ) (g : Entry) → 1 ≤ p → p ≤ length (r .ledger .log) → entryIn (r .ledger .log) p ≡ g
+      → sealed files (sheetOf (runs b es)) p ≡ g
+  stays b r es t p g low high e =
+      let x = extends b r es t (r .ledger .log) (ext-refl (r .ledger .log)) in
+      log-page n files (runs b es) (reached-on n files b r es t) p low (omega (arith, x .longer)) ∙ x .pages p high ∙ e

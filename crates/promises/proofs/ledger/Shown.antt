@@ -1,0 +1,132 @@
+-- A committed action shows all its versions: a read at its start finds each. An undecided one shows them to itself.
+use mathlib.Core.Path.{_≡_, refl, sym, _∙_}
+use mathlib.Core.List.{List, [], _∷_}
+use mathlib.Core.Bool.{Bool, true, false, cond}
+use mathlib.Core.Option.{Option, some, none, Option·some-ne-none}
+use Prim.Native.Nat.{ℕ, suc, _≤_, _<_}
+use native.Mathlib.Omega.{arith}
+use lib.ListN.{length}
+use lib.Dec.{eqb}
+use borrow.Author.Tests.{eqb-true, eq-eqb, ne-eqb, le-leb, lt-leb}
+use Rattle.encoding.proofs.Logic.{by-test}
+use Rattle.recovery.specs.Log.{Image, Entry, blank, torn, bad, opening, image, outcome, Fate, unknown, undecided, committed, aborted, Placed, fateOf, imagesOf, currentStep, tokenStep, currentOf, tokenOf, startOf}
+use Rattle.recovery.specs.Lawful.{token}
+use Rattle.recovery.specs.World.{World, entryAt, fateAt, isFile}
+use Rattle.recovery.specs.declared.Answer.the-variants.{Value}
+use Rattle.recovery.proofs.InspectFates.{undecided-known, All, decided-free}
+use Rattle.calls.specs.Calls.{read, call}
+use Rattle.recovery.proofs.Spots.{entryIn}
+use Rattle.promises.proofs.logs.Logs.{Known, Decided, not-undecided, known-place}
+use Rattle.promises.proofs.logs.Chains.{Chain, chain}
+use Rattle.promises.proofs.logs.Versions.{version, Among, first, next, newest, shown}
+use Rattle.promises.proofs.ledger.Ledger.{Ledger, ledgerCall}
+use Rattle.promises.proofs.ledger.Sim.{Sim, fate-eq, entry-eq}
+use Rattle.promises.proofs.ledger.SimCalls.{sim-call}
+
+-- an image of a log is among its file's images
+pub entry-among : (l : List Entry) (p : ℕ) (i : Image) → entryIn l p ≡ image i → Among (record { place = p; image = i }) (imagesOf l (i .file))
+unfolding imagesOf
+entry-among [] p i e = let z : _≡_ {A = ℕ} 0 1 = cc in absurd (omega arith)
+entry-among (g ∷ l) p i e = go (eqb p (suc (length l))) refl e (entry-among l p i)
+  where
+    lift : (g : Entry) → Among (record { place = p; image = i }) (imagesOf l (i .file))
+        → Among (record { place = p; image = i }) (imagesOf (g ∷ l) (i .file))
+    lift blank h = h
+    lift torn h = h
+    lift bad h = h
+    lift opening h = h
+    lift (image j) h = by-test (Among (record { place = p; image = i })) (eqb (j .file) (i .file)) (λ q. next h) (λ q. h)
+    lift (outcome a c) h = h
+
+    go : (b : Bool) → eqb p (suc (length l)) ≡ b → cond b g (entryIn l p) ≡ image i
+        → (entryIn l p ≡ image i → Among (record { place = p; image = i }) (imagesOf l (i .file))) → Among (record { place = p; image = i }) (imagesOf (g ∷ l) (i .file))
+    go true q k r = rw (k, eq-eqb (i .file) (i .file) refl, ← eqb-true p (suc (length l)) q) first
+    go false q k r = lift g (r k)
+
+-- a token starts after every version, and an undecided image is its file's token
+pub token-later : (φ : ℕ → Fate) (xs : List Placed) (y : Placed) → Chain φ xs → tokenOf φ xs ≡ some y → startOf (currentOf φ xs) < y .image .start
+unfolding tokenOf currentOf
+token-later φ [] y h e = absurd (Option·some-ne-none _ (sym e))
+token-later φ (x ∷ xs) y h e = go (φ (x .image .action)) (h .0 .sure) e
+  where
+    go : (q : Fate) → Known q → tokenStep q x (tokenOf φ xs) ≡ some y → startOf (currentStep q x (currentOf φ xs)) < y .image .start
+    go unknown k r = absurd (omega arith)
+    go undecided k r = let i : x ≡ y = cc in rw (← i) (h .0 .later)
+    go committed k r = absurd (Option·some-ne-none _ (sym r))
+    go aborted k r = absurd (Option·some-ne-none _ (sym r ∙ decided-free φ xs (h .1)))
+
+settled-among : (φ : ℕ → Fate) (x : Placed) (xs : List Placed) → All 2 φ xs → Among x xs → Decided (φ (x .image .action))
+settled-among φ x xs h first = h .0
+settled-among φ x xs h (next {y} {xs = ys} m) = settled-among φ x ys (h .1) m
+
+undecided-token : (φ : ℕ → Fate) (x : Placed) (xs : List Placed) → Chain φ xs → Among x xs → φ (x .image .action) ≡ undecided → tokenOf φ xs ≡ some x
+unfolding tokenOf
+undecided-token φ x xs h first e = rw e
+undecided-token φ x xs h (next {y} {xs = ys} m) e = not-undecided (φ (x .image .action)) (settled-among φ x ys (h .1) m) e
+
+-- a file's images in a world
+module _ (w : World) (m : Ledger) (s : Sim w m) where
+  pub among-at : (p : ℕ) (i : Image) → p ≤ w .end → entryAt w p ≡ image i → Among (record { place = p; image = i }) (imagesOf (m .log) (i .file))
+  among-at p i h e = entry-among (m .log) p i (sym (entry-eq w m s p (rw (← s .ends) h)) ∙ e)
+
+  -- a read at its start finds a committed image
+  pub committed-shown : (p : ℕ) (i : Image) → p ≤ w .end → entryAt w p ≡ image i → isFile (length (w .rows)) (i .file) ≡ true
+      → fateAt w (i .action) ≡ committed
+      → call w (read (i .file) (i .start) 0) .0 ≡ Value p (i .start) (length (i .value))
+  committed-shown p i h e f c = sim-call w m s (read (i .file) (i .start) 0) .answer ∙ go (token (m .log) (i .file)) refl
+    where
+      x : Placed
+      x = record { place = p; image = i }
+
+      k : Chain (fateOf (m .log)) (imagesOf (m .log) (i .file))
+      k = chain (m .log) (i .file) (s .lawful)
+
+      a : Among x (imagesOf (m .log) (i .file))
+      a = among-at p i h e
+
+      d : fateOf (m .log) (i .action) ≡ committed
+      d = sym (fate-eq w m s (i .action)) ∙ c
+
+      v : version (m .log) (i .file) (i .start) ≡ some x
+      v = shown (fateOf (m .log)) x (imagesOf (m .log) (i .file)) k a d
+
+      fl : isFile (m .files) (i .file) ≡ true
+      fl = rw (s .files) at f
+
+      go : (z : Option Placed) → token (m .log) (i .file) ≡ z → ledgerCall m (read (i .file) (i .start) 0) .0 ≡ Value p (i .start) (length (i .value))
+      go none q = rw (fl, q, v)
+      go (some y) q = rw (
+        fl,
+        q,
+        lt-leb (y .image .start) (i .start) (omega (
+          arith,
+          token-later (fateOf (m .log)) (imagesOf (m .log) (i .file)) y k q,
+          newest (fateOf (m .log)) x (imagesOf (m .log) (i .file)) k a d,
+        )),
+        v,
+      )
+
+  -- a read of its own action finds an undecided image, from its start on
+  pub own-shown : (p : ℕ) (i : Image) (t : ℕ) → p ≤ w .end → entryAt w p ≡ image i → isFile (length (w .rows)) (i .file) ≡ true
+      → fateAt w (i .action) ≡ undecided
+      → i .start ≤ t → call w (read (i .file) t (i .action)) .0 ≡ Value p (i .start) (length (i .value))
+  own-shown p i t h e f c l = sim-call w m s (read (i .file) t (i .action)) .answer
+      ∙ rw (
+        fl,
+        ne-eqb (i .action) 0 (λ q. omega (arith, b .0)),
+        le-leb 1 (i .action) (b .0),
+        le-leb (i .action) (length (m .log)) (b .1),
+        d,
+        undecided-token (fateOf (m .log)) (record { place = p; image = i }) (imagesOf (m .log) (i .file)) (chain (m .log) (i .file) (s .lawful)) (among-at p i h e) d,
+        le-leb (i .start) t l,
+        eq-eqb (i .action) (i .action) refl,
+      )
+    where
+      d : fateOf (m .log) (i .action) ≡ undecided
+      d = sym (fate-eq w m s (i .action)) ∙ c
+
+      b : (1 ≤ i .action) × (i .action ≤ length (m .log))
+      b = known-place (m .log) (i .action) (s .lawful) (undecided-known d)
+
+      fl : isFile (m .files) (i .file) ≡ true
+      fl = rw (s .files) at f

@@ -1,0 +1,8 @@
+-- A lawful log, and what its images, fates and versions are.
+pub mod Logs
+pub mod Chains
+pub mod Appends
+pub mod Versions
+pub mod Links
+pub mod Fates
+pub mod Histories

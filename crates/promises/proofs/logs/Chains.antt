@@ -1,0 +1,114 @@
+-- The images of a file in a lawful log are a chain: all but the newest are decided, and each is linked to the newest version below
+-- it, lies above it and starts later.
+use mathlib.Core.Path.{_≡_, refl, sym}
+use mathlib.Core.List.{List, [], _∷_}
+use mathlib.Core.Option.{some, none, Option·some-ne-none}
+use Prim.Native.Nat.{ℕ, suc, _≤_, _<_}
+use native.Mathlib.Omega.{arith}
+use lib.ListN.{length}
+use lib.Dec.{eqb}
+use borrow.Author.Tests.{eqb-true}
+use Rattle.encoding.proofs.Logic.{by-test}
+use Rattle.recovery.specs.Log.{Image, Entry, blank, torn, bad, opening, image, outcome, Fate, unknown, undecided, committed, aborted, Placed, fateOf, imagesOf, currentStep, tokenStep, currentOf, tokenOf, placeOf, startOf}
+use Rattle.recovery.proofs.InspectFates.{undecided-known, All, current-keeps}
+use Rattle.recovery.proofs.Spots.{Spots, spots}
+use Rattle.promises.proofs.logs.Logs.{ImageFits, Fits, Lawful, Known, Decided, Keeps, fate-keeps, fate-knows}
+
+-- the images of a file, with the fates that count: all but the newest are decided, each is linked to the newest version
+-- below it and starts later
+pub record Above (φ : ℕ → Fate) (x : Placed) (xs : List Placed) : Type 0 where
+  pub sure : Known (φ (x .image .action))
+  pub links : x .image .link ≡ placeOf (currentOf φ xs)
+  pub higher : placeOf (currentOf φ xs) < x .place
+  pub later : startOf (currentOf φ xs) < x .image .start
+
+abbrev pub Chain : (ℕ → Fate) → List Placed → Type 0
+Chain φ [] = Unit {0}
+Chain φ (x ∷ xs) = Above φ x xs × All 2 φ xs × Chain φ xs
+
+module _ (φ ψ : ℕ → Fate) (k : Keeps φ ψ) where
+  pub decided-keeps : (xs : List Placed) → All 2 φ xs → All 2 ψ xs
+  decided-keeps [] h = tt
+  decided-keeps (x ∷ xs) h = (rw (k (x .image .action) (h .0)) (h .0), decided-keeps xs (h .1))
+
+  pub token-keeps : (xs : List Placed) → All 2 φ xs → tokenOf ψ xs ≡ tokenOf φ xs
+  unfolding tokenOf
+  token-keeps [] h = refl
+  token-keeps (x ∷ xs) h = rw (k (x .image .action) (h .0), token-keeps xs (h .1))
+
+-- where there is no token, all are decided
+pub free-decided : (φ : ℕ → Fate) (xs : List Placed) → Chain φ xs → tokenOf φ xs ≡ none → All 2 φ xs
+unfolding tokenOf
+free-decided φ [] h e = tt
+free-decided φ (x ∷ xs) h e = (go (φ (x .image .action)) (h .0 .sure) e, h .1)
+  where
+    go : (y : Fate) → Known y → tokenStep y x (tokenOf φ xs) ≡ none → Decided y
+    go unknown d q = absurd (omega arith)
+    go undecided d q = absurd (Option·some-ne-none _ q)
+    go committed d q = omega arith
+    go aborted d q = omega arith
+
+pub chain-keeps : (φ ψ : ℕ → Fate) → Keeps φ ψ → ((a : ℕ) → Known (φ a) → Known (ψ a)) → (xs : List Placed) → Chain φ xs → Chain ψ xs
+chain-keeps φ ψ k n [] h = tt
+chain-keeps φ ψ k n (x ∷ xs) h = (
+  record {
+    sure = n (x .image .action) (h .0 .sure);
+    links = rw (current-keeps φ ψ k xs (h .1)) (h .0 .links);
+    higher = rw (current-keeps φ ψ k xs (h .1)) (h .0 .higher);
+    later = rw (current-keeps φ ψ k xs (h .1)) (h .0 .later);
+  },
+  decided-keeps φ ψ k xs (h .1),
+  chain-keeps φ ψ k n xs (h .2),
+)
+
+pub current-high : (φ : ℕ → Fate) (l : List Entry) (f : ℕ) (xs : List Placed) → Spots l f xs → placeOf (currentOf φ xs) ≤ length l
+unfolding currentOf
+current-high φ l f [] h = omega arith
+current-high φ l f (x ∷ xs) h = go (φ (x .image .action)) (current-high φ l f xs (h .1))
+  where
+    go : (y : Fate) → placeOf (currentOf φ xs) ≤ length l → placeOf (currentStep y x (currentOf φ xs)) ≤ length l
+    go unknown e = e
+    go undecided e = e
+    go committed e = h .0 .high
+    go aborted e = e
+
+chain-same : (g : Entry) (l : List Entry) (f : ℕ) → Fits g l → Lawful l → Chain (fateOf l) (imagesOf l f) → Chain (fateOf (g ∷ l)) (imagesOf l f)
+chain-same g l f h w = chain-keeps (fateOf l) (fateOf (g ∷ l)) (fate-keeps g l h w) (fate-knows g l) (imagesOf l f)
+
+chain-image : (i : Image) (l : List Entry) (f : ℕ) → ImageFits i l → i .file ≡ f → Chain (fateOf l) (imagesOf l f)
+    → Chain (fateOf l) (record { place = suc (length l); image = i } ∷ imagesOf l f)
+chain-image i l f h e r = (
+  record {
+    sure = undecided-known (h .live);
+    links = rw (← e) (h .links);
+    higher = omega (arith, current-high (fateOf l) l f (imagesOf l f) (spots l f));
+    later = rw (← e) (h .later);
+  },
+  free-decided (fateOf l) (imagesOf l f) r (rw (← e) (h .free)),
+  r,
+)
+
+pub chain : (l : List Entry) (f : ℕ) → Lawful l → Chain (fateOf l) (imagesOf l f)
+unfolding imagesOf fateOf
+chain [] f w = tt
+chain (blank ∷ l) f w = absurd (w .0)
+chain (torn ∷ l) f w = chain l f (w .1)
+chain (bad ∷ l) f w = absurd (w .0)
+chain (opening ∷ l) f w = chain-same opening l f tt (w .1) (chain l f (w .1))
+chain (outcome b c ∷ l) f w = chain-same (outcome b c) l f (w .0) (w .1) (chain l f (w .1))
+chain (image i ∷ l) f w = by-test (Chain (fateOf l)) (eqb (i .file) f)
+    (λ e. chain-image i l f (w .0) (eqb-true (i .file) f e) (chain l f (w .1)))
+    (λ e. chain l f (w .1))
+
+-- a token's action is undecided
+pub token-live : (φ : ℕ → Fate) (xs : List Placed) (x : Placed) → tokenOf φ xs ≡ some x → φ (x .image .action) ≡ undecided
+unfolding tokenOf
+token-live φ [] x e = absurd (Option·some-ne-none _ (sym e))
+token-live φ (y ∷ ys) x e = go (φ (y .image .action)) refl e (token-live φ ys x)
+  where
+    go : (q : Fate) → φ (y .image .action) ≡ q → tokenStep q y (tokenOf φ ys) ≡ some x → (tokenOf φ ys ≡ some x → φ (x .image .action) ≡ undecided)
+        → φ (x .image .action) ≡ undecided
+    go unknown p k r = r k
+    go undecided p k r = let i : y ≡ x = cc in rw (← i) p
+    go committed p k r = absurd (Option·some-ne-none _ (sym k))
+    go aborted p k r = r k
