@@ -2,22 +2,23 @@
 // Each answers how many pages passed, so that its work cannot be left out.
 mod exports;
 
+use inspection::Inspected;
 use page::Packing;
 use page::Page;
 use page::Sought;
 use page::Unpacked;
 use recovery::Answer;
 use recovery::Done;
-use recovery::Inspected;
 use recovery::State;
 ghost use mathlib.Core.Path.{_≡_};
 ghost use Prim.Native.Nat.{_/_};
 ghost use mathlib.Core.List.{[], _∷_};
 ghost use lib.ListN.{length, getD};
 ghost use Rattle.page.specs.Layout.{pageSize};
-ghost use Rattle.recovery.specs.Lent.{openLeaves, rebuildLeaves, inspected};
-ghost use Rattle.recovery.specs.Numbers.{numbersOf, inspectPlace};
+ghost use Rattle.recovery.specs.Lent.{openLeaves, rebuildLeaves};
+ghost use Rattle.recovery.specs.Numbers.{numbersOf};
 ghost use Rattle.recovery.specs.Steps.{rowFromPages};
+ghost use Rattle.inspection.specs.Inspected.{inspected, inspectPlace};
 ghost use Rattle.bench.specs.Picks.{picked, pickedOf, stateWith};
 ghost use Rattle.bench.specs.Counts.{fields, found, written, counted, fitsAt, seenAt, writesAt};
 
@@ -213,5 +214,5 @@ fn inspected_place(found: Inspected) -> u64
 pub extern "C" fn bench_inspect(sheet: &[u8], files: u64) -> u64
     ensures { λ r. ⌜ r ≡ inspectPlace (inspected (now (sheet .entry)) files) ⌝ }
 {
-    inspected_place(recovery::inspect(sheet, files))
+    inspected_place(inspection::inspect(sheet, files))
 }

@@ -1,5 +1,5 @@
 -- `bench::bench_inspect`: what inspect answers. Assumes nothing.
-use Rattle.recovery.specs.Numbers.{inspectPlace}
+use Rattle.inspection.specs.Inspected.{inspectPlace}
 use mathlib.Core.Path.{ap, _∙_}
 use borrow.Author.Needs.{needs}
 use Rattle.bench.proofs.bench_inspect.Statement.{statement}
