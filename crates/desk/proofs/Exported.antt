@@ -12,9 +12,8 @@ use Rattle.page.specs.declared.Packing.{Packing}
 use Rattle.page.specs.declared.Unpacked.{Unpacked}
 use Rattle.page.specs.Layout.{valueSize}
 use Rattle.page.specs.Answers.{packs, packNumber, tested, testNumber, testValues}
-use Rattle.recovery.specs.declared.Inspected.{Inspected}
-use Rattle.recovery.specs.Lent.{inspected}
-use Rattle.recovery.specs.Numbers.{inspectNumber, inspectPlace}
+use Rattle.inspection.specs.declared.Inspected.{Inspected}
+use Rattle.inspection.specs.Inspected.{inspected, inspectNumber, inspectPlace}
 use Rattle.desk.specs.Exports.{fieldCount, numbered, packedFor, fieldsGiven, testedFor, refusal, inspectedFor}
 
 -- six stores fill six numbers

@@ -9,8 +9,7 @@ use Rattle.page.specs.declared.Packing.{Packing}
 use Rattle.page.specs.declared.Unpacked.{Unpacked}
 use Rattle.page.specs.Layout.{valueSize}
 use Rattle.page.specs.Answers.{packs, packNumber, tested, testNumber, testValues}
-use Rattle.recovery.specs.Lent.{inspected}
-use Rattle.recovery.specs.Numbers.{inspectNumber, inspectPlace}
+use Rattle.inspection.specs.Inspected.{inspected, inspectNumber, inspectPlace}
 
 -- kind to start
 abbrev pub fieldCount : ℕ

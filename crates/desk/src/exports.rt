@@ -1,8 +1,8 @@
 // For the desk in C: packing, the page test and inspection. A slice is a pointer and a count there; any count is taken.
+use inspection::Inspected;
 use page::Packing;
 use page::Page;
 use page::Unpacked;
-use recovery::Inspected;
 ghost use mathlib.Core.Path.{_≡_};
 ghost use lib.ListN.{length};
 ghost use Rattle.page.specs.Answers.{packNumber, fieldList};
@@ -115,7 +115,7 @@ pub extern "C" fn desk_test(part: &[u8], place: u64, files: u64, fields: &mut [u
 pub extern "C" fn desk_inspect(sheet: &[u8], files: u64) -> u64
     ensures { λ r. ⌜ r ≡ inspectedFor (now (sheet .entry)) files ⌝ }
 {
-    let answer = recovery::inspect(sheet, files);
+    let answer = inspection::inspect(sheet, files);
     match answer {
         Inspected::Refused => REFUSED,
         Inspected::Lowest(place) => place,

@@ -3,18 +3,17 @@
 // left out.
 mod door;
 
+use inspection::Inspected;
 use page::Packing;
 use page::Page;
 use page::Sought;
 use page::Unpacked;
-use recovery::Inspected;
 ghost use mathlib.Core.Path.{_≡_};
 ghost use Prim.Native.Nat.{_/_};
 ghost use lib.ListN.{length};
 ghost use Rattle.page.specs.Layout.{pageSize};
-ghost use Rattle.recovery.specs.Lent.{inspected};
-ghost use Rattle.recovery.specs.Numbers.{inspectPlace};
 ghost use Rattle.recovery.specs.Steps.{rowFromPages};
+ghost use Rattle.inspection.specs.Inspected.{inspected, inspectPlace};
 ghost use Rattle.harness.specs.Counts.{fields, found, written, counted, fitsAt, seenAt, packedTo};
 
 fn one_if_fields(u: Unpacked) -> u64
@@ -126,5 +125,5 @@ fn inspected_place(found: Inspected) -> u64
 pub extern "C" fn bench_inspect(sheet: &[u8], files: u64) -> u64
     ensures { λ r. ⌜ r ≡ inspectPlace (inspected (now (sheet .entry)) files) ⌝ }
 {
-    inspected_place(recovery::inspect(sheet, files))
+    inspected_place(inspection::inspect(sheet, files))
 }

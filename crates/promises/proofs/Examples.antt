@@ -13,15 +13,16 @@ use Rattle.page.specs.Table as table
 use Rattle.page.specs.Table.{head, front, packed, fieldsOf, lowest, highest, within, between, meetsRules, isPageOf}
 use Rattle.page.specs.Answers.{tested, inBounds}
 use Rattle.recovery.specs.Log.{Image, blank, torn, image, fateOf, imagesOf, tokenOf, currentOf}
-use Rattle.recovery.specs.Lawful.{lowestUnlawful}
 use Rattle.recovery.specs.Places.{tabulate}
 use Rattle.recovery.specs.Sheet.{pageBytes, sealed, decoded, pages}
 use Rattle.recovery.specs.World.{down, endOf, undecidedOf}
 use Rattle.recovery.specs.declared.Answer.{Answer}
 use Rattle.recovery.specs.declared.Answer.the-variants.{Refused, Opened, Stored, Value, Nothing, Told}
-use Rattle.recovery.specs.declared.Inspected.the-variants.{Lowest}
-use Rattle.recovery.specs.Lent.{inspectable, inspected, openLeaves}
+use Rattle.recovery.specs.Lent.{openLeaves}
 use Rattle.recovery.specs.Numbers.{isRefused}
+use Rattle.inspection.specs.Lawful.{lowestUnlawful}
+use Rattle.inspection.specs.declared.Inspected.the-variants.{Lowest}
+use Rattle.inspection.specs.Inspected.{inspectable, inspected}
 use Rattle.calls.specs.Calls.{Call, begin, write, read, test, decide, rebuild}
 use Rattle.calls.specs.Cuts.{firstBytes}
 use Rattle.promises.specs.Runs.{Ordered, Box, off, sheetOf, Event, calls, opens, cuts, after, heard, Hears, Run, blankBox}

@@ -12,12 +12,7 @@ pub mod OpeningFates
 pub mod OpeningPass
 pub mod OpeningSteps
 pub mod OpeningLaws
+pub mod LogFates
 pub mod Spots
 pub mod Refused
 pub mod Once
-pub mod InspectLaw
-pub mod InspectFates
-pub mod InspectSlots
-pub mod InspectKept
-pub mod InspectSteps
-pub mod InspectPass

@@ -8,14 +8,15 @@ use borrow.Author.Tests.{ne-eqb, leb-true, leb-false}
 use lib.Dec.{leb}
 use lib.Seq.{take-all}
 use lib.ListN.{length, take, drop, getD, length-take, length-drop, drop-of-length-le}
+use Rattle.encoding.proofs.Logic.{by-test}
 use Rattle.page.specs.declared.Unpacked.{Unpacked}
-use Rattle.page.specs.declared.Unpacked.the-variants.{Refused}
+use Rattle.page.specs.declared.Unpacked.the-variants.{Refused, Blank, Torn, Opening, Image, Outcome, Unfit}
 use Rattle.page.specs.Layout.{pageSize}
-use Rattle.page.specs.Answers.{inBounds, tested}
+use Rattle.page.specs.Answers.{inBounds, tested, isBlankPage}
 use Rattle.recovery.specs.Places.{nth}
-use Rattle.recovery.specs.Log.{Entry, blank}
-use Rattle.recovery.specs.Sheet.{pageBytes, entryOf, seal, decoded, sealed, pages}
-use Rattle.recovery.specs.World.{down}
+use Rattle.recovery.specs.Log.{Entry, blank, torn, bad, opening, image, outcome}
+use Rattle.recovery.specs.Sheet.{pageBytes, entryOf, isOpening, seal, decoded, sealed, pages}
+use Rattle.recovery.specs.World.{down, isBlank}
 use Rattle.recovery.proofs.Places.{length-tabulate, nth-tabulate}
 
 -- the part from 64 × (place − 1), as the code cuts it
@@ -86,3 +87,22 @@ module _ (s : List ℕ) (p files : ℕ) (u : Unpacked) (e : u ≡ tested (pageBy
   pub sealed-is : seal (decoded files s) (entryOf (pageBytes s p) u) ≡ sealed files s p
   unfolding sealed
   sealed-is = ap (seal (decoded files s)) decoded-is
+
+-- ---- sealing makes and takes no opening and no blank page
+
+pub opening-sealed : (r : ℕ → Entry) (e : Entry) → isOpening (seal r e) ≡ isOpening e
+opening-sealed r blank = refl
+opening-sealed r torn = refl
+opening-sealed r bad = refl
+opening-sealed r opening = refl
+opening-sealed r (image i) = by-test (λ (x : Entry). isOpening x ≡ false) (isOpening (r (i .action))) (λ e. refl) (λ e. refl)
+opening-sealed r (outcome a c) = by-test (λ (x : Entry). isOpening x ≡ false) (isOpening (r a)) (λ e. refl) (λ e. refl)
+
+pub blank-sealed : (r : ℕ → Entry) (b : List ℕ) (u : Unpacked) → isBlank (seal r (entryOf b u)) ≡ isBlankPage u
+blank-sealed r b Refused = refl
+blank-sealed r b Blank = refl
+blank-sealed r b Torn = refl
+blank-sealed r b (Opening p) = refl
+blank-sealed r b (Image p) = by-test (λ (x : Entry). isBlank x ≡ false) (isOpening (r (p .action))) (λ e. refl) (λ e. refl)
+blank-sealed r b (Outcome p) = by-test (λ (x : Entry). isBlank x ≡ false) (isOpening (r (p .action))) (λ e. refl) (λ e. refl)
+blank-sealed r b Unfit = refl

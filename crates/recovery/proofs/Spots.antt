@@ -10,10 +10,9 @@ use lib.Dec.{eqb}
 use borrow.Author.Tests.{eqb-true, eqb-false, eq-eqb, ne-eqb}
 use Rattle.encoding.proofs.Logic.{by-test}
 use Rattle.recovery.specs.Places.{nth}
-use Rattle.recovery.specs.Log.{Image, Entry, blank, torn, bad, opening, image, outcome, Fate, unknown, undecided, committed, aborted, Placed, imagesOf, currentStep, tokenStep, currentOf, tokenOf}
+use Rattle.recovery.specs.Log.{Entry, blank, torn, bad, opening, image, outcome, Fate, unknown, undecided, committed, aborted, Placed, imagesOf, currentStep, tokenStep, currentOf, tokenOf}
 use Rattle.recovery.specs.World.{down}
 use Rattle.recovery.proofs.Pages.{length-down}
-use Rattle.recovery.proofs.InspectSlots.{cond≡}
 
 -- the page at a place
 abbrev pub entryIn : List Entry → ℕ → Entry
@@ -33,7 +32,7 @@ entry-down s zero zero h = refl
 entry-down s zero (suc p) h = absurd (omega arith)
 entry-down s (suc e) p h =
     rw (length-down s e)
-    (cond≡ (eqb p (suc e)) (λ q. rw (eqb-true p (suc e) q)) (λ q. entry-down s e p (omega (arith, eqb-false p (suc e) q))))
+    (by-test (λ (x : Entry). x ≡ nth blank s p) (eqb p (suc e)) (λ q. rw (eqb-true p (suc e) q)) (λ q. entry-down s e p (omega (arith, eqb-false p (suc e) q))))
 
 -- where a file's images lie
 pub record Spot (l : List Entry) (f : ℕ) (x : Placed) : Type 0 where

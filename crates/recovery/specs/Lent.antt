@@ -2,13 +2,12 @@
 -- function's contract says that all it leaves is one of these, of what came in.
 use mathlib.Core.List.{List, [], _∷_}
 use mathlib.Core.Bool.{Bool, cond, _&&_}
-use Prim.Native.Nat.{ℕ, zero, suc, pred, _+_, _*_, _/_, _%_}
+use Prim.Native.Nat.{ℕ, pred, _+_, _*_, _/_, _%_}
 use lib.ListN.{length, getD}
 use lib.Seq.{sets}
-use lib.Dec.{eqb, leb}
-use Rattle.page.specs.Layout.{pageSize, mostPlaces, mostFiles}
+use lib.Dec.{eqb}
+use Rattle.page.specs.Layout.{pageSize}
 use Rattle.recovery.specs.Places.{tabulate}
-use Rattle.recovery.specs.Lawful.{lowestUnlawful}
 use Rattle.recovery.specs.Log.{Entry}
 use Rattle.recovery.specs.Sheet.{pages}
 use Rattle.recovery.specs.declared.Row.{Row}
@@ -16,9 +15,7 @@ use Rattle.recovery.specs.declared.State.{State}
 use Rattle.recovery.specs.declared.Answer.{Answer}
 use Rattle.recovery.specs.declared.Answer.the-variants.{Refused}
 use Rattle.recovery.specs.declared.Done.{Done}
-use Rattle.recovery.specs.declared.Inspected as inspection
-use Rattle.recovery.specs.declared.Inspected.{Inspected}
-use Rattle.recovery.specs.World.{World, Result, sizes, down, endOf, rebuilt, opened}
+use Rattle.recovery.specs.World.{World, Result, sizes, rebuilt, opened}
 
 -- how many numbers of the lent run a row has
 abbrev pub rowLength : ℕ
@@ -97,7 +94,7 @@ refused number place s fates rows state = record { answer = Refused number place
 abbrev pub closed : State
 closed = record { end = 0; floor = 0; undecided = 0 }
 
--- ---- open, rebuild and inspect
+-- ---- open and rebuild
 
 unfoldable pub openLeaves : List ℕ → List ℕ → List ℕ → ℕ → Left
 openLeaves s fates rows floor =
@@ -108,13 +105,3 @@ openLeaves s fates rows floor =
 unfoldable pub rebuildLeaves : List ℕ → List ℕ → List ℕ → State → ℕ → Left
 rebuildLeaves s fates rows state file =
     cond (whole (length s) (length rows)) (leaves s (rebuilt (lent s fates rows state) file)) (refused 1 0 s fates rows state)
-
--- line 1 for a sheet's bytes and a file count
-unfoldable pub inspectable : ℕ → ℕ → Bool
-inspectable size files = eqb (size % pageSize) 0 && leb pageSize size && leb size (mostPlaces * pageSize) && leb 1 files && leb files mostFiles
-
-unfoldable pub inspected : List ℕ → ℕ → Inspected
-inspected s files =
-    cond (inspectable (length s) files)
-    (inspection.Inspected.Lowest (lowestUnlawful (down (pagesOf s files) (endOf (pagesOf s files) (length s / pageSize)))))
-    inspection.Inspected.Refused

@@ -1,6 +1,5 @@
 pub mod Places
 pub mod Log
-pub mod Lawful
 pub mod Sheet
 pub mod World
 pub mod Lent
@@ -8,4 +7,3 @@ pub mod Numbers
 pub mod Rolled
 pub mod Steps
 pub mod OpenSteps
-pub mod Kept

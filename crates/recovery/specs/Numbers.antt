@@ -6,8 +6,6 @@ use lib.ListN.{getD}
 use lib.Dec.{eqb}
 use Rattle.recovery.specs.declared.Answer.{Answer}
 use Rattle.recovery.specs.declared.Answer.the-variants.{Refused, Opened, Rebuilt, Stored, Value, Nothing, Told}
-use Rattle.recovery.specs.declared.Inspected as inspection
-use Rattle.recovery.specs.declared.Inspected.{Inspected}
 
 -- five numbers: which of the seven it is, then its values and zeros; a refusal's values are its number and place
 abbrev pub numbersOf : Answer → List ℕ
@@ -22,12 +20,3 @@ numbersOf (Told f) = 6 ∷ f ∷ 0 ∷ 0 ∷ 0 ∷ []
 -- the first of them tells a refusal
 unfoldable pub isRefused : Answer → Bool
 isRefused a = eqb (getD (numbersOf a) 0 0) 0
-
--- inspect: the refusal's number, and the place
-abbrev pub inspectNumber : Inspected → ℕ
-inspectNumber inspection.Inspected.Refused = 1
-inspectNumber (inspection.Inspected.Lowest p) = 0
-
-abbrev pub inspectPlace : Inspected → ℕ
-inspectPlace inspection.Inspected.Refused = 0
-inspectPlace (inspection.Inspected.Lowest p) = p

@@ -1,6 +1,5 @@
-// Recovery: what a sheet says, read off its pages alone. Open finds the end, the bad pages and the fates; rebuild a file's
-// row; inspect the lowest page that is bad or does not fit those below it.
-mod inspection;
+// Recovery: what a sheet says, read off its pages alone. Open finds the end, the bad pages and the fates,
+// rebuild a file's row.
 mod lookup;
 mod numbering;
 mod opening;
@@ -8,7 +7,6 @@ mod rebuilding;
 mod rolling;
 mod rows;
 
-pub use inspection::inspect;
 pub use lookup::counted_fate;
 pub use lookup::fate_at;
 pub use lookup::image_at;
@@ -32,7 +30,7 @@ pub use rows::is_file;
 pub use rows::row_of;
 pub use rows::set_row;
 ghost use mathlib.Core.Path.{_≡_};
-ghost use Rattle.recovery.specs.Lent.{sizesRight, inspectable};
+ghost use Rattle.recovery.specs.Lent.{sizesRight};
 ghost use Rattle.recovery.specs.Steps.{lineOne, refusal};
 
 // A file's row (a cached index entry): its rebuilt mark, the place of the current version and how far it was read, the place of
@@ -67,12 +65,6 @@ pub enum Answer {
 pub struct Done {
     pub answer: Answer,
     pub state: State,
-}
-
-// What inspect answers: refusal 1, or the lowest place that is bad or does not fit, 0 if the sheet is lawful.
-pub enum Inspected {
-    Refused,
-    Lowest(u64),
 }
 
 // How many numbers of the lent run a row has.
@@ -110,15 +102,4 @@ pub fn refuse(number: u64, state: State) -> Done
         answer: Answer::Refused(number, 0),
         state,
     }
-}
-
-// Line 1 for a sheet's bytes and a file count.
-fn is_inspectable(size: usize, files: u64) -> bool
-    ensures { λ r. ⌜ r ≡ inspectable size files ⌝ }
-{
-    (size % Page::SIZE == 0)
-        & (Page::SIZE <= size)
-        & (size <= 65536 * Page::SIZE)
-        & (1 <= files)
-        & (files <= Page::MOST_FILES)
 }

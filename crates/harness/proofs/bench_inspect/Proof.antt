@@ -1,5 +1,5 @@
 -- `harness::bench_inspect`: what inspect answers. Assumes nothing.
-use Rattle.recovery.specs.Numbers.{inspectPlace}
+use Rattle.inspection.specs.Inspected.{inspectPlace}
 use mathlib.Core.Path.{ap, _∙_}
 use borrow.Author.Needs.{needs}
 use Rattle.harness.proofs.bench_inspect.Statement.{statement}

@@ -10,15 +10,16 @@ use borrow.Author.Tests.{eqb-true, eqb-false, leb-true, leb-false}
 use Rattle.page.specs.Layout.{pageSize}
 use Rattle.recovery.specs.Places.{nth}
 use Rattle.recovery.specs.Log.{Entry, blank, torn, bad, opening, image, outcome, undecided}
-use Rattle.recovery.specs.Lawful.{lowestUnlawful}
 use Rattle.recovery.specs.Sheet.{pages}
 use Rattle.recovery.specs.World.{sizes, down, endOf, isBlank}
-use Rattle.recovery.specs.Lent.{pagesOf, inspectable, inspected}
-use Rattle.recovery.specs.declared.Inspected as inspection
-use Rattle.recovery.specs.declared.Inspected.the-variants.{Lowest}
+use Rattle.recovery.specs.Lent.{pagesOf}
 use Rattle.recovery.proofs.Pages.{pages-long, length-down}
-use Rattle.recovery.proofs.InspectLaw.{none-lawful}
 use Rattle.recovery.proofs.OpeningEnds.{end-le}
+use Rattle.inspection.specs.Lawful.{lowestUnlawful}
+use Rattle.inspection.specs.Inspected.{inspectable, inspected}
+use Rattle.inspection.specs.declared.Inspected as inspection
+use Rattle.inspection.specs.declared.Inspected.the-variants.{Lowest}
+use Rattle.inspection.proofs.LowestUnlawful.{none-lawful}
 use Rattle.promises.specs.Runs.{off, Event, heard, AllAllowed}
 use Rattle.promises.specs.Model.{modelHeard}
 use Rattle.promises.proofs.logs.Logs.{test-lawful}

@@ -12,11 +12,11 @@ use Rattle.encoding.proofs.Logic.{by-test, bool-ext, and-true}
 use Rattle.page.specs.Layout.{pageSize, kindAt, markAt}
 use Rattle.recovery.specs.Log.{Entry, torn, fateOf, imagesOf, tokenOf}
 use Rattle.recovery.specs.Log as log
-use Rattle.recovery.specs.Lawful.{current, token}
 use Rattle.recovery.specs.World.{sizes, fatesOf, undecidedOf}
 use Rattle.recovery.specs.Lent.{Left, rowLength, sizesRight}
 use Rattle.recovery.proofs.Sizes.{sizes-right}
 use Rattle.recovery.specs.declared.Answer.the-variants.{Refused, Opened}
+use Rattle.inspection.specs.Lawful.{current, token}
 use Rattle.calls.specs.Calls.{Call, begin, write, read, test, decide, rebuild, call}
 use Rattle.recovery.proofs.Spots.{entry-top}
 use Rattle.promises.specs.Runs.{Box, on, off, Event, calls, opens, cuts, callOn, answerTo, after, numbered, heard, Allowed, AllAllowed}

@@ -11,9 +11,9 @@ use borrow.Author.Tests.{eqb-true, eqb-false, eq-eqb, ne-eqb, leb-true, le-leb, 
 use Rattle.encoding.proofs.Logic.{bool-ext, and-true}
 use Rattle.page.specs.Layout.{valueSize}
 use Rattle.recovery.specs.Log.{Image, Entry, opening, image, outcome, Fate, unknown, undecided, committed, aborted, Placed, fateOf, imagesOf, verdict, placeOf, startOf}
-use Rattle.recovery.specs.Lawful.{current, token}
 use Rattle.recovery.specs.World.{isFile, fateNumber, fatesOf, undecidedOf}
 use Rattle.recovery.specs.declared.Answer.the-variants.{Rebuilt}
+use Rattle.inspection.specs.Lawful.{current, token}
 use Rattle.calls.specs.Calls.{Call, begin, write, read, test, decide, rebuild, isKnown}
 use Rattle.promises.specs.Model.{Version, Object, object, pending, Model, Reply, latest, newest, placed, since, shows, refuses, changed, withObject, stored, hasRoom, ofFile, ofPending, writing, readHistory, reading, testing, decidedAs, ended, endedBy, modelCall}
 use Rattle.promises.specs.FromLog.{statusOf, versionOf, versionIn}

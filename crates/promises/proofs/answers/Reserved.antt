@@ -17,7 +17,7 @@ use Rattle.recovery.specs.World.{fateNumber, fatesOf, undecidedOf}
 use Rattle.recovery.specs.declared.Answer.{Answer}
 use Rattle.recovery.specs.declared.Answer.the-variants.{Refused, Stored, Told}
 use Rattle.recovery.proofs.Places.{nth-tabulate}
-use Rattle.recovery.proofs.InspectFates.{undecided-known}
+use Rattle.recovery.proofs.LogFates.{undecided-known}
 use Rattle.calls.specs.Calls.{Call, begin, write, read, test, decide, rebuild}
 use Rattle.promises.specs.Runs.{Box, Event, calls, opens, cuts, answerTo, after, runs, Allowed, AllAllowed, blankBox, Run}
 use Rattle.promises.specs.Promises.{NoTornOutcome}

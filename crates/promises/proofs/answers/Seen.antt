@@ -33,7 +33,7 @@ use Rattle.promises.proofs.bytes.Replaced.{unsealed, bad-image}
 use Rattle.promises.proofs.boxes.Boxes.{isOn, bounds}
 use Rattle.promises.proofs.boxes.Found.{some-is, not-heard}
 use Rattle.promises.proofs.boxes.BoxShown.{box-all, box-shows}
-use Rattle.recovery.proofs.InspectFates.{undecided-known}
+use Rattle.recovery.proofs.LogFates.{undecided-known}
 use Rattle.promises.proofs.answers.Heard.{answered, hears}
 use Rattle.promises.proofs.answers.Modelled.{Modelled, modelled, answer-modelled}
 use Rattle.promises.proofs.answers.Origins.{Lies, Solid, solid-opening, solid-image, solid-outcome, lies-page, origin, did}

@@ -14,7 +14,7 @@ use Rattle.recovery.specs.World.{fateNumber}
 use Rattle.recovery.specs.declared.Answer.{Answer}
 use Rattle.recovery.specs.declared.Answer.the-variants.{Stored, Told}
 use Rattle.recovery.specs.Lent.{Left}
-use Rattle.recovery.proofs.InspectFates.{undecided-known}
+use Rattle.recovery.proofs.LogFates.{undecided-known}
 use Rattle.recovery.proofs.Spots.{entry-top}
 use Rattle.calls.specs.Calls.{Call, begin, write, read, test, decide, rebuild, isKnown}
 use Rattle.promises.specs.Runs.{Ordered, Box, on, off, sheetOf, Event, calls, cuts, callOn, answerTo, after, runs, Typed, AllAllowed}

@@ -10,8 +10,8 @@ use lib.Dec.{eqb, ltb}
 use borrow.Author.Tests.{eqb-true, eq-eqb, ne-eqb}
 use Rattle.page.specs.Layout.{pageSize}
 use Rattle.recovery.specs.Log.{Entry, blank, torn, image, outcome, Placed, startOf}
-use Rattle.recovery.specs.Lawful.{current, token}
 use Rattle.recovery.specs.Lent.{Left}
+use Rattle.inspection.specs.Lawful.{current, token}
 use Rattle.calls.specs.Calls.{Call, begin, write, read, test, decide, rebuild}
 use Rattle.recovery.proofs.Spots.{entry-top}
 use Rattle.promises.proofs.logs.Logs.{Lawful}

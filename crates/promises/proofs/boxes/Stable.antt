@@ -8,12 +8,12 @@ use native.Mathlib.Omega.{arith}
 use lib.Dec.{eqb, leb}
 use borrow.Author.Tests.{eqb-true, leb-false, lt-leb}
 use Rattle.recovery.specs.Log.{undecided, Placed, fateOf, imagesOf, startOf}
-use Rattle.recovery.specs.Lawful.{current, token}
 use Rattle.recovery.specs.World.{isFile}
 use Rattle.recovery.specs.Lent.{Left}
 use Rattle.recovery.specs.declared.Answer.{Answer}
 use Rattle.recovery.specs.declared.Answer.the-variants.{Stored}
-use Rattle.recovery.proofs.InspectFates.{undecided-known}
+use Rattle.recovery.proofs.LogFates.{undecided-known}
+use Rattle.inspection.specs.Lawful.{current, token}
 use Rattle.calls.specs.Calls.{write, read}
 use Rattle.recovery.specs.Numbers.{isRefused}
 use Rattle.promises.proofs.logs.Logs.{Lawful, not-unknown, fate-zero}

@@ -11,9 +11,9 @@ use borrow.Author.Tests.{leb-true}
 use Rattle.encoding.proofs.Logic.{by-test}
 use Rattle.page.specs.Layout.{valueSize}
 use Rattle.recovery.specs.Log.{Entry, blank, torn, bad, opening, image, outcome, undecided, Placed, fateOf, imagesOf, verdict}
-use Rattle.recovery.specs.Lawful.{token}
 use Rattle.recovery.specs.World.{isFile}
 use Rattle.recovery.proofs.Lookups.{is-file}
+use Rattle.inspection.specs.Lawful.{token}
 use Rattle.calls.specs.Calls.{Call, begin, write, read, test, decide, rebuild, isDecided}
 use Rattle.recovery.proofs.Spots.{entryIn, entry-cons, spots}
 use Rattle.promises.specs.Runs.{Typed}

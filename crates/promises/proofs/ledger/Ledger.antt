@@ -8,11 +8,11 @@ use lib.ListN.{length}
 use lib.Dec.{eqb, leb, ltb}
 use Rattle.page.specs.Layout.{valueSize}
 use Rattle.recovery.specs.Log.{Image, Entry, opening, image, outcome, Fate, Placed, fateOf, placeOf, startOf}
-use Rattle.recovery.specs.Lawful.{current, token}
 use Rattle.recovery.specs.World.{fateNumber, isFile, fatesOf, undecidedOf}
 use Rattle.recovery.specs.declared.Row.{Row}
 use Rattle.recovery.specs.declared.Answer.{Answer}
 use Rattle.recovery.specs.declared.Answer.the-variants.{Refused, Rebuilt, Stored, Nothing, Told}
+use Rattle.inspection.specs.Lawful.{current, token}
 use Rattle.calls.specs.Calls.{Call, begin, write, read, test, decide, rebuild, isKnown, isDecided, valueOf}
 use Rattle.promises.proofs.logs.Appends.{owns}
 use Rattle.promises.proofs.logs.Versions.{version}

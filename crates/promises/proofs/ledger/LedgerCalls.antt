@@ -10,9 +10,9 @@ use borrow.Author.Tests.{eqb-true, ltb-true, leb-true}
 use Rattle.encoding.proofs.Logic.{by-test, and-true}
 use Rattle.page.specs.Layout.{valueSize}
 use Rattle.recovery.specs.Log.{opening, image, outcome, Placed, fateOf, placeOf}
-use Rattle.recovery.specs.Lawful.{current, token}
 use Rattle.recovery.specs.World.{isFile}
 use Rattle.recovery.specs.declared.Answer.the-variants.{Rebuilt}
+use Rattle.inspection.specs.Lawful.{current, token}
 use Rattle.calls.specs.Calls.{begin, write, read, test, decide, rebuild, isDecided, valueOf}
 use Rattle.promises.proofs.ledger.Ledger.{Ledger, LedgerResult, endAt, withEnds, ledgerGrown, ledgerRefuse, ledgerUndecided, ledgerRoom, ledgerKnows, ledgerForAction, ledgerForUndecided, ledgerForFile, ledgerImage, ledgerWrite, tokenRead, ledgerVersions, ledgerRead, currentDecided, tokenDecided, toldFate, ledgerCall}
 

@@ -9,12 +9,12 @@ use lib.Dec.{eqb}
 use borrow.Author.Tests.{eqb-true, eqb-false}
 use Rattle.recovery.specs.Places.{nth}
 use Rattle.recovery.specs.Log.{Entry, blank, torn, bad, opening, image, outcome}
-use Rattle.recovery.specs.Lawful.{lawful, lowestUnlawful}
 use Rattle.recovery.specs.World.{World, down, sizes, cold, isBlank, endOf, highestBad, fatesOf, undecidedOf, coldRows, opened}
 use Rattle.recovery.specs.declared.Row.{Row}
 use Rattle.recovery.specs.declared.Answer.the-variants.{Opened}
-use Rattle.recovery.proofs.InspectLaw.{lowest-none}
 use Rattle.recovery.proofs.Spots.{entryIn, entry-top, entry-down}
+use Rattle.inspection.specs.Lawful.{lawful, lowestUnlawful}
+use Rattle.inspection.proofs.LowestUnlawful.{lowest-none}
 use Rattle.promises.proofs.logs.Logs.{Lawful, lawful-test}
 use Rattle.promises.proofs.ledger.Ledger.{Ledger, ledgerOpened}
 use Rattle.promises.proofs.ledger.Sim.{Sim, Agrees}

@@ -10,10 +10,10 @@ use lib.Dec.{eqb}
 use borrow.Author.Tests.{eqb-true, eq-eqb, ne-eqb, le-leb, lt-leb}
 use Rattle.encoding.proofs.Logic.{by-test}
 use Rattle.recovery.specs.Log.{Image, Entry, blank, torn, bad, opening, image, outcome, Fate, unknown, undecided, committed, aborted, Placed, fateOf, imagesOf, currentStep, tokenStep, currentOf, tokenOf, startOf}
-use Rattle.recovery.specs.Lawful.{token}
 use Rattle.recovery.specs.World.{World, entryAt, fateAt, isFile}
 use Rattle.recovery.specs.declared.Answer.the-variants.{Value}
-use Rattle.recovery.proofs.InspectFates.{undecided-known, All, decided-free}
+use Rattle.recovery.proofs.LogFates.{undecided-known, All, decided-free}
+use Rattle.inspection.specs.Lawful.{token}
 use Rattle.calls.specs.Calls.{read, call}
 use Rattle.recovery.proofs.Spots.{entryIn}
 use Rattle.promises.proofs.logs.Logs.{Known, Decided, not-undecided, known-place}

@@ -11,11 +11,11 @@ use lib.Dec.{eqb}
 use borrow.Author.Tests.{eqb-true, eqb-false, eq-eqb, ne-eqb, le-leb}
 use Rattle.recovery.specs.Places.{nth, put}
 use Rattle.recovery.specs.Log.{Entry, blank, image, undecided, Placed, fateOf, imagesOf, placeOf, startOf}
-use Rattle.recovery.specs.Lawful.{current, token, lawful}
 use Rattle.recovery.specs.World.{World, Result, entryAt, down, logOf, fateNumber, fateIn, fateAt, sizes, cold, rebuiltRow, rowAt, withRow, warmRow, placeHolds, rowHolds, lentRight, isFile, isBlank, fatesOf, undecidedOf}
 use Rattle.recovery.specs.declared.Row.{Row}
 use Rattle.recovery.proofs.Places.{nth-put-same, nth-put-other, length-put, length-tabulate}
 use Rattle.recovery.proofs.Lookups.{is-file}
+use Rattle.inspection.specs.Lawful.{current, token, lawful}
 use Rattle.calls.specs.Calls.{hasAction, hasRoom, append}
 use Rattle.recovery.proofs.Spots.{entryIn, Spot, spots, entry-down, Lies, current-of-lies, token-of-lies}
 use Rattle.promises.proofs.logs.Logs.{Fits, Lawful}

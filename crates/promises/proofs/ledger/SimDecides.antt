@@ -10,12 +10,12 @@ use lib.Dec.{eqb, leb}
 use borrow.Author.Tests.{eqb-true, leb-true, eq-eqb, le-leb}
 use Rattle.recovery.specs.Places.{nth, put}
 use Rattle.recovery.specs.Log.{outcome, undecided, Placed, verdict, fateOf, placeOf, startOf}
-use Rattle.recovery.specs.Lawful.{current, token}
 use Rattle.recovery.specs.World.{World, entryAt, fateNumber, cold, rebuiltRow, rowAt, isFile}
 use Rattle.recovery.specs.declared.Row.{Row}
 use Rattle.recovery.specs.declared.Answer.the-variants.{Stored}
 use Rattle.recovery.proofs.Lookups.{is-file}
-use Rattle.recovery.proofs.InspectFates.{undecided-known}
+use Rattle.recovery.proofs.LogFates.{undecided-known}
+use Rattle.inspection.specs.Lawful.{current, token}
 use Rattle.calls.specs.Calls.{hasRoom, append, imageOf, decided, isTokenOf, settled, eachRow, onDecide}
 use Rattle.calls.proofs.DecideRows.{row-each, row-each-long}
 use Rattle.recovery.proofs.Spots.{Lies}

@@ -10,9 +10,9 @@ use lib.Dec.{eqb, leb}
 use borrow.Author.Tests.{eqb-true, eq-eqb, ne-eqb}
 use Rattle.encoding.proofs.Logic.{by-test}
 use Rattle.recovery.specs.Log.{Placed, fateOf, imagesOf, placeOf, startOf}
-use Rattle.recovery.specs.Lawful.{current, token}
 use Rattle.recovery.specs.World.{World, entryAt, withRow, isFile}
 use Rattle.recovery.specs.declared.Row.{Row}
+use Rattle.inspection.specs.Lawful.{current, token}
 use Rattle.calls.specs.Calls.{imageOf, walkFrom, answerWalk, reaches, readCurrent, readToken, onVersions, onToken, onRead}
 use Rattle.recovery.proofs.Spots.{Spots, spots, Lies}
 use Rattle.promises.proofs.logs.Chains.{chain}

@@ -11,12 +11,12 @@ use borrow.Author.Tests.{eqb-true, eqb-false, ltb-true, leb-true, eq-eqb, ne-eqb
 use Rattle.encoding.proofs.Logic.{and-true}
 use Rattle.recovery.specs.Places.{nth, put}
 use Rattle.recovery.specs.Log.{Image, opening, image, undecided, Placed, fateOf, placeOf, startOf}
-use Rattle.recovery.specs.Lawful.{current, token}
 use Rattle.recovery.specs.World.{World, Result, refuse, entryAt, cold, isFile}
 use Rattle.recovery.specs.declared.Row.{Row}
 use Rattle.recovery.specs.declared.Answer.the-variants.{Stored}
 use Rattle.recovery.proofs.Places.{nth-put-same, nth-put-other, length-put}
 use Rattle.recovery.proofs.Lookups.{is-file}
+use Rattle.inspection.specs.Lawful.{current, token}
 use Rattle.calls.specs.Calls.{begin, hasRoom, append, store, onBegin, imageOf, actionOf, onWrite}
 use Rattle.recovery.proofs.Spots.{Lies}
 use Rattle.promises.proofs.logs.Logs.{ImageFits}

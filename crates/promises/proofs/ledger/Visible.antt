@@ -7,10 +7,10 @@ use Prim.Native.Nat.{ℕ, _≤_, _<_}
 use native.Mathlib.Omega.{arith}
 use lib.ListN.{length}
 use Rattle.recovery.specs.Log.{Image, Entry, image, undecided, committed, Placed, fateOf, imagesOf}
-use Rattle.recovery.specs.Lawful.{token}
 use Rattle.recovery.specs.World.{World, entryAt, fateAt}
 use Rattle.recovery.specs.declared.Answer.the-variants.{Value, Nothing}
-use Rattle.recovery.proofs.InspectFates.{undecided-known}
+use Rattle.recovery.proofs.LogFates.{undecided-known}
+use Rattle.inspection.specs.Lawful.{token}
 use Rattle.calls.specs.Walk.{nothing}
 use Rattle.calls.specs.Calls.{read, valueOf, call}
 use Rattle.recovery.proofs.Spots.{Spot, Spots, spots}

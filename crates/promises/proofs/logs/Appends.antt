@@ -10,9 +10,8 @@ use lib.Dec.{eqb}
 use borrow.Author.Tests.{eqb-true, eq-eqb}
 use Rattle.encoding.proofs.Logic.{by-test}
 use Rattle.recovery.specs.Log.{Image, Entry, torn, opening, image, outcome, Fate, unknown, undecided, committed, aborted, Placed, verdict, fateOf, imagesOf, tokenStep, currentOf, tokenOf}
-use Rattle.recovery.specs.Lawful.{current, token}
-use Rattle.recovery.proofs.InspectSlots.{cond≡}
-use Rattle.recovery.proofs.InspectFates.{current-keeps, decided-free}
+use Rattle.recovery.proofs.LogFates.{current-keeps, decided-free}
+use Rattle.inspection.specs.Lawful.{current, token}
 use Rattle.promises.proofs.logs.Logs.{ImageFits, Lawful, Known, Keeps, not-undecided, not-unknown, fate-above}
 use Rattle.promises.proofs.logs.Chains.{Chain, decided-keeps, token-keeps, chain}
 
@@ -36,7 +35,7 @@ token-agree φ ψ (x ∷ xs) k h = rw (k (x .image .action) (h .0 .sure), token-
 -- an opening changes no history
 pub opening-agree : (l : List Entry) → Lawful l → Agree (fateOf l) (fateOf (opening ∷ l))
 unfolding fateOf
-opening-agree l w a d = cond≡ (eqb a (suc (length l)))
+opening-agree l w a d = by-test (λ (x : Fate). x ≡ fateOf l a) (eqb a (suc (length l)))
     (λ e. not-unknown (fateOf l a) d (fate-above l a w (omega (arith, eqb-true a (suc (length l)) e))))
     (λ e. refl)
 
@@ -77,7 +76,7 @@ abbrev pub turned : ℕ → Bool → (ℕ → Fate) → ℕ → Fate
 turned a c φ b = cond (eqb b a) (verdict c) (φ b)
 
 pub turn-keeps : (a : ℕ) (c : Bool) (φ : ℕ → Fate) → φ a ≡ undecided → Keeps φ (turned a c φ)
-turn-keeps a c φ h b d = cond≡ (eqb b a) (λ e. not-undecided (φ b) d (rw (eqb-true b a e) h)) (λ e. refl)
+turn-keeps a c φ h b d = by-test (λ (x : Fate). x ≡ φ b) (eqb b a) (λ e. not-undecided (φ b) d (rw (eqb-true b a e) h)) (λ e. refl)
 
 -- only a file's newest image can be its token
 pub token-other : (φ : ℕ → Fate) (a : ℕ) (x : Placed) (xs : List Placed) → Chain φ (x ∷ xs) → eqb (x .image .action) a ≡ false

@@ -10,7 +10,7 @@ use lib.Dec.{eqb}
 use borrow.Author.Tests.{eqb-true}
 use Rattle.encoding.proofs.Logic.{by-test}
 use Rattle.recovery.specs.Log.{Image, Entry, blank, torn, bad, opening, image, outcome, Fate, unknown, undecided, committed, aborted, Placed, fateOf, imagesOf, currentStep, tokenStep, currentOf, tokenOf, placeOf, startOf}
-use Rattle.recovery.proofs.InspectFates.{undecided-known, All, current-keeps}
+use Rattle.recovery.proofs.LogFates.{undecided-known, All, current-keeps}
 use Rattle.recovery.proofs.Spots.{Spots, spots}
 use Rattle.promises.proofs.logs.Logs.{ImageFits, Fits, Lawful, Known, Decided, Keeps, fate-keeps, fate-knows}
 

@@ -11,7 +11,7 @@ use Rattle.recovery.specs.Places.{nth, put, tabulate}
 use Rattle.recovery.specs.Log.{Entry, blank, torn, bad, opening, image, outcome, Fate, unknown, undecided, committed, aborted, verdict, fateOf}
 use Rattle.recovery.specs.World.{down, fateNumber, fateFrom, fateIn, fatesOf, undecidedOf}
 use Rattle.recovery.proofs.Places.{nth-put-other, length-tabulate, getD-tabulate-out, nth-tabulate, put-tabulate}
-use Rattle.recovery.proofs.InspectFates.{undecided-known}
+use Rattle.recovery.proofs.LogFates.{undecided-known}
 use Rattle.promises.proofs.logs.Logs.{Lawful, known-place, fate-above, fate-zero}
 
 from-number : (x : Fate) → fateFrom (fateNumber x) ≡ x

@@ -8,9 +8,9 @@ use lib.Dec.{eqb, leb}
 use borrow.Author.Tests.{eqb-true, eq-eqb}
 use Rattle.encoding.proofs.Logic.{by-test}
 use Rattle.recovery.specs.Log.{Image, Entry, opening, image, outcome, Fate, unknown, undecided, committed, aborted, Placed, fateOf, imagesOf, currentStep, currentOf, tokenOf}
-use Rattle.recovery.specs.Lawful.{token}
 use Rattle.recovery.specs.World.{fateNumber}
-use Rattle.recovery.proofs.InspectFates.{All}
+use Rattle.recovery.proofs.LogFates.{All}
+use Rattle.inspection.specs.Lawful.{token}
 use Rattle.promises.specs.Model.{Version, latest, newest}
 use Rattle.promises.specs.FromLog.{versionOf, versionIn, historyOf}
 use Rattle.promises.proofs.logs.Logs.{ImageFits, Lawful, Keeps}

@@ -10,11 +10,12 @@ use lib.Dec.{eqb}
 use borrow.Author.Tests.{eqb-true, ltb-true, eq-eqb, lt-ltb}
 use Rattle.encoding.proofs.Logic.{by-test, and-true}
 use Rattle.recovery.specs.Log.{Image, Entry, blank, torn, bad, opening, image, outcome, Fate, unknown, undecided, committed, aborted, Placed, verdict, fateOf, placeOf, startOf}
-use Rattle.recovery.specs.Lawful.{current, token, isNone, fitsBelow, lawful}
 use Rattle.recovery.specs.World.{fateNumber}
-use Rattle.recovery.proofs.InspectLaw.{lawful-parts, lawful-more, lawful-none}
-use Rattle.recovery.proofs.InspectFates.{undecided-is, fate-place}
-use Rattle.recovery.proofs.InspectFates as inspected
+use Rattle.recovery.proofs.LogFates.{undecided-is}
+use Rattle.inspection.specs.Lawful.{current, token, isNone, fitsBelow, lawful}
+use Rattle.inspection.proofs.LowestUnlawful.{lawful-parts, lawful-more, lawful-none}
+use Rattle.inspection.proofs.LawfulLogs.{fate-place}
+use Rattle.inspection.proofs.LawfulLogs as lawfulLogs
 
 -- ---- lawful, as a type: a page fits the log below it, and so does every page of a lawful log
 
@@ -114,7 +115,7 @@ fate-zero l w = none-known (fateOf l 0) (λ k. omega (arith, known-place l 0 w k
 
 -- an append that fits keeps what is decided, and knows what was known
 pub fate-keeps : (g : Entry) (l : List Entry) → Fits g l → Lawful l → Keeps (fateOf l) (fateOf (g ∷ l))
-fate-keeps g l h w a d = inspected.fate-keeps g l (fits-test g l h) (lawful-test l w) a d
+fate-keeps g l h w a d = lawfulLogs.fate-keeps g l (fits-test g l h) (lawful-test l w) a d
 
 pub verdict-decided : (c : Bool) → Decided (verdict c)
 verdict-decided true = omega arith

@@ -9,8 +9,8 @@ use lib.Dec.{eqb, leb}
 use borrow.Author.Tests.{eqb-true, leb-true, leb-false, le-leb, lt-leb}
 use Rattle.encoding.proofs.Logic.{by-test}
 use Rattle.recovery.specs.Log.{Entry, blank, torn, bad, opening, image, outcome, Fate, unknown, undecided, committed, aborted, Placed, fateOf, imagesOf, currentStep, currentOf, tokenOf, startOf}
-use Rattle.recovery.specs.Lawful.{token}
-use Rattle.recovery.proofs.InspectFates.{All}
+use Rattle.recovery.proofs.LogFates.{All}
+use Rattle.inspection.specs.Lawful.{token}
 use Rattle.promises.proofs.logs.Logs.{Fits, Lawful, Keeps}
 use Rattle.promises.proofs.logs.Chains.{Chain, chain}
 use Rattle.promises.proofs.logs.Appends.{Agree, agree-keeps, opening-agree, turned, turn-keeps}

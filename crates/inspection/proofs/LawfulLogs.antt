@@ -1,0 +1,161 @@
+-- What is true of a lawful log: a fate that is decided stays, a known action is the place of an opening, and of a file's images
+-- all but the newest are decided. Assumes nothing.
+use Prim.Native.Nat.{ℕ, zero, suc, _≤_}
+use mathlib.Core.Path.{_≡_, refl, ap, sym, subst, _∙_}
+use mathlib.Core.List.{List, [], _∷_}
+use mathlib.Core.Bool.{true, false≢true}
+use native.Mathlib.Omega.{arith}
+use lib.ListN.{length, getD}
+use lib.Dec.{eqb}
+use borrow.Author.Tests.{eqb-true}
+use Rattle.encoding.proofs.Logic.{and-true, by-test}
+use Rattle.recovery.specs.Places.{nth}
+use Rattle.recovery.specs.Log.{Image, Entry, blank, torn, bad, opening, image, outcome, Fate, unknown, undecided, committed, aborted, Placed, fateOf, imagesOf, tokenStep, tokenOf}
+use Rattle.recovery.specs.Sheet.{isOpening}
+use Rattle.recovery.specs.World.{down, fateNumber}
+use Rattle.recovery.proofs.Pages.{length-down}
+use Rattle.recovery.proofs.LogFates.{undecided-is, undecided-known, verdict-known, All, rest, all-keeps}
+use Rattle.inspection.specs.Lawful.{token, isNone, imageFits, fitsBelow, lawful}
+use Rattle.inspection.proofs.LowestUnlawful.{lawful-parts}
+
+-- ---- fates
+
+-- how a page that fits moves the fate of an action to y
+data Moves (g : Entry) (l : List Entry) (a : ℕ) (y : Fate) : Type 0 where
+  same : y ≡ fateOf l a → Moves g l a y
+  opens : a ≡ suc (length l) → isOpening g ≡ true → Moves g l a y
+  decides : fateOf l a ≡ undecided → 1 ≤ fateNumber y → Moves g l a y
+
+moves : (g : Entry) (l : List Entry) (a : ℕ) → fitsBelow g l ≡ true → Moves g l a (fateOf (g ∷ l) a)
+unfolding fateOf
+moves blank l a h = same refl
+moves torn l a h = same refl
+moves bad l a h = same refl
+moves opening l a h = by-test (Moves opening l a) (eqb a (suc (length l))) (λ e. opens (eqb-true a (suc (length l)) e) refl) (λ e. same refl)
+moves (image i) l a h = same refl
+moves (outcome b c) l a h = by-test (Moves (outcome b c) l a) (eqb a b)
+    (λ e. decides (ap (fateOf l) (eqb-true a b e) ∙ undecided-is (fateOf l b) h) (verdict-known c))
+    (λ e. same refl)
+
+none-known : (a : ℕ) → 1 ≤ fateNumber (fateOf [] a) → ⊥
+unfolding fateOf
+none-known a h = omega arith
+
+-- an action that has a fate stands in the log
+pub fate-place : (l : List Entry) (a : ℕ) → lawful l ≡ true → 1 ≤ fateNumber (fateOf l a) → (1 ≤ a) × (a ≤ length l)
+fate-place [] a w h = absurd (none-known a h)
+fate-place (g ∷ l) a w h = go (fateOf (g ∷ l) a) h (moves g l a (lawful-parts g l w .0)) (fate-place l a (lawful-parts g l w .1))
+  where
+    go : (y : Fate) → 1 ≤ fateNumber y → Moves g l a y → (1 ≤ fateNumber (fateOf l a) → (1 ≤ a) × (a ≤ length l)) → (1 ≤ a) × (a ≤ suc (length l))
+    go y k (same e) r = let z = r (subst (λ (x : Fate). 1 ≤ fateNumber x) e k) in omega arith
+    go y k (opens e o) r = omega arith
+    go y k (decides e n) r = let z = r (undecided-known e) in omega arith
+
+-- and is the place of an opening
+pub fate-opens : (s : List Entry) (n a : ℕ) → lawful (down s n) ≡ true → 1 ≤ fateNumber (fateOf (down s n) a) → isOpening (nth blank s a) ≡ true
+unfolding down
+fate-opens s zero a w h = absurd (none-known a h)
+fate-opens s (suc n) a w h =
+    let p = lawful-parts (getD s n blank) (down s n) w in
+    go (fateOf (getD s n blank ∷ down s n) a) h (moves (getD s n blank) (down s n) a (p .0)) (fate-opens s n a (p .1))
+  where
+    go : (y : Fate) → 1 ≤ fateNumber y → Moves (getD s n blank) (down s n) a y → (1 ≤ fateNumber (fateOf (down s n) a) → isOpening (nth blank s a) ≡ true)
+        → isOpening (nth blank s a) ≡ true
+    go y k (same e) r = r (subst (λ (x : Fate). 1 ≤ fateNumber x) e k)
+    go y k (opens e o) r =
+        let z : a ≡ suc n = omega (arith, length-down s n) in
+        subst (λ (x : ℕ). isOpening (nth blank s x) ≡ true) (sym z) o
+    go y k (decides e n) r = r (undecided-known e)
+
+-- place 0 is none
+pub fate-zero : (l : List Entry) → lawful l ≡ true → fateNumber (fateOf l 0) ≡ 0
+fate-zero l w = go (fateNumber (fateOf l 0)) (fate-place l 0 w)
+  where
+    go : (y : ℕ) → (1 ≤ y → (1 ≤ 0) × (0 ≤ length l)) → y ≡ 0
+    go zero h = refl
+    go (suc y) h = absurd (omega (arith, h (omega arith) .0))
+
+module _ (g : Entry) (l : List Entry) (h : fitsBelow g l ≡ true) (w : lawful l ≡ true) (a : ℕ) where
+  -- what is decided stays, and what is known stays known
+  pub fate-keeps : 2 ≤ fateNumber (fateOf l a) → fateOf (g ∷ l) a ≡ fateOf l a
+  fate-keeps d = go (fateOf (g ∷ l) a) (moves g l a h) (fate-place l a w)
+    where
+      go : (y : Fate) → Moves g l a y → (1 ≤ fateNumber (fateOf l a) → (1 ≤ a) × (a ≤ length l)) → y ≡ fateOf l a
+      go y (same e) r = e
+      go y (opens e o) r = let z = r (omega arith) in absurd (omega arith)
+      go y (decides e n) r = let z : fateNumber (fateOf l a) ≡ 1 = ap fateNumber e in absurd (omega arith)
+
+  fate-knows : 1 ≤ fateNumber (fateOf l a) → 1 ≤ fateNumber (fateOf (g ∷ l) a)
+  fate-knows d = go (fateOf (g ∷ l) a) (moves g l a h) (fate-place l a w)
+    where
+      go : (y : Fate) → Moves g l a y → (1 ≤ fateNumber (fateOf l a) → (1 ≤ a) × (a ≤ length l)) → 1 ≤ fateNumber y
+      go y (same e) r = subst (λ (x : Fate). 1 ≤ fateNumber x) (sym e) d
+      go y (opens e o) r = let z = r (omega arith) in absurd (omega arith)
+      go y (decides e n) r = n
+
+-- ---- the images of a file
+
+-- all images are known, and all but the newest decided
+pub record Good (φ : ℕ → Fate) (xs : List Placed) : Type 0 where
+  pub known : All 1 φ xs
+  pub decided : All 2 φ (rest xs)
+
+-- then no token says that all are decided
+free-decided : (φ : ℕ → Fate) (xs : List Placed) → Good φ xs → isNone (tokenOf φ xs) ≡ true → All 2 φ xs
+unfolding tokenOf
+free-decided φ [] h e = tt
+free-decided φ (x ∷ xs) h e = (go (φ (x .image .action)) (h .known .0) e, h .decided)
+  where
+    go : (y : Fate) → 1 ≤ fateNumber y → isNone (tokenStep y x (tokenOf φ xs)) ≡ true → 2 ≤ fateNumber y
+    go unknown k e = absurd (omega arith)
+    go undecided k e = absurd (false≢true e)
+    go committed k e = omega arith
+    go aborted k e = omega arith
+
+-- the parts of what an image needs to fit
+record ImageFits (i : Image) (l : List Entry) : Type 0 where
+  pub live : fateOf l (i .action) ≡ undecided
+  pub free : isNone (token l (i .file)) ≡ true
+
+image-fits : (i : Image) (l : List Entry) → imageFits i l ≡ true → ImageFits i l
+image-fits i l h =
+    let a = and-true _ _ h in
+    let b = and-true _ _ (a .0) in
+    let c = and-true _ _ (b .0) in
+    record { live = undecided-is (fateOf l (i .action)) (c .0); free = c .1 }
+
+good-same : (g : Entry) (l : List Entry) (f : ℕ) → fitsBelow g l ≡ true → lawful l ≡ true → Good (fateOf l) (imagesOf l f) → Good (fateOf (g ∷ l)) (imagesOf l f)
+good-same g l f h w r = record {
+  known = all-keeps 1 (fateOf l) (fateOf (g ∷ l)) (fate-knows g l h w) (imagesOf l f) (r .known);
+  decided = all-keeps 2 (fateOf l) (fateOf (g ∷ l))
+      (λ a d. subst (λ (x : Fate). 2 ≤ fateNumber x) (sym (fate-keeps g l h w a d)) d)
+      (rest (imagesOf l f))
+      (r .decided);
+}
+
+good-image : (i : Image) (l : List Entry) (f : ℕ) → imageFits i l ≡ true → i .file ≡ f → (x : Placed) → x .image ≡ i → Good (fateOf l) (imagesOf l f) → Good (fateOf l) (x ∷ imagesOf l f)
+good-image i l f h e x q r =
+    let k = image-fits i l h in
+    record {
+      known = (undecided-known (ap (λ (y : Image). fateOf l (y .action)) q ∙ k .live), r .known);
+      decided = free-decided (fateOf l) (imagesOf l f) r (subst (λ (y : ℕ). isNone (token l y) ≡ true) e (k .free));
+    }
+
+good-none : (f : ℕ) → Good (fateOf []) (imagesOf [] f)
+unfolding imagesOf
+good-none f = record { known = tt; decided = tt }
+
+good-more : (g : Entry) (l : List Entry) (f : ℕ) → fitsBelow g l ≡ true → lawful l ≡ true → Good (fateOf l) (imagesOf l f) → Good (fateOf (g ∷ l)) (imagesOf (g ∷ l) f)
+unfolding fateOf imagesOf
+good-more blank l f h w r = r
+good-more torn l f h w r = r
+good-more bad l f h w r = r
+good-more opening l f h w r = good-same opening l f refl w r
+good-more (image i) l f h w r = by-test (Good (fateOf l)) (eqb (i .file) f) (λ e. good-image i l f h (eqb-true (i .file) f e) _ refl r) (λ e. r)
+good-more (outcome b c) l f h w r = good-same (outcome b c) l f h w r
+
+pub good : (l : List Entry) (f : ℕ) → lawful l ≡ true → Good (fateOf l) (imagesOf l f)
+good [] f w = good-none f
+good (g ∷ l) f w =
+    let p = lawful-parts g l w in
+    good-more g l f (p .0) (p .1) (good l f (p .1))
