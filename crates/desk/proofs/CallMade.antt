@@ -26,7 +26,7 @@ use Rattle.calls.proofs.Appends.{put-page}
 use Rattle.desk.specs.declared.talking.Desk.{Desk}
 use Rattle.desk.specs.declared.talking.Turn.{Turn}
 use Rattle.desk.specs.Conversation.{answered, lost, isStruck, actedBy, acted}
-use Rattle.desk.specs.Turns.{leftAfter, answeredTurn, lostTurn}
+use Rattle.desk.specs.TalkSteps.{leftAfter, answeredTurn, lostTurn}
 
 -- the bytes from an index on put back
 pub back-is : (s ys old : List ℕ) (at n : ℕ) → at ≤ length s → length old ≡ length s → n ≡ length s → length ys ≡ length (part at n s)

@@ -27,7 +27,7 @@ use Rattle.desk.specs.declared.talking.Desk.{Desk}
 use Rattle.desk.specs.declared.talking.Turn.{Turn}
 use Rattle.desk.specs.Wording.{openReply, shown}
 use Rattle.desk.specs.Conversation.{After, acted, openedBy, openedFor, lending, replied, isOpen, calledFor, startedFor, conversed, spoken, saidTo}
-use Rattle.desk.specs.Turns.{leftAfter, leftSaid}
+use Rattle.desk.specs.TalkSteps.{leftAfter, leftSaid}
 
 -- the rest of a line from an index on, as the code cuts it
 pub rest-is : (s : List ℕ) (from at n : ℕ) → n ≡ length s → at ≡ min from n → take (n - at) (drop at s) ≡ drop from s

@@ -1,5 +1,5 @@
 pub mod Wording
 pub mod Conversation
-pub mod Turns
+pub mod TalkSteps
 pub mod Exports
 pub mod Points

@@ -20,7 +20,7 @@ ghost use Rattle.page.specs.Layout.{pageSize};
 ghost use Rattle.recovery.specs.Sheet.{pageBytes};
 ghost use Rattle.calls.specs.Effect.{withPage};
 ghost use Rattle.desk.specs.Conversation.{isStruck, acted};
-ghost use Rattle.desk.specs.Turns.{leftAfter, answeredTurn, lostTurn};
+ghost use Rattle.desk.specs.TalkSteps.{leftAfter, answeredTurn, lostTurn};
 
 // A call that was answered.
 fn answered(desk: Desk, call: Call, done: Done) -> Turn

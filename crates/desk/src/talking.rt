@@ -18,7 +18,7 @@ ghost use Rattle.page.specs.Layout.{mostFiles};
 ghost use Rattle.recovery.specs.Lent.{closed, rowLength};
 ghost use Rattle.commands.specs.Commands.{parsed};
 ghost use Rattle.desk.specs.Conversation.{openedFor, startedFor, isOpen, calledFor, conversed, firstDesk, saidTo};
-ghost use Rattle.desk.specs.Turns.{leftAfter, leftSaid};
+ghost use Rattle.desk.specs.TalkSteps.{leftAfter, leftSaid};
 
 // What the desk keeps from line to line, beside sheet, fates and rows: whether it has a state, for how many files, and after how many
 // bytes the next append is cut; 65 if it is not.

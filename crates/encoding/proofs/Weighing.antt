@@ -8,7 +8,7 @@ use native.Mathlib.Nat.{pow-succ', mul-assoc, mul-comm, mul-left-comm, add-mul, 
 use lib.ListN.{length, take, drop, getD}
 use lib.Seq.{drop-cons, take-all}
 use Rattle.encoding.specs.Bytes.{part, checkFrom, check}
-use Rattle.encoding.specs.Weights.{weights, weighed}
+use Rattle.encoding.specs.WordSteps.{weights, weighed}
 
 pub check-below : (w : ℕ) (s : List ℕ) → w < 65521 → checkFrom w s < 65521
 check-below w [] h = h

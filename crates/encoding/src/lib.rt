@@ -7,7 +7,7 @@ ghost use mathlib.Core.List.{[], _∷_, _++_};
 ghost use lib.ListN.{length, take, drop, getD};
 ghost use lib.Dec.{eqb};
 ghost use Rattle.encoding.specs.Bytes.{part, number, bytes, zeros, check};
-ghost use Rattle.encoding.specs.Weights.{weights, weighed};
+ghost use Rattle.encoding.specs.WordSteps.{weights, weighed};
 
 fn wide(b: u8) -> u64
     ensures { λ r. ⌜ r ≡ b ⌝ }

@@ -9,7 +9,7 @@ use lib.Dec.{eqb}
 use lib.ListN.{length, replicate}
 use lib.Seq.{take-all}
 use Rattle.encoding.specs.Bytes.{AreBytes, part, bytes, zeros, same, check}
-use Rattle.encoding.specs.Weights.{weights, weighed}
+use Rattle.encoding.specs.WordSteps.{weights, weighed}
 use Rattle.encoding.proofs.Logic.{and-true, and-both, bool-ext}
 use Rattle.encoding.proofs.Numbers.{bytes-join, number-bytes, zeros-are, same-refl, same-true}
 use Rattle.encoding.proofs.Parts.{length-part}

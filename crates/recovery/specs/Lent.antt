@@ -1,6 +1,6 @@
 -- The lift: what is lent, bytes and numbers, as what the definitions work on, and what a call leaves of it. Each public
 -- function's contract says that all it leaves is one of these, of what came in.
-use mathlib.Core.List.{List, [], _∷_}
+use mathlib.Core.List.{List, [], _∷_, _++_}
 use mathlib.Core.Bool.{Bool, cond, _&&_}
 use Prim.Native.Nat.{ℕ, pred, _+_, _*_, _/_, _%_}
 use lib.ListN.{length, getD}
@@ -35,13 +35,13 @@ rowFrom xs j = record {
 unfoldable pub rowsOf : List ℕ → List Row
 rowsOf xs = tabulate (λ f. rowFrom xs (pred f)) 0 (length xs / rowLength)
 
-unfoldable pub flat : List Row → List ℕ
-flat [] = []
-flat (r ∷ rs) = r .mark ∷ r .current ∷ r .currentend ∷ r .token ∷ r .tokenend ∷ flat rs
-
--- a row's numbers, and the run with the row at an index replaced
+-- a row's numbers, the rows laid out one after the other, and the run with the row at an index replaced
 abbrev pub numbers : Row → List ℕ
 numbers r = r .mark ∷ r .current ∷ r .currentend ∷ r .token ∷ r .tokenend ∷ []
+
+unfoldable pub flat : List Row → List ℕ
+flat [] = []
+flat (r ∷ rs) = numbers r ++ flat rs
 
 unfoldable pub putRow : List ℕ → ℕ → Row → List ℕ
 putRow xs j r = sets xs (rowLength * j) (numbers r)

@@ -4,6 +4,6 @@ pub mod Sheet
 pub mod World
 pub mod Lent
 pub mod Numbers
-pub mod Rolled
+pub mod RollSteps
 pub mod Steps
 pub mod OpenSteps

@@ -2,7 +2,7 @@
 use crate::Row;
 ghost use mathlib.Core.Path.{_≡_};
 ghost use Prim.Native.Nat.{max};
-ghost use Rattle.recovery.specs.Rolled.{raised};
+ghost use Rattle.recovery.specs.RollSteps.{raised};
 
 // The later of two times.
 pub fn later(a: u64, b: u64) -> u64

@@ -1,6 +1,6 @@
 -- `desk::talking::converse`, command by command. Assumes nothing.
 use Rattle.desk.proofs.LineSaid.{line-by}
-use Rattle.desk.specs.Turns.{leftAfter}
+use Rattle.desk.specs.TalkSteps.{leftAfter}
 use Rattle.desk.specs.Conversation.{calledFor, replied}
 use Rattle.desk.specs.declared.talking.Desk.{Desk}
 use Rattle.desk.specs.declared.talking.Turn.{Turn}

@@ -40,7 +40,7 @@ use denote.Triple.Table.{entered, cited}
 use denote.Triple.Walked.{says, Stays, stay-none, walkOf, goes-none, Walks, ends-at, walked, walk-meets}
 use denote.Exit.{yes}
 use Rattle.recovery.specs.declared.Row.{Row}
-use Rattle.recovery.specs.Rolled.{raised}
+use Rattle.recovery.specs.RollSteps.{raised}
 use Rattle.recovery.proofs.Row as T
 use Rattle.recovery.proofs.Row.Laws as T′
 use Rattle.recovery.proofs.rolling.raise as raise

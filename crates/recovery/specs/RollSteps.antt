@@ -1,4 +1,4 @@
--- A row that was read: its ends are at least the times.
+-- A row that was read: its ends are at least the times. A reader of document 01 can pass this file over: `Calls.readCurrent` and `readToken` say it.
 use Prim.Native.Nat.{ℕ, max}
 use Rattle.recovery.specs.declared.Row.{Row}
 
