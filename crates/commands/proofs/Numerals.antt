@@ -9,7 +9,7 @@ use borrow.Author.Tests.{lt-ltb, ltb-true, ltb-false}
 use lib.Dec.{ltb, leb}
 use lib.ListN.{length, drop, getD}
 use lib.Seq.{drop-cons}
-use Rattle.encoding.proofs.Logic.{and-true, is-false}
+use Rattle.encoding.proofs.Logic.{and-true, is-false, clash}
 use Rattle.commands.specs.declared.parsing.Number.the-variants.{Is, Not}
 use Rattle.commands.specs.Commands.{digits, valueFrom, numberOf}
 use Rattle.commands.specs.ParseSteps.{addDigit}
@@ -32,14 +32,14 @@ digit-is n b m = go (isDigit b && ltb (10 * n + (b - 48)) (2 ^ 64)) refl
         let h = and-true (isDigit b) (ltb (10 * n + (b - 48)) (2 ^ 64)) e in
         let eq : m ≡ 10 * n + (b - 48) = cc in
         record { digit = h .0; more = eq; small = omega (arith, ltb-true (10 * n + (b - 48)) (2 ^ 64) (h .1)) }
-    go false e f = let z : _≡_ {A = ℕ} 0 1 = cc in absurd (omega arith)
+    go false e f = clash cc
 
 no-digit : (n b : ℕ) → addDigit n b ≡ Not → (isDigit b && ltb (10 * n + (b - 48)) (2 ^ 64)) ≡ false
 unfolding addDigit
 no-digit n b = go (isDigit b && ltb (10 * n + (b - 48)) (2 ^ 64)) refl
   where
     go : (t : Bool) → (isDigit b && ltb (10 * n + (b - 48)) (2 ^ 64)) ≡ t → cond t (Is (10 * n + (b - 48))) Not ≡ Not → (isDigit b && ltb (10 * n + (b - 48)) (2 ^ 64)) ≡ false
-    go true e f = let z : _≡_ {A = ℕ} 0 1 = cc in absurd (omega arith)
+    go true e f = clash cc
     go false e f = e
 
 -- further digits make no number smaller

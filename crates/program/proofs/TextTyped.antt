@@ -4,8 +4,8 @@ use mathlib.Core.Path.{_≡_, refl, sym, ap, _∙_, subst}
 use mathlib.Core.List.{List, [], _∷_, _++_}
 use mathlib.Core.Bool.{Bool, true, false, cond}
 use mathlib.Core.Option.{Option, some, none}
-use native.Mathlib.Omega.{arith}
 use lib.ListN.{length, take, drop}
+use Rattle.encoding.proofs.Logic.{clash}
 use Rattle.page.specs.Layout.{mostFiles}
 use Rattle.page.specs.Answers.{valueIn}
 use Rattle.recovery.specs.Log.{blank, image}
@@ -37,9 +37,6 @@ use Rattle.program.specs.Program.{Memory, memoryOf, turned, talked, firs
 use Rattle.program.specs.Typing.{WasTyped, textOf, ReadsTyped}
 use Rattle.program.proofs.Meets.{met-sheet, line-steps}
 use Rattle.program.proofs.Proved.{Reaches, from-first}
-
-clash : {A : Type 0} → _≡_ {A = ℕ} 0 1 → A
-clash z = absurd (omega arith)
 
 -- ---- the line of an event
 

@@ -8,7 +8,7 @@ use native.Mathlib.Omega.{arith}
 use lib.ListN.{length, replicate, length-replicate}
 use lib.Dec.{leb, ltb}
 use borrow.Author.Tests.{leb-true, ltb-true}
-use Rattle.encoding.proofs.Logic.{and-true}
+use Rattle.encoding.proofs.Logic.{and-true, clash}
 use Rattle.recovery.specs.declared.Answer.{Answer}
 use Rattle.recovery.specs.Numbers.{numbersOf}
 use Rattle.recovery.specs.Log.{blank}
@@ -23,11 +23,9 @@ use Rattle.promises.specs.Promises.{boxAfter, NoTornOutcome}
 use Rattle.promises.proofs.bytes.Mixed.{first-ordered}
 use Rattle.promises.proofs.boxes.Boxes.{page-above}
 use Rattle.promises.proofs.answers.Modelled.{modelled-blank}
+use Rattle.promises.proofs.boxes.Lasting.{head-is, tail-is}
 use Rattle.promises.proofs.answers.Fallen.{ends}
 use Rattle.promises.proofs.Proved.{promised}
-
-clash : {A : Type 0} → _≡_ {A = ℕ} 0 1 → A
-clash z = absurd (omega arith)
 
 -- ---- the steps of a run: a call; an opening with a floor, lent zeros; a call cut after so many bytes
 
@@ -100,12 +98,6 @@ module _ (pages files : ℕ) where
 
   same-call : {k q : Call} → calls k ≡ calls q → k ≡ q
   same-call e = cc
-
-  head-is : {x y : Event} {xs ys : List Event} → x ∷ xs ≡ y ∷ ys → x ≡ y
-  head-is e = cc
-
-  tail-is : {x y : Event} {xs ys : List Event} → x ∷ xs ≡ y ∷ ys → xs ≡ ys
-  tail-is e = cc
 
   -- an opening behind
   floor-then : (u t : ℕ) (xs : List Step) → u ≤ t → floored t xs ≡ true → (es₂ es₃ : List Event) (floor : ℕ) (fates rows : List ℕ)

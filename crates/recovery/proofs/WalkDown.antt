@@ -8,7 +8,7 @@ use native.Mathlib.Numerals.{sub-one}
 use lib.ListN.{length, getD, List·getD-eq-default}
 use lib.Dec.{eqb, leb}
 use borrow.Author.Tests.{ne-eqb, eqb-true, eqb-false, leb-true, leb-false}
-use Rattle.encoding.proofs.Logic.{by-test}
+use Rattle.encoding.proofs.Logic.{by-test, clash}
 use Rattle.page.specs.declared.Page.{Page}
 use Rattle.page.specs.declared.Unpacked.{Unpacked}
 use Rattle.page.specs.declared.Unpacked.the-variants.{Refused, Blank, Torn, Opening, Image, Outcome, Unfit}
@@ -73,7 +73,7 @@ overlay t u r = cond (eqb t 0) r (record { mark = r .mark; current = r .current;
 -- ---- what the quick look tells
 
 pub apart : {A : Type 0} {x : Page} → sought.Sought.Image x ≡ sought.Sought.Other → A
-apart e = let z : _≡_ {A = ℕ} 0 1 = cc in absurd (omega arith)
+apart e = clash cc
 
 pub found-same : {x y : Page} → sought.Sought.Image x ≡ sought.Sought.Image y → x ≡ y
 found-same e = cc

@@ -7,6 +7,7 @@ use native.Mathlib.Omega.{arith}
 use lib.ListN.{length, getD, List·getD-eq-default}
 use lib.Dec.{eqb, leb}
 use borrow.Author.Tests.{eqb-true, eqb-false, leb-true, leb-false}
+use Rattle.encoding.proofs.Logic.{clash}
 use Rattle.page.specs.Layout.{pageSize}
 use Rattle.recovery.specs.Places.{nth}
 use Rattle.recovery.specs.Log.{Entry, blank, torn, bad, opening, image, outcome, undecided}
@@ -65,7 +66,7 @@ module _ (n files : ℕ) (s : List ℕ) (long : length s ≡ pageSize * n) (sz :
     where
       go : (b : Bool) → cond b (Lowest (lowestUnlawful l)) inspection.Inspected.Refused ≡ Lowest 0 → lowestUnlawful l ≡ 0
       go true q = cc
-      go false q = let z : _≡_ {A = ℕ} 0 1 = cc in absurd (omega arith)
+      go false q = clash cc
 
   n-is : length s / pageSize ≡ n
   n-is = omega arith

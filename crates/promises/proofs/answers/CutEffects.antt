@@ -8,6 +8,7 @@ use native.Mathlib.Omega.{arith}
 use lib.ListN.{length, take, drop, length-take, length-drop}
 use lib.Seq.{ext-getD, getD-take, getD-drop}
 use lib.Dec.{eqb, leb}
+use Rattle.encoding.proofs.Logic.{clash}
 use Rattle.page.specs.Layout.{pageSize, kindAt, markAt}
 use Rattle.recovery.specs.declared.Answer.{Answer}
 use Rattle.recovery.specs.declared.Answer.the-variants.{Refused, Opened, Told}
@@ -214,7 +215,7 @@ module _ (pages files : ℕ) (b : Box) (m : Modelled pages files b) (k : Call) (
   -- the opening's own answer
   opened-is : (c : Bool) (e w x x′ : ℕ) → some (cond c (Opened e w) (Refused 1 0)) ≡ some (Opened x x′) → (e ≡ x) × (w ≡ x′)
   opened-is true e w x x′ p = (cc, cc)
-  opened-is false e w x x′ p = let z : _≡_ {A = ℕ} 0 1 = cc in absurd (omega arith)
+  opened-is false e w x x′ p = clash cc
 
   pub cut-same-count : (end end′ w w′ : ℕ) → answerTo b (opens floor fates rows) ≡ some (Opened end w) → answerTo (after b (cuts k kept)) (opens floor fates rows) ≡ some (Opened end′ w′)
       → (w′ ≡ w) × (end ≤ end′) × (end′ ≤ suc end)

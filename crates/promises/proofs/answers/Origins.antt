@@ -9,6 +9,7 @@ use native.Mathlib.Omega.{arith}
 use lib.ListN.{length}
 use lib.Dec.{leb}
 use borrow.Author.Tests.{eq-eqb, ne-eqb, leb-true, leb-false}
+use Rattle.encoding.proofs.Logic.{clash}
 use Rattle.page.specs.Layout.{pageSize, kindAt, markAt}
 use Rattle.recovery.specs.Log.{Image, Entry, blank, torn, bad, opening, image, outcome}
 use Rattle.recovery.specs.Sheet.{sealed}
@@ -26,9 +27,6 @@ use Rattle.promises.proofs.ledger.Written.{does}
 use Rattle.promises.proofs.boxes.Found.{writes-page}
 use Rattle.promises.proofs.boxes.Boxes.{Reached, ledger-says, reached-next, reached-blank, page-lies, log-page, page-above}
 use Rattle.promises.proofs.answers.Heard.{hears}
-
-clash : {A : Type 0} → _≡_ {A = ℕ} 0 1 → A
-clash z = absurd (omega arith)
 
 -- ---- a page that is neither blank nor torn nor bad
 

@@ -10,6 +10,7 @@ use lib.ListN.{length, take, replicate}
 use lib.Seq.{length-take-le}
 use lib.Dec.{eqb, leb}
 use borrow.Author.Tests.{eq-eqb, eqb-true, le-leb, leb-true, leb-false}
+use Rattle.encoding.proofs.Logic.{clash}
 use Rattle.encoding.proofs.Parts.{length-part}
 use Rattle.page.specs.declared.Unpacked.{Unpacked}
 use Rattle.page.specs.declared.Unpacked.the-variants.{Refused, Blank, Torn, Opening, Image as AnImage, Outcome, Unfit}
@@ -37,9 +38,6 @@ use Rattle.recovery.proofs.LogFates.{undecided-known}
 use Rattle.promises.proofs.answers.Heard.{answered, hears}
 use Rattle.promises.proofs.answers.Modelled.{Modelled, modelled, answer-modelled}
 use Rattle.promises.proofs.answers.Origins.{Lies, Solid, solid-opening, solid-image, solid-outcome, lies-page, origin, did}
-
-clash : {A : Type 0} → _≡_ {A = ℕ} 0 1 → A
-clash z = absurd (omega arith)
 
 -- ---- the page that tells a fate
 

@@ -7,7 +7,7 @@ use native.Mathlib.Omega.{arith}
 use lib.ListN.{length}
 use lib.Dec.{leb}
 use borrow.Author.Tests.{leb-true, leb-false, le-leb}
-use Rattle.encoding.proofs.Logic.{by-test}
+use Rattle.encoding.proofs.Logic.{by-test, clash}
 use Rattle.recovery.specs.Log.{Image, blank, image, Fate, unknown, undecided, committed, aborted, fateOf}
 use Rattle.recovery.specs.Sheet.{decoded, sealed}
 use Rattle.recovery.specs.World.{World, entryAt, fateAt, fateNumber, isFile}
@@ -30,7 +30,7 @@ use Rattle.promises.proofs.boxes.Found.{some-is, not-heard, test-tells}
 -- what a test tells is the fate
 told-number : (w : World) (l : Ledger) (s : Sim w l) (a y : ℕ) → call w (test a) .0 ≡ Told y → fateNumber (fateOf (l .log) a) ≡ y
 told-number w l s a y e = by-test (λ (r : LedgerResult). r .0 ≡ Told y → fateNumber (fateOf (l .log) a) ≡ y) (ledgerKnows l a)
-    {x = (toldFate (fateOf (l .log) a), l)} {y = (Refused 5 0, l)} (λ t h. cc) (λ t h. let z : _≡_ {A = ℕ} 0 1 = cc in absurd (omega arith))
+    {x = (toldFate (fateOf (l .log) a), l)} {y = (Refused 5 0, l)} (λ t h. cc) (λ t h. clash cc)
     (sym (sim-call w l s (test a) .answer) ∙ e)
 
 committed-is : (x : Fate) → fateNumber x ≡ 2 → x ≡ committed
@@ -64,7 +64,7 @@ module _ (n files : ℕ) where
         go true q = leb-true place (m .state .end) q
         go false q =
             let z : image i ≡ blank = sym entry-is ∙ sim n files m r .clean place (leb-false place (m .state .end) q) in
-            let y : _≡_ {A = ℕ} 0 1 = cc in absurd (omega arith)
+            clash cc
 
     numbers : (i .action < place) × (1 ≤ i .action) × (1 ≤ i .file) × (i .file ≤ files)
     unfolding sealed
@@ -115,14 +115,14 @@ module _ (n files : ℕ) where
   module _ (m : Left) (r : Reached n files (on m)) (f t a : ℕ) where
     -- a place that the world has an image at
     place-in : (p : ℕ) (i : Image) → entryAt (worldIn n files m) p ≡ image i → (1 ≤ p) × (p ≤ n)
-    place-in zero i e = let z : _≡_ {A = ℕ} 0 1 = cc in absurd (omega arith)
+    place-in zero i e = clash cc
     place-in (suc q) i e = go (leb (suc q) (m .state .end)) refl
       where
         go : (b : Bool) → leb (suc q) (m .state .end) ≡ b → (1 ≤ suc q) × (suc q ≤ n)
         go true k = (omega arith, omega (arith, leb-true (suc q) (m .state .end) k, end-is n files m r, r .at .holds .room))
         go false k =
             let z : image i ≡ blank = sym e ∙ sim n files m r .clean (suc q) (leb-false (suc q) (m .state .end) k) in
-            let y : _≡_ {A = ℕ} 0 1 = cc in absurd (omega arith)
+            clash cc
 
     committed-told : (i : Image) → Whose (worldIn n files m) a i → (i .action ≡ a → ⊥) → callOn m (test (i .action)) .answer ≡ Told 2
     committed-told i (kept c) o =

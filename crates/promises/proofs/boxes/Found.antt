@@ -7,6 +7,7 @@ use mathlib.Core.Option.{some, none}
 use native.Mathlib.Omega.{arith}
 use lib.ListN.{length}
 use borrow.Author.Tests.{eq-eqb, ne-eqb, le-leb}
+use Rattle.encoding.proofs.Logic.{clash}
 use Rattle.page.specs.Layout.{kindAt, markAt}
 use Rattle.recovery.specs.Log.{Entry, torn, opening, image, outcome, Fate, unknown, undecided, committed, aborted, verdict, fateOf}
 use Rattle.recovery.specs.Sheet.{sealed}
@@ -33,7 +34,7 @@ pub some-is : {A : Type 0} {x y : A} → some x ≡ some y → x ≡ y
 some-is e = cc
 
 pub not-heard : {A : Type 0} {x : A} {B : Type 0} → none ≡ some x → B
-not-heard e = let z : _≡_ {A = ℕ} 0 1 = cc in absurd (omega arith)
+not-heard e = clash cc
 
 pub writes-page : (k : Call) (g : Entry) → Writes k g → IsPageOf k g
 writes-page begin g h = h

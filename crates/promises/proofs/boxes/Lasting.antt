@@ -8,6 +8,7 @@ use native.Mathlib.Omega.{arith}
 use lib.ListN.{length}
 use lib.Dec.{eqb, ltb}
 use borrow.Author.Tests.{eqb-true, eq-eqb, ne-eqb}
+use Rattle.encoding.proofs.Logic.{clash}
 use Rattle.page.specs.Layout.{pageSize}
 use Rattle.recovery.specs.Log.{Entry, blank, torn, image, outcome, Placed, startOf}
 use Rattle.recovery.specs.Lent.{Left}
@@ -104,10 +105,11 @@ cut-kept l l′ f t v n (add g) w h c = rw (ne-eqb (suc (length l)) (length l) (
     go false true = step-kept l (torn ∷ l) f t v (add torn) (tt, w .1) h (rw (torn-token l f) (h .clear))
     go false false = step-kept l (g ∷ l) f t v (add g) w h c
 
-head-is : {x y : Event} {xs ys : List Event} → x ∷ xs ≡ y ∷ ys → x ≡ y
+-- of two equal runs the first events, and the rest
+pub head-is : {x y : Event} {xs ys : List Event} → x ∷ xs ≡ y ∷ ys → x ≡ y
 head-is e = cc
 
-tail-is : {x y : Event} {xs ys : List Event} → x ∷ xs ≡ y ∷ ys → xs ≡ ys
+pub tail-is : {x y : Event} {xs ys : List Event} → x ∷ xs ≡ y ∷ ys → xs ≡ ys
 tail-is e = cc
 
 -- along a run: while the box is on no write can start by the time; what the log shows stays throughout
@@ -164,5 +166,5 @@ module _ (n files f t : ℕ) (v : Option Placed) where
       first-floor e′ (x ∷ es₂) es₃ floor fates rows p = none-behind es₂ (tail-is p)
         where
           none-behind : (es₂ : List Event) → [] ≡ es₂ ++ opens floor fates rows ∷ es₃ → t ≤ floor
-          none-behind [] p = let z : _≡_ {A = ℕ} 0 1 = cc in absurd (omega arith)
-          none-behind (y ∷ es₂) p = let z : _≡_ {A = ℕ} 0 1 = cc in absurd (omega arith)
+          none-behind [] p = clash cc
+          none-behind (y ∷ es₂) p = clash cc

@@ -7,6 +7,7 @@ use Prim.Native.Nat.{ℕ, max, _≤_, _<_}
 use native.Mathlib.Omega.{arith}
 use lib.Dec.{eqb, leb}
 use borrow.Author.Tests.{eqb-true, leb-false, lt-leb}
+use Rattle.encoding.proofs.Logic.{clash}
 use Rattle.recovery.specs.Log.{undecided, Placed, fateOf, imagesOf, startOf}
 use Rattle.recovery.specs.World.{isFile}
 use Rattle.recovery.specs.Lent.{Left}
@@ -86,7 +87,7 @@ again m f t v e h = rw e (go (token (m .log) f) (h .clear))
 -- where no write can start by a time, what is written starts later
 written-later : (m : Ledger) (f t s a p : ℕ) (v : List ℕ) → Near m f t → ledgerCall m (write f s a v) .0 ≡ Stored p → t < s
 written-later m f t s a p v h =
-    writes (λ (r : LedgerResult). r .0 ≡ Stored p → t < s) m (λ x y e. let z : _≡_ {A = ℕ} 0 1 = cc in absurd (omega arith)) f s a v
+    writes (λ (r : LedgerResult). r .0 ≡ Stored p → t < s) m (λ x y e. clash cc) f s a v
     (λ j k e. omega (arith, h .high))
 
 -- ---- of a box: after a read outside any action that was answered, and any further events, calls cut at any byte among them, if each later

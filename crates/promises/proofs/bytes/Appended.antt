@@ -8,7 +8,7 @@ use native.Mathlib.Omega.{arith}
 use lib.ListN.{length}
 use lib.Dec.{eqb, leb, ltb}
 use borrow.Author.Tests.{leb-true}
-use Rattle.encoding.proofs.Logic.{by-test}
+use Rattle.encoding.proofs.Logic.{by-test, clash}
 use Rattle.page.specs.Layout.{valueSize}
 use Rattle.recovery.specs.Log.{Entry, blank, torn, bad, opening, image, outcome, undecided, Placed, fateOf, imagesOf, verdict}
 use Rattle.recovery.specs.World.{isFile}
@@ -28,7 +28,7 @@ live-place l a w e = known-place l a w (rw e (omega arith))
 
 pub live-opening : (l : List Entry) (a : ℕ) → Lawful l → fateOf l a ≡ undecided → entryIn l a ≡ opening
 unfolding fateOf
-live-opening [] a w e = let z : _≡_ {A = ℕ} 0 1 = cc in absurd (omega arith)
+live-opening [] a w e = clash cc
 live-opening (blank ∷ l) a w e = absurd (w .0)
 live-opening (torn ∷ l) a w e = entry-cons torn l a (live-place l a (w .1) e .1) ∙ live-opening l a (w .1) e
 live-opening (bad ∷ l) a w e = absurd (w .0)

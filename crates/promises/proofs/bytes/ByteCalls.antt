@@ -10,7 +10,7 @@ use lib.Seq.{ext-getD, drop-drop}
 use lib.Dec.{eqb, leb, ltb}
 use borrow.Author.Tests.{eqb-true, leb-true, leb-false, eq-eqb, ne-eqb}
 use Rattle.encoding.specs.Bytes.{zeros}
-use Rattle.encoding.proofs.Logic.{and-true}
+use Rattle.encoding.proofs.Logic.{and-true, clash}
 use Rattle.page.specs.declared.Unpacked.{Unpacked}
 use Rattle.page.specs.declared.Unpacked.the-variants.{Refused, Blank, Torn, Opening, Image as AnImage, Outcome, Unfit}
 use Rattle.page.specs.Layout.{pageSize, mostPlaces, mostFiles}
@@ -60,13 +60,13 @@ unfolding decoded
 blank-zero files s p l e = go (tested (pageBytes s p) p files) refl e
   where
     go : (u : Unpacked) → u ≡ tested (pageBytes s p) p files → entryOf (pageBytes s p) u ≡ blank → pageBytes s p ≡ replicate pageSize 0
-    go Refused q k = let z : _≡_ {A = ℕ} 0 1 = cc in absurd (omega arith)
+    go Refused q k = clash cc
     go Blank q k = rw l at (zero-all (pageBytes s p) (found (pageBytes s p) p files Blank q .1))
-    go Torn q k = let z : _≡_ {A = ℕ} 0 1 = cc in absurd (omega arith)
-    go (Opening x) q k = let z : _≡_ {A = ℕ} 0 1 = cc in absurd (omega arith)
-    go (AnImage x) q k = let z : _≡_ {A = ℕ} 0 1 = cc in absurd (omega arith)
-    go (Outcome x) q k = let z : _≡_ {A = ℕ} 0 1 = cc in absurd (omega arith)
-    go Unfit q k = let z : _≡_ {A = ℕ} 0 1 = cc in absurd (omega arith)
+    go Torn q k = clash cc
+    go (Opening x) q k = clash cc
+    go (AnImage x) q k = clash cc
+    go (Outcome x) q k = clash cc
+    go Unfit q k = clash cc
 
 -- a page put where it was
 pub page-back : (s : List ℕ) (e : ℕ) → withPage s e (pageBytes s (suc e)) ≡ s

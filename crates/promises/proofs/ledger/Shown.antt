@@ -8,7 +8,7 @@ use native.Mathlib.Omega.{arith}
 use lib.ListN.{length}
 use lib.Dec.{eqb}
 use borrow.Author.Tests.{eqb-true, eq-eqb, ne-eqb, le-leb, lt-leb}
-use Rattle.encoding.proofs.Logic.{by-test}
+use Rattle.encoding.proofs.Logic.{by-test, clash}
 use Rattle.recovery.specs.Log.{Image, Entry, blank, torn, bad, opening, image, outcome, Fate, unknown, undecided, committed, aborted, Placed, fateOf, imagesOf, currentStep, tokenStep, currentOf, tokenOf, startOf}
 use Rattle.recovery.specs.World.{World, entryAt, fateAt, isFile}
 use Rattle.recovery.specs.declared.Answer.the-variants.{Value}
@@ -26,7 +26,7 @@ use Rattle.promises.proofs.ledger.SimCalls.{sim-call}
 -- an image of a log is among its file's images
 pub entry-among : (l : List Entry) (p : ℕ) (i : Image) → entryIn l p ≡ image i → Among (record { place = p; image = i }) (imagesOf l (i .file))
 unfolding imagesOf
-entry-among [] p i e = let z : _≡_ {A = ℕ} 0 1 = cc in absurd (omega arith)
+entry-among [] p i e = clash cc
 entry-among (g ∷ l) p i e = go (eqb p (suc (length l))) refl e (entry-among l p i)
   where
     lift : (g : Entry) → Among (record { place = p; image = i }) (imagesOf l (i .file))

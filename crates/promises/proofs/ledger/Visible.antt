@@ -6,6 +6,7 @@ use mathlib.Core.Option.{Option, some, none}
 use Prim.Native.Nat.{ℕ, _≤_, _<_}
 use native.Mathlib.Omega.{arith}
 use lib.ListN.{length}
+use Rattle.encoding.proofs.Logic.{clash}
 use Rattle.recovery.specs.Log.{Image, Entry, image, undecided, committed, Placed, fateOf, imagesOf}
 use Rattle.recovery.specs.World.{World, entryAt, fateAt}
 use Rattle.recovery.specs.declared.Answer.the-variants.{Value, Nothing}
@@ -56,8 +57,8 @@ module _ (w : World) (m : Ledger) (s : Sim w m) (f t a : ℕ) where
 
   refuses : (x y : ℕ) → Sees (ledgerRefuse x y m)
   refuses x y = record {
-    value = λ p st n e. let z : _≡_ {A = ℕ} 0 1 = cc in absurd (omega arith);
-    nothing = λ e. let z : _≡_ {A = ℕ} 0 1 = cc in absurd (omega arith);
+    value = λ p st n e. clash cc;
+    nothing = λ e. clash cc;
   }
 
   -- a version of the file, in the world and in the log
@@ -83,13 +84,13 @@ module _ (w : World) (m : Ledger) (s : Sim w m) (f t a : ℕ) where
           whose = o;
           latest = λ q v b d g c u. rw j at (h (record { place = q; image = v }) (among q v b d g) (sym (fate-eq w m s (v .action)) ∙ c) u);
         };
-    nothing = λ e. let z : _≡_ {A = ℕ} 0 1 = cc in absurd (omega arith);
+    nothing = λ e. clash cc;
   }
 
   -- outside the token
   sees-versions : (z : Option Placed) → version (m .log) f t ≡ z → (r : Ledger) → Sees (foundAnswer z, r)
   sees-versions none q r = record {
-    value = λ p st n e. let z : _≡_ {A = ℕ} 0 1 = cc in absurd (omega arith);
+    value = λ p st n e. clash cc;
     nothing = λ e o v b d g c.
         all-later (fateOf (m .log)) t (record { place = o; image = v }) (imagesOf (m .log) f) (among o v b d g) (sym (fate-eq w m s (v .action)) ∙ c) q;
   }

@@ -3,17 +3,14 @@ use mathlib.Core.Path.{_≡_, refl}
 use mathlib.Core.List.{List, _∷_}
 use mathlib.Core.Option.{Option, some, none}
 use Prim.Native.Nat.{ℕ, suc}
-use native.Mathlib.Omega.{arith}
 use lib.ListN.{length}
+use Rattle.encoding.proofs.Logic.{clash}
 use Rattle.recovery.specs.Log.{Image, Entry, opening, image, outcome, Placed}
 use Rattle.recovery.specs.declared.Answer.the-variants.{Stored}
 use Rattle.calls.specs.Calls.{Call, begin, write, read, test, decide, rebuild}
 use Rattle.promises.proofs.logs.Versions.{version}
 use Rattle.promises.proofs.ledger.Ledger.{Ledger, LedgerResult, ledgerRefuse, ledgerImage, foundAnswer, ledgerCall}
 use Rattle.promises.proofs.ledger.LedgerCalls.{begins, writes, reads, tests, decides, rebuilds}
-
-clash : {A : Type 0} → _≡_ {A = ℕ} 0 1 → A
-clash z = absurd (omega arith)
 
 -- the page that a call writes
 pub record IsImage (f s a : ℕ) (v : List ℕ) (g : Entry) : Type 0 where
