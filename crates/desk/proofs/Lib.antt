@@ -1,5 +1,6 @@
 pub mod CallMade
 pub mod LineSaid
+pub mod CutPages
 pub mod ValueShown
 pub mod Exported
 pub mod BlankSheets

@@ -1,13 +1,13 @@
 -- The value that a reply shows, out of the sheet. Assumes nothing.
-use Prim.Native.Nat.{ℕ, _-_, _≤_}
+use Prim.Native.Nat.{ℕ, zero, suc, _*_, _/_, _-_, _≤_}
 use mathlib.Core.Path.{_≡_, refl, sym, ap, _∙_}
 use mathlib.Core.List.{List, [], _∷_}
-use mathlib.Core.Bool.{Bool, true, false, cond}
+use mathlib.Core.Bool.{Bool, true, false, cond, _&&_}
 use native.Mathlib.Omega.{arith}
-use lib.ListN.{length, take, drop, replicate, length-replicate}
+use lib.ListN.{length, take, drop, replicate, length-replicate, length-take, length-drop}
 use lib.Seq.{take-all}
-use lib.Dec.{eqb}
-use borrow.Author.Tests.{eqb-true}
+use lib.Dec.{eqb, leb}
+use borrow.Author.Tests.{eqb-true, ne-eqb, leb-false}
 use types.Run.{OneOf, miss}
 use denote.Enum.Declared.{tagOf}
 use Rattle.commands.proofs.printing.Reply.{the-type}
@@ -16,10 +16,27 @@ use Rattle.encoding.proofs.Parts.{length-part}
 use Rattle.page.specs.Layout.{pageSize, valueSize}
 use Rattle.page.specs.Answers.{valueIn}
 use Rattle.recovery.specs.Sheet.{pageBytes}
+use Rattle.recovery.specs.Steps.{partAt}
 use Rattle.commands.specs.declared.printing.Reply.{Reply}
 use Rattle.commands.specs.declared.printing.Reply.the-variants.{What, Closed, Lost, Cut, Opened, Begun, Written, Shown, Nothing, Told, Committed, Aborted, No}
 use Rattle.commands.specs.Replies.{prints}
 use Rattle.desk.specs.Wording.{shown}
+
+-- the part of a place has the value that its page's bytes have
+pub value-part : (s : List ℕ) (place : ℕ) → valueIn (partAt s place) ≡ valueIn (pageBytes s place)
+unfolding partAt valueIn
+value-part s place = go (leb 1 place) (leb place (length s / pageSize)) refl refl
+  where
+    short : (p : ℕ) → (1 ≤ p → p ≤ length s / pageSize → ⊥) → replicate valueSize 0 ≡ cond (eqb (length (pageBytes s p)) pageSize) (part 24 56 (pageBytes s p)) (replicate valueSize 0)
+    short zero h = refl
+    short (suc q) h = rw (ne-eqb (length (pageBytes s (suc q))) pageSize (λ e. h (omega arith) (omega (arith, e, length-take pageSize (drop (pageSize * q) s), length-drop (pageSize * q) s))))
+
+    go : (b c : Bool) → leb 1 place ≡ b → leb place (length s / pageSize) ≡ c
+        → cond (eqb (length (cond (b && c) (pageBytes s place) [])) pageSize) (part 24 56 (cond (b && c) (pageBytes s place) [])) (replicate valueSize 0)
+        ≡ cond (eqb (length (pageBytes s place)) pageSize) (part 24 56 (pageBytes s place)) (replicate valueSize 0)
+    go true true e f = refl
+    go true false e f = short place (λ u v. omega (arith, leb-false place (length s / pageSize) f))
+    go false c e f = short place (λ u v. omega (arith, leb-false 1 place e))
 
 value-long : (s : List ℕ) → length (valueIn s) ≡ valueSize
 unfolding valueIn

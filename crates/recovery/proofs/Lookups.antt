@@ -1,6 +1,6 @@
 -- Look-ups that take every number: a page's kind at a place, a fate, a file's row. Assumes nothing.
 use Prim.Native.Nat.{ℕ, zero, suc, pred, _+_, _-_, _*_, _/_, _≤_, _<_}
-use mathlib.Core.Path.{_≡_, refl, sym, ap, _∙_}
+use mathlib.Core.Path.{_≡_, refl, sym}
 use mathlib.Core.Bool.{Bool, true, false, _&&_}
 use mathlib.Core.List.{List}
 use native.Mathlib.Omega.{arith}
@@ -11,8 +11,7 @@ use lib.ListN.{length, getD, List·getD-eq-default}
 use Rattle.encoding.proofs.Logic.{and-true}
 use Rattle.page.specs.declared.Unpacked.{Unpacked}
 use Rattle.page.specs.declared.Unpacked.the-variants.{Refused, Blank, Torn, Opening, Image, Outcome, Unfit}
-use Rattle.page.specs.Layout.{pageSize}
-use Rattle.page.specs.Answers.{tested, isBlankPage, isOpeningPage}
+use Rattle.page.specs.Answers.{tested, isOpeningPage}
 use Rattle.recovery.specs.Places.{nth}
 use Rattle.recovery.specs.Sheet.{pageBytes, entryOf, isOpening, decoded}
 use Rattle.recovery.specs.World.{cold, isFile}
@@ -20,7 +19,6 @@ use Rattle.recovery.specs.Lent.{rowLength, rowFrom, rowsOf, putRow}
 use Rattle.recovery.specs.Steps.{rowOf, withRowOf}
 use Rattle.recovery.specs.declared.Row.{Row}
 use Rattle.recovery.proofs.Places.{getD-tabulate-out}
-use Rattle.recovery.proofs.Pages.{test-out}
 use Rattle.recovery.proofs.FlatRows.{row-at}
 
 -- ---- an opening at a place
@@ -35,17 +33,9 @@ opening-entry b (Image x) = refl
 opening-entry b (Outcome x) = refl
 opening-entry b Unfit = refl
 
-module _ (s : List ℕ) (p files : ℕ) where
-  pub opening-decoded : isOpeningPage (tested (pageBytes s p) p files) ≡ isOpening (decoded files s p)
-  unfolding decoded
-  opening-decoded = opening-entry (pageBytes s p) (tested (pageBytes s p) p files)
-
-  -- a place that the sheet does not have
-  pub opening-out : (1 ≤ p → pageSize * p ≤ length s → ⊥) → false ≡ isOpening (decoded files s p)
-  unfolding isOpeningPage
-  opening-out h = ap isOpeningPage (test-out s p files h) ∙ opening-decoded
-
--- ---- a blank page at a place
+pub opening-decoded : (s : List ℕ) (p files : ℕ) → isOpeningPage (tested (pageBytes s p) p files) ≡ isOpening (decoded files s p)
+unfolding decoded
+opening-decoded s p files = opening-entry (pageBytes s p) (tested (pageBytes s p) p files)
 
 -- ---- an element at a place
 

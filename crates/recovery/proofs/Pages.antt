@@ -1,10 +1,10 @@
 -- The page at a place, from its bytes and from what the page test answers. Assumes nothing.
-use Prim.Native.Nat.{ℕ, zero, suc, _*_, _+_, _-_, _/_, min, _<_, _≤_}
+use Prim.Native.Nat.{ℕ, zero, suc, _*_, _+_, _-_, _/_, _<_, _≤_}
 use mathlib.Core.Path.{_≡_, refl, sym, ap, _∙_}
 use mathlib.Core.List.{List, []}
-use mathlib.Core.Bool.{Bool, true, false}
+use mathlib.Core.Bool.{Bool, true, false, cond, _&&_}
 use native.Mathlib.Omega.{arith}
-use borrow.Author.Tests.{ne-eqb, leb-true, leb-false}
+use borrow.Author.Tests.{ne-eqb, leb-true, leb-false, le-leb, lt-leb}
 use lib.Dec.{leb}
 use lib.Seq.{take-all}
 use lib.ListN.{length, take, drop, getD, length-take, length-drop, drop-of-length-le}
@@ -17,6 +17,7 @@ use Rattle.recovery.specs.Places.{nth}
 use Rattle.recovery.specs.Log.{Entry, blank, torn, bad, opening, image, outcome}
 use Rattle.recovery.specs.Sheet.{pageBytes, entryOf, isOpening, seal, decoded, sealed, pages}
 use Rattle.recovery.specs.World.{down, isBlank}
+use Rattle.recovery.specs.Steps.{partAt}
 use Rattle.recovery.proofs.Places.{length-tabulate, nth-tabulate}
 
 -- the part from 64 × (place − 1), as the code cuts it
@@ -30,29 +31,6 @@ part-is s a e (suc q) h ha he =
 pub test-is : (s : List ℕ) (a e p files : ℕ) → 1 ≤ p → a ≡ pageSize * (p - 1) → e ≡ a + pageSize → tested (take (e - a) (drop a s)) p files ≡ tested (pageBytes s p) p files
 test-is s a e p files h ha he = ap (λ (l : List ℕ). tested l p files) (part-is s a e p h ha he)
 
--- the part above a place: none past the sheet, what there is where it ends before
-pub above-none : (s : List ℕ) (n q : ℕ) → n ≡ length s → n / pageSize < q → take (n - n) (drop n s) ≡ pageBytes s (suc q)
-above-none s n q e h =
-    let z : n - n ≡ 0 = omega arith in
-    rw (z, drop-of-length-le s {i = pageSize * q} (omega arith))
-
-pub above-some : (s : List ℕ) (n q a e : ℕ) → n ≡ length s → q ≤ n / pageSize → a ≡ pageSize * q → e ≡ min (a + pageSize) n → take (e - a) (drop a s) ≡ pageBytes s (suc q)
-above-some s n q a e l h k i = go (leb (a + pageSize) n) refl
-  where
-    go : (b : Bool) → leb (a + pageSize) n ≡ b → take (e - a) (drop a s) ≡ pageBytes s (suc q)
-    go true j = let z : e - a ≡ pageSize = omega (arith, leb-true (a + pageSize) n j) in rw (z, k)
-    go false j =
-        let f : n < a + pageSize = leb-false (a + pageSize) n j in
-        take-all (e - a) (drop a s) (omega (arith, length-drop a s)) ∙ ap (λ i. drop i s) k ∙ sym (take-all pageSize (drop (pageSize * q) s) (omega (arith, length-drop (pageSize * q) s)))
-
--- the part of a place
-pub part-none : (s : List ℕ) (p : ℕ) → p < 1 → take (0 - 0) (drop 0 s) ≡ pageBytes s p
-part-none s p h = let z : p ≡ 0 = omega arith in rw z
-
-pub part-below : (s : List ℕ) (p : ℕ) → 1 ≤ p → pageBytes s (suc (p - 1)) ≡ pageBytes s p
-part-below s zero h = absurd (omega arith)
-part-below s (suc q) h = let z : suc q - 1 ≡ q = omega arith in ap (λ i. pageBytes s (suc i)) z
-
 -- a place that the sheet does not have
 pub test-out : (s : List ℕ) (p files : ℕ) → (1 ≤ p → pageSize * p ≤ length s → ⊥) → Refused ≡ tested (pageBytes s p) p files
 unfolding tested inBounds
@@ -60,6 +38,32 @@ test-out s zero files h = refl
 test-out s (suc q) files h =
     let short : length (take pageSize (drop (pageSize * q) s)) ≡ pageSize → ⊥ = λ e. h (omega arith) (omega (arith, e, length-take pageSize (drop (pageSize * q) s), length-drop (pageSize * q) s)) in
     simp (ne-eqb (length (take pageSize (drop (pageSize * q) s))) pageSize short)
+
+-- the part of a place, as the code cuts it; it is tested as the page's bytes are
+module _ (s : List ℕ) (p : ℕ) where
+  pub part-none : (1 ≤ p → length s / pageSize < p) → take (0 - 0) (drop 0 s) ≡ partAt s p
+  unfolding partAt
+  part-none h = go (leb 1 p) refl
+    where
+      go : (b : Bool) → leb 1 p ≡ b → [] ≡ cond (b && leb p (length s / pageSize)) (pageBytes s p) []
+      go true e = rw (lt-leb p (length s / pageSize) (h (leb-true 1 p e)))
+      go false e = refl
+
+  pub part-some : (a e : ℕ) → 1 ≤ p → p ≤ length s / pageSize → a ≡ pageSize * (p - 1) → e ≡ a + pageSize → take (e - a) (drop a s) ≡ partAt s p
+  unfolding partAt
+  part-some a e h k i j = rw (le-leb 1 p h, le-leb p (length s / pageSize) k) (part-is s a e p h i j)
+
+  pub part-tested : (files : ℕ) → tested (partAt s p) p files ≡ tested (pageBytes s p) p files
+  unfolding partAt tested inBounds
+  part-tested files = go (leb 1 p) (leb p (length s / pageSize)) refl refl
+    where
+      out : (1 ≤ p → p ≤ length s / pageSize → ⊥) → tested [] p files ≡ tested (pageBytes s p) p files
+      out h = test-out s p files (λ u v. h u (omega arith))
+
+      go : (b c : Bool) → leb 1 p ≡ b → leb p (length s / pageSize) ≡ c → tested (cond (b && c) (pageBytes s p) []) p files ≡ tested (pageBytes s p) p files
+      go true true e f = refl
+      go true false e f = out (λ u v. omega (arith, leb-false p (length s / pageSize) f))
+      go false c e f = out (λ u v. omega (arith, leb-false 1 p e))
 
 pub pages-long : (files n : ℕ) (s : List ℕ) → length (pages files n s) ≡ n
 unfolding pages

@@ -13,7 +13,6 @@ pub use lookup::image_at;
 pub use lookup::is_blank_at;
 pub use lookup::is_opening_at;
 pub use lookup::page_at;
-pub use lookup::part_above;
 pub use lookup::part_at;
 pub use lookup::seek_at;
 pub use numbering::numbers_of;

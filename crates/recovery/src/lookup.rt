@@ -1,38 +1,28 @@
 // Look-ups in what is lent: the page at a place, the fate of an action, the sealed image of a file. They take every number.
-use encoding::least;
 use page::Page;
 use page::Sought;
 use page::Unpacked;
 ghost use mathlib.Core.Bool.{_||_};
 ghost use mathlib.Core.Path.{_≡_};
-ghost use Prim.Native.Nat.{suc};
 ghost use lib.Dec.{eqb};
 ghost use Rattle.page.specs.Answers.{tested, isBlankPage, imageOf};
 ghost use Rattle.recovery.specs.Places.{nth};
 ghost use Rattle.recovery.specs.Sheet.{pageBytes, isOpening, decoded};
-ghost use Rattle.recovery.specs.Steps.{countedFate, sealedImage};
+ghost use Rattle.recovery.specs.Steps.{partAt, countedFate, sealedImage};
 
-// The part above a place: the 64 bytes of the next page, or what is left of them where the sheet ends before.
-pub fn part_above(sheet: &[u8], place: u64) -> &[u8]
-    ensures { λ r. ⌜ now r ≡ pageBytes (now (sheet .entry)) (suc place) ⌝ }
-{
-    let n = sheet.len();
-    if ((n / Page::SIZE) as u64) < place {
-        return &sheet[n..n];
-    }
-    let a = Page::SIZE * (place as usize);
-    let e = least((a + Page::SIZE) as u64, n as u64) as usize;
-    &sheet[a..e]
-}
-
-// The part of a place, none for no place.
+// The part of a place: its 64 bytes, none where the sheet has no such place.
 pub fn part_at(sheet: &[u8], place: u64) -> &[u8]
-    ensures { λ r. ⌜ now r ≡ pageBytes (now (sheet .entry)) place ⌝ }
+    ensures { λ r. ⌜ now r ≡ partAt (now (sheet .entry)) place ⌝ }
 {
     if place < 1 {
         return &sheet[0..0];
     }
-    part_above(sheet, place - 1)
+    if ((sheet.len() / Page::SIZE) as u64) < place {
+        return &sheet[0..0];
+    }
+    let a = Page::SIZE * (place as usize - 1);
+    let e = a + Page::SIZE;
+    &sheet[a..e]
 }
 
 // The page at a place, by the page test on its part of the sheet; Refused where the sheet has no such place.

@@ -11,8 +11,8 @@ use Rattle.desk.proofs.cutting.act.Tie as tie
 slice-aggregate-copy : tie.Need-slice-aggregate-copy
 slice-aggregate-copy c = search needs
 
-part-above-requires : tie.Need-part-above-requires
-part-above-requires c κs = search needs
+page-above-requires : tie.Need-page-above-requires
+page-above-requires c κs = search needs
 
 copy-requires : tie.Need-copy-requires
 copy-requires c κs = search needs
@@ -64,14 +64,14 @@ same-length-6 c = search needs
 returns-2 : tie.Need-returns-2
 returns-2 c =
     let a = c .before .before .before .before .before .before .before .before .before .before .before .before .before .before .before .before .before .before .before .before .before .before .before .before .before .before .before .before .before .args in
-    lost-as (a .desk) (now (a .sheet)) (now (a .fates)) (now (a .rows)) (a .call) (now (a .value)) _ _ _ _ (c .before .before .before .before .before .before .before .before .before .before .before .before .before .before .before .make .ensures) (passed (c .before .before .before .before .before .before .before .is-struck .ensures) (c .before .before .before .before .before .before .if1 .left)) _ _ (replicate 64 0) (c .before .before .before .before .before .before .before .before .before .before .before .before .before .before .before .before .before .before .before .before .copy .last .0) _ (c .before .before .before .before .before .before .before .before .before .before .before .before .before .before .before .before .before .before .before .before .before .part-above .ensures) refl (c .before .before .before .before .before .before .before .before .before .before .before .before .before .before .before .before .before .before .before .before .copy .ensures) (c .lost .ensures) (c .before .before .before .cut-page .ensures)
+    lost-as (a .desk) (now (a .sheet)) (now (a .fates)) (now (a .rows)) (a .call) (now (a .value)) _ _ _ _ (c .before .before .before .before .before .before .before .before .before .before .before .before .before .before .before .make .ensures) (passed (c .before .before .before .before .before .before .before .is-struck .ensures) (c .before .before .before .before .before .before .if1 .left)) _ _ (replicate 64 0) (c .before .before .before .before .before .before .before .before .before .before .before .before .before .before .before .before .before .before .before .before .copy .last .0) _ (c .before .before .before .before .before .before .before .before .before .before .before .before .before .before .before .before .before .before .before .before .before .page-above .ensures) refl (c .before .before .before .before .before .before .before .before .before .before .before .before .before .before .before .before .before .before .before .before .copy .ensures) (c .lost .ensures) (c .before .before .before .cut-page .ensures)
 
 pub act-spec : {M : Type 1} → statement M
 act-spec =
     tie.close
     (tie.spec
     slice-aggregate-copy
-    part-above-requires
+    page-above-requires
     copy-requires
     make-requires
     is-struck-requires

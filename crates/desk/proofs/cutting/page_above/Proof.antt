@@ -1,10 +1,10 @@
--- `recovery::lookup::part_above`: inside the sheet and past it. Assumes nothing.
-use Rattle.recovery.proofs.Pages.{above-none, above-some}
+-- `desk::cutting::page_above`: inside the sheet and past it. Assumes nothing.
+use Rattle.desk.proofs.CutPages.{above-none, above-some}
 use mathlib.Core.Path.{refl}
 use denote.Ref.{now}
 use borrow.Author.Needs.{needs}
-use Rattle.recovery.proofs.lookup.part_above.Statement.{statement}
-use Rattle.recovery.proofs.lookup.part_above.Tie as tie
+use Rattle.desk.proofs.cutting.page_above.Statement.{statement}
+use Rattle.desk.proofs.cutting.page_above.Tie as tie
 
 sub-result : tie.Need-sub-result
 sub-result c = search needs
@@ -39,8 +39,8 @@ part-result-end-2 c = search needs
 returns-2 : tie.Need-returns-2
 returns-2 c = above-some (now (c .before .before .before .before .args .sheet)) _ (c .before .before .before .before .args .place) _ _ refl (c .before .before .if1 .left) refl (c .before .least .ensures)
 
-pub part-above-spec : {M : Type 1} → statement M
-part-above-spec =
+pub page-above-spec : {M : Type 1} → statement M
+page-above-spec =
     tie.close
     (tie.spec
     sub-result
