@@ -28,7 +28,7 @@ use Rattle.calls.specs.Calls.{read, on, onRead, onToken, answerWalk, ima
 use Rattle.calls.specs.Effect.{callLeaves}
 use Rattle.calls.specs.ReadSteps.{readLine, rowKept, imageBy, Looked, walkAnswer, walkAt, world, Versions, Reads}
 use Rattle.calls.proofs.Ends.{ends-same, ends-row}
-use Rattle.calls.proofs.ReadLines.{read-by}
+use Rattle.calls.proofs.ActionLines.{read-by}
 use Rattle.calls.proofs.ReadImages.{met-at, row-kept, looked-token}
 use Rattle.calls.proofs.ReadWalks.{follow-met, met-long}
 use Rattle.calls.proofs.ReadWarming.{warm-is, put-twice, put-over}

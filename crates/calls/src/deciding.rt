@@ -1,6 +1,7 @@
-// Test, begin, commit and abort: the calls about an action (a transaction) and its fate.
+// Commit and abort: the outcome of an action.
 use crate::appending::append;
-use crate::appending::is_blank_at;
+use crate::refusing::action_line;
+use crate::refusing::room_line;
 use page::Page;
 use page::Sought;
 use recovery::Answer;
@@ -8,7 +9,6 @@ use recovery::Done;
 use recovery::ROW_LENGTH;
 use recovery::Row;
 use recovery::State;
-use recovery::fate_at;
 use recovery::is_lent_right;
 use recovery::is_opening_at;
 use recovery::refuse;
@@ -26,67 +26,7 @@ ghost use Rattle.recovery.specs.Sheet.{isOpening, decoded};
 ghost use Rattle.recovery.specs.Lent.{rowLength, leftBy};
 ghost use Rattle.calls.specs.Calls.{Call, decided};
 ghost use Rattle.calls.specs.Effect.{callLeaves};
-ghost use Rattle.calls.specs.DecideSteps.{knownFate, decideLine, holdsTokenIn, settledRow, settledRows};
-
-// An action's fate, 0 where line 5 refuses.
-pub(crate) fn known_fate(fates: &[u8], end: u64, action: u64) -> u64
-    ensures { λ r. ⌜ r ≡ knownFate (now (fates .entry)) end action ⌝ }
-{
-    let fate = fate_at(fates, action);
-    if end < action {
-        return 0;
-    }
-    if 3 < fate {
-        return 0;
-    }
-    fate
-}
-
-// The fate of an action.
-pub fn test(sheet: &[u8], fates: &[u8], rows: &[u64], state: State, action: u64) -> Done
-    ensures { λ r. ⌜ leftBy r (now (sheet .entry)) (now (fates .entry)) (now (rows .entry)) ≡ callLeaves (now (sheet .entry)) (now (fates .entry)) (now (rows .entry)) state (Call.test action) ⌝ }
-{
-    if !is_lent_right(sheet.len(), fates.len(), rows.len(), state) {
-        return refuse(1, state);
-    }
-    let fate = known_fate(fates, state.end, action);
-    if fate == 0 {
-        return refuse(5, state);
-    }
-    Done {
-        answer: Answer::Told(fate),
-        state,
-    }
-}
-
-// Begins an action: appends its opening, and leaves room for the outcome of each undecided action.
-pub fn begin(sheet: &mut [u8], fates: &mut [u8], rows: &[u64], state: State) -> Done
-    ensures { λ r. ⌜ leftBy r (now (sheet .exit)) (now (fates .exit)) (now (rows .entry)) ≡ callLeaves (now (sheet .entry)) (now (fates .entry)) (now (rows .entry)) state Call.begin ⌝ }
-{
-    if !is_lent_right(sheet.len(), fates.len(), rows.len(), state) {
-        return refuse(1, state);
-    }
-    let end = state.end;
-    if fates.len() as u64 - end < state.undecided + 2 {
-        return refuse(11, state);
-    }
-    let files = (rows.len() / ROW_LENGTH) as u64;
-    let place = end + 1;
-    if !is_blank_at(&sheet[..], place, files) {
-        return refuse(12, state);
-    }
-    let page = Page::opening(place);
-    append(sheet, end, files, page, &[0u8; 32]);
-    fates[end as usize] = 1;
-    Done {
-        answer: Answer::Stored(place),
-        state: State {
-            end: place,
-            floor: state.floor,
-            undecided: state.undecided + 1,
-        },
-    }
-}
+ghost use Rattle.calls.specs.DecideSteps.{decideLine, holdsTokenIn, settledRow, settledRows};
 
 // The line that refuses commit and abort, 0 if none does.
 fn decide_line(sheet: &[u8], fates: &[u8], rows: &[u64], state: State, action: u64) -> u64
@@ -95,21 +35,12 @@ fn decide_line(sheet: &[u8], fates: &[u8], rows: &[u64], state: State, action: u
     if !is_lent_right(sheet.len(), fates.len(), rows.len(), state) {
         return 1;
     }
-    let fate = known_fate(fates, state.end, action);
-    if fate == 0 {
-        return 5;
-    }
-    if fate != 1 {
-        return 6;
-    }
-    if fates.len() as u64 <= state.end {
-        return 11;
+    let line = action_line(fates, state.end, action);
+    if line != 0 {
+        return line;
     }
     let files = (rows.len() / ROW_LENGTH) as u64;
-    if !is_blank_at(sheet, state.end + 1, files) {
-        return 12;
-    }
-    0
+    room_line(sheet, state.end, files, 1)
 }
 
 // Whether a row's token is a sealed image of the file under the action; `opened` says whether that has an opening.

@@ -1,4 +1,5 @@
 // Read: the value of a file at a time, for an action or for none.
+use crate::refusing::action_line;
 use page::Page;
 use page::Sought;
 use recovery::Answer;
@@ -6,7 +7,6 @@ use recovery::Done;
 use recovery::ROW_LENGTH;
 use recovery::Row;
 use recovery::State;
-use recovery::fate_at;
 use recovery::image_at;
 use recovery::is_file;
 use recovery::is_lent_right;
@@ -25,7 +25,7 @@ ghost use Rattle.recovery.specs.Lent.{leftBy, rowLength};
 ghost use Rattle.recovery.specs.Steps.{lineOne, sealedImage};
 ghost use Rattle.calls.specs.Calls.{Call, readCurrent, readToken};
 ghost use Rattle.calls.specs.Effect.{callLeaves};
-ghost use Rattle.calls.specs.ReadSteps.{actionLine, readLine, placeKept, rowKept, walkAt, Looked, Versions, Reads};
+ghost use Rattle.calls.specs.ReadSteps.{readLine, placeKept, rowKept, walkAt, Looked, Versions, Reads};
 
 // What a read of a warm row answers, and the row that it leaves.
 struct Reading {
@@ -44,21 +44,6 @@ fn token_read(row: Row, time: u64) -> Row
     ensures { λ r. ⌜ r ≡ readToken time row ⌝ }
 {
     raised_row(row, 0, time)
-}
-
-// Lines 5 and 6: the one that refuses an action, or 0.
-pub(crate) fn action_line(fates: &[u8], end: u64, action: u64) -> u64
-    ensures { λ r. ⌜ r ≡ actionLine (now (fates .entry)) end action ⌝ }
-{
-    let fate = fate_at(fates, action);
-    let known = (1 <= action) & (action <= end) & ((1 <= fate) & (fate <= 3));
-    if !known {
-        return 5;
-    }
-    if fate != 1 {
-        return 6;
-    }
-    0
 }
 
 // Lines 5 and 6 of read, which are passed over for action 0.

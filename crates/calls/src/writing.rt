@@ -1,8 +1,8 @@
 // Write: a value of a file under an action, as the file's token.
 use crate::appending::append;
-use crate::appending::is_blank_at;
-use crate::reading::action_line;
 use crate::reading::is_row_kept;
+use crate::refusing::action_line;
+use crate::refusing::room_line;
 use page::Page;
 use page::Sought;
 use recovery::Answer;
@@ -26,7 +26,8 @@ ghost use Rattle.recovery.specs.Lent.{leftBy, rowLength};
 ghost use Rattle.recovery.specs.Steps.{lineOne};
 ghost use Rattle.calls.specs.Calls.{Call};
 ghost use Rattle.calls.specs.Effect.{callLeaves, padded};
-ghost use Rattle.calls.specs.ReadSteps.{actionLine, storeAnswer, writeAnswer, written};
+ghost use Rattle.calls.specs.LineSteps.{actionLine};
+ghost use Rattle.calls.specs.ReadSteps.{storeAnswer, writeAnswer, written};
 
 // A value and zeros after it.
 fn pad(value: &[u8]) -> [u8; 32]
@@ -44,7 +45,7 @@ fn pad(value: &[u8]) -> [u8; 32]
 
 // Lines 10 to 12 of write.
 fn store_answer(sheet: &[u8], files: u64, state: State, start: u64, row: Row) -> Answer
-    requires { ⌜ state .end ≤ length (now sheet) / pageSize ⌝ }
+    requires { ⌜ (state .end ≤ length (now sheet) / pageSize) × (state .undecided ≤ state .end) ⌝ }
     ensures { λ r. ⌜ r ≡ storeAnswer (now (sheet .entry)) files state start row ⌝ }
 {
     if start <= row.currentend {
@@ -53,20 +54,16 @@ fn store_answer(sheet: &[u8], files: u64, state: State, start: u64, row: Row) ->
     if start <= state.floor {
         return Answer::Refused(10, 0);
     }
-    let pages = (sheet.len() / Page::SIZE) as u64;
-    if pages - state.end <= state.undecided {
-        return Answer::Refused(11, 0);
+    let line = room_line(sheet, state.end, files, state.undecided + 1);
+    if line != 0 {
+        return Answer::Refused(line, 0);
     }
-    let place = state.end + 1;
-    if !is_blank_at(sheet, place, files) {
-        return Answer::Refused(12, 0);
-    }
-    Answer::Stored(place)
+    Answer::Stored(state.end + 1)
 }
 
 // Lines 7 to 12 of write on a warm row. Each place of the row is looked at once.
 fn write_answer(sheet: &[u8], files: u64, state: State, file: u64, start: u64, row: Row) -> Answer
-    requires { ⌜ state .end ≤ length (now sheet) / pageSize ⌝ }
+    requires { ⌜ (state .end ≤ length (now sheet) / pageSize) × (state .undecided ≤ state .end) ⌝ }
     ensures { λ r. ⌜ r ≡ writeAnswer (now (sheet .entry)) files state file start row ⌝ }
 {
     let current = image_at(sheet, files, file, row.current);

@@ -4,7 +4,7 @@ use Rattle.page.specs.Layout.{mostPlaces}
 use denote.Ref.{now}
 use native.Mathlib.Omega.{arith}
 use Rattle.calls.proofs.DecideEnds.{Ready, ready, decide-refused, end-low, rows-asked, outcome-asked, decide-done}
-use Rattle.calls.proofs.DecideLines.{by-refuse}
+use Rattle.calls.proofs.Ends.{by-refuse}
 use borrow.Author.Needs.{needs}
 use Rattle.calls.proofs.deciding.decide.Statement.{statement}
 use Rattle.calls.proofs.deciding.decide.Tie as tie

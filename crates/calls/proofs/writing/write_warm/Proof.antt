@@ -19,7 +19,8 @@ write-answer-requires : tie.Need-write-answer-requires
 write-answer-requires c κs =
     let b = c .before .before .before .before .before .before .before .before .before .before .before in
     let a = b .args in
-    lent-is (length (now (a .sheet))) (length (now (a .fates))) (length (now (a .rows))) (a .state .end) (a .state .undecided) (b .pre .0) .end-in
+    let k = lent-is (length (now (a .sheet))) (length (now (a .fates))) (length (now (a .rows))) (a .state .end) (a .state .undecided) (b .pre .0) in
+    (k .end-in, k .few)
 
 enum-known-answer : tie.Need-enum-known-answer
 enum-known-answer c = search needs
