@@ -17,11 +17,12 @@ use Rattle.recovery.specs.declared.State.{State}
 use Rattle.recovery.specs.declared.Answer.{Answer}
 use Rattle.recovery.specs.declared.Answer.the-variants.{Refused, Stored}
 use Rattle.recovery.specs.Lent.{pagesOf}
-use Rattle.recovery.specs.Steps.{sealedImage, rowHoldsIn}
+use Rattle.recovery.specs.Steps.{sealedImage, rowKept, rowHoldsIn}
+use Rattle.recovery.proofs.Held.{row-kept}
 use Rattle.calls.specs.Calls.{imageOf, actionOf}
 use Rattle.calls.specs.LineSteps.{roomLine}
-use Rattle.calls.specs.ReadSteps.{rowKept, storeAnswer, writeAnswer}
-use Rattle.calls.proofs.ReadImages.{met-at, row-kept, no-token}
+use Rattle.calls.specs.ReadSteps.{storeAnswer, writeAnswer}
+use Rattle.calls.proofs.ReadImages.{met-at, no-token}
 
 -- ---- lines 10 to 12
 

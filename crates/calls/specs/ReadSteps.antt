@@ -1,11 +1,10 @@
 -- What smaller functions of read and write answer. A reader of document 01 can pass this file over: the laws join it to `on`.
 use mathlib.Core.Path.{_≡_}
 use mathlib.Core.List.{List}
-use mathlib.Core.Bool.{Bool, true, false, cond, _&&_, _||_}
+use mathlib.Core.Bool.{cond, _&&_}
 use mathlib.Core.Option.{Option, some, none}
 use Prim.Native.Nat.{ℕ, suc, _+_}
-use lib.ListN.{length}
-use lib.Dec.{eqb, leb, ltb}
+use lib.Dec.{eqb, ltb}
 use Rattle.page.specs.declared.Page.{Page}
 use Rattle.page.specs.declared.Sought as sought
 use Rattle.page.specs.declared.Sought.{Sought}
@@ -27,17 +26,6 @@ use Rattle.calls.specs.Calls.{imageOf, actionOf, valueOf, onVersions, on
 -- lines 5 and 6 of read, which passes over them for action 0
 unfoldable pub readLine : List ℕ → ℕ → ℕ → ℕ
 readLine fates end a = cond (eqb a 0) 0 (actionLine fates end a)
-
--- line 7, by what was found at the places of a row
-abbrev pub isFound : Sought → Bool
-isFound (sought.Sought.Image x) = true
-isFound sought.Sought.Other = false
-
-unfoldable pub placeKept : ℕ → ℕ → Sought → Bool
-placeKept end place u = eqb place 0 || (leb place end && isFound u)
-
-unfoldable pub rowKept : ℕ → Row → Sought → Sought → Bool
-rowKept end r u v = leb (r .mark) 1 && placeKept end (r .current) u && placeKept end (r .token) v
 
 -- the image of a page's bytes, by the fields that were found
 abbrev pub imageBy : List ℕ → Sought → Option Image

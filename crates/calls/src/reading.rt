@@ -10,6 +10,7 @@ use recovery::State;
 use recovery::image_at;
 use recovery::is_file;
 use recovery::is_lent_right;
+use recovery::is_row_kept;
 use recovery::raised_row;
 use recovery::refuse;
 use recovery::set_row;
@@ -25,7 +26,7 @@ ghost use Rattle.recovery.specs.Lent.{leftBy, rowLength};
 ghost use Rattle.recovery.specs.Steps.{lineOne, sealedImage};
 ghost use Rattle.calls.specs.Calls.{Call, readCurrent, readToken};
 ghost use Rattle.calls.specs.Effect.{callLeaves};
-ghost use Rattle.calls.specs.ReadSteps.{readLine, placeKept, rowKept, walkAt, Looked, Versions, Reads};
+ghost use Rattle.calls.specs.ReadSteps.{readLine, walkAt, Looked, Versions, Reads};
 
 // What a read of a warm row answers, and the row that it leaves.
 struct Reading {
@@ -54,31 +55,6 @@ fn read_line(fates: &[u8], end: u64, action: u64) -> u64
         return 0;
     }
     action_line(fates, end, action)
-}
-
-// Line 7 for a place of a row, by what was found there.
-fn is_place_kept(end: u64, place: u64, found: Sought) -> bool
-    ensures { λ r. ⌜ r ≡ placeKept end place found ⌝ }
-{
-    if place == 0 {
-        return true;
-    }
-    if end < place {
-        return false;
-    }
-    match found {
-        Sought::Image(_) => true,
-        Sought::Other => false,
-    }
-}
-
-// Line 7, by what was found at both places of a row.
-pub(crate) fn is_row_kept(end: u64, row: Row, current: Sought, token: Sought) -> bool
-    ensures { λ r. ⌜ r ≡ rowKept end row current token ⌝ }
-{
-    (row.mark <= 1)
-        & is_place_kept(end, row.current, current)
-        & is_place_kept(end, row.token, token)
 }
 
 // The first image from a place down the links whose start is not above a time.

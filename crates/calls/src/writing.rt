@@ -1,6 +1,5 @@
 // Write: a value of a file under an action, as the file's token.
 use crate::appending::append;
-use crate::reading::is_row_kept;
 use crate::refusing::action_line;
 use crate::refusing::room_line;
 use page::Page;
@@ -13,6 +12,7 @@ use recovery::State;
 use recovery::image_at;
 use recovery::is_file;
 use recovery::is_lent_right;
+use recovery::is_row_kept;
 use recovery::refuse;
 use recovery::set_row;
 use recovery::warm_row;

@@ -21,7 +21,7 @@ pub use lookup::seek_at;
 pub use numbering::numbers_of;
 pub use opening::open;
 use page::Page;
-pub use rebuilding::is_row_held;
+pub use rebuilding::is_row_kept;
 pub use rebuilding::rebuild;
 pub use rebuilding::rebuilt_row;
 pub use rebuilding::warm_row;

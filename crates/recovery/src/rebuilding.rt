@@ -17,7 +17,7 @@ use page::Sought;
 use page::Unpacked;
 ghost use mathlib.Core.Path.{_≡_};
 ghost use Rattle.recovery.specs.Lent.{leftBy, rebuildLeaves};
-ghost use Rattle.recovery.specs.Steps.{rowFromPages, placeHoldsIn, rowHoldsIn, Warmed};
+ghost use Rattle.recovery.specs.Steps.{rowFromPages, placeKept, rowKept, rowHoldsIn, Warmed};
 
 // The row of a file from the pages up to the end, going down: the first committed image is the current one, and the newest
 // undecided image above it the token. A page that is not an image of the file is passed over at once.
@@ -64,9 +64,9 @@ pub fn rebuilt_row(sheet: &[u8], fates: &[u8], files: u64, file: u64, end: u64) 
     }
 }
 
-// A place of a row is 0, or a place up to the end with a sealed image of the file.
-fn is_place_held(sheet: &[u8], files: u64, end: u64, file: u64, place: u64) -> bool
-    ensures { λ r. ⌜ r ≡ placeHoldsIn (now (sheet .entry)) files end file place ⌝ }
+// Line 7 for a place of a row, by what was found there: it is 0, or a place up to the end with a sealed image of the file.
+fn is_place_kept(end: u64, place: u64, found: Sought) -> bool
+    ensures { λ r. ⌜ r ≡ placeKept end place found ⌝ }
 {
     if place == 0 {
         return true;
@@ -74,20 +74,28 @@ fn is_place_held(sheet: &[u8], files: u64, end: u64, file: u64, place: u64) -> b
     if end < place {
         return false;
     }
-    let found = image_at(sheet, files, file, place);
     match found {
         Sought::Image(_) => true,
         Sought::Other => false,
     }
 }
 
-// Line 7.
-pub fn is_row_held(sheet: &[u8], files: u64, end: u64, file: u64, row: Row) -> bool
-    ensures { λ r. ⌜ r ≡ rowHoldsIn (now (sheet .entry)) files end file row ⌝ }
+// Line 7, by what was found at both places of a row.
+pub fn is_row_kept(end: u64, row: Row, current: Sought, token: Sought) -> bool
+    ensures { λ r. ⌜ r ≡ rowKept end row current token ⌝ }
 {
     (row.mark <= 1)
-        & is_place_held(sheet, files, end, file, row.current)
-        & is_place_held(sheet, files, end, file, row.token)
+        & is_place_kept(end, row.current, current)
+        & is_place_kept(end, row.token, token)
+}
+
+// Line 7.
+fn is_row_held(sheet: &[u8], files: u64, end: u64, file: u64, row: Row) -> bool
+    ensures { λ r. ⌜ r ≡ rowHoldsIn (now (sheet .entry)) files end file row ⌝ }
+{
+    let current = image_at(sheet, files, file, row.current);
+    let token = image_at(sheet, files, file, row.token);
+    is_row_kept(end, row, current, token)
 }
 
 // A file's row, rebuilt and put into the run where it is cold.

@@ -13,13 +13,6 @@ use Rattle.calls.proofs.BeginEnds.{begin-refused, begin-room, begin-ask
 use borrow.Author.Needs.{needs}
 use Rattle.calls.proofs.beginning.begin.Statement.{statement}
 use Rattle.calls.proofs.beginning.begin.Tie as tie
-use Rattle.calls.proofs.beginning.begin.Reads as reads
-use Rattle.calls.proofs.beginning.begin.Lts as lts
-use Rattle.calls.proofs.appending.append.Reads as append-reads
-use Rattle.calls.proofs.refusing.room_line.Reads as room-line-reads
-use Rattle.page.proofs.Page.opening.Reads as opening-reads
-use Rattle.recovery.proofs.is_lent_right.Reads as is-lent-right-reads
-use Rattle.recovery.proofs.refuse.Reads as refuse-reads
 
 fit : (c : tie.Else1) → lineOne (length (now (c .before .before .before .before .before .args .sheet))) (length (now (c .before .before .before .before .before .args .fates))) (length (now (c .before .before .before .before .before .args .rows))) (c .before .before .before .before .before .args .state .end) (c .before .before .before .before .before .args .state .undecided) ≡ true
 fit c = passed (c .before .is-lent-right .ensures) (c .if1 .left)

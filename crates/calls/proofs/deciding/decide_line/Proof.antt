@@ -10,11 +10,6 @@ use Rattle.recovery.specs.Steps.{lineOne}
 use borrow.Author.Needs.{needs}
 use Rattle.calls.proofs.deciding.decide_line.Statement.{statement}
 use Rattle.calls.proofs.deciding.decide_line.Tie as tie
-use Rattle.calls.proofs.deciding.decide_line.Reads as reads
-use Rattle.calls.proofs.deciding.decide_line.Lts as lts
-use Rattle.calls.proofs.refusing.action_line.Reads as action-line-reads
-use Rattle.calls.proofs.refusing.room_line.Reads as room-line-reads
-use Rattle.recovery.proofs.is_lent_right.Reads as is-lent-right-reads
 
 fit : (c : tie.Else1) → lineOne (length (now (c .before .before .before .before .before .args .sheet))) (length (now (c .before .before .before .before .before .args .fates))) (length (now (c .before .before .before .before .before .args .rows))) (c .before .before .before .before .before .args .state .end) (c .before .before .before .before .before .args .state .undecided) ≡ true
 fit c = passed (c .before .is-lent-right .ensures) (c .if1 .left)

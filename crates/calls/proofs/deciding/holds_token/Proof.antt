@@ -4,9 +4,6 @@ use Rattle.calls.proofs.DecideRows.{holds-mark, holds-zero, holds-high,
 use borrow.Author.Needs.{needs}
 use Rattle.calls.proofs.deciding.holds_token.Statement.{statement}
 use Rattle.calls.proofs.deciding.holds_token.Tie as tie
-use Rattle.calls.proofs.deciding.holds_token.Reads as reads
-use Rattle.calls.proofs.deciding.holds_token.Lts as lts
-use Rattle.recovery.proofs.seek_at.Reads as seek-at-reads
 
 -- src/deciding.rt:129:9
 returns : tie.Need-returns

@@ -4,9 +4,6 @@ use Rattle.calls.proofs.RoomLines.{line-11, line-12, line-free}
 use borrow.Author.Needs.{needs}
 use Rattle.calls.proofs.refusing.room_line.Statement.{statement}
 use Rattle.calls.proofs.refusing.room_line.Tie as tie
-use Rattle.calls.proofs.refusing.room_line.Reads as reads
-use Rattle.calls.proofs.refusing.room_line.Lts as lts
-use Rattle.recovery.proofs.is_blank_at.Reads as is-blank-at-reads
 
 sub-if1 : tie.Need-sub-if1
 sub-if1 c = search needs

@@ -4,9 +4,6 @@ use Rattle.calls.proofs.WriteAnswers.{store-10, store-floor, store-refu
 use borrow.Author.Needs.{needs}
 use Rattle.calls.proofs.writing.store_answer.Statement.{statement}
 use Rattle.calls.proofs.writing.store_answer.Tie as tie
-use Rattle.calls.proofs.writing.store_answer.Reads as reads
-use Rattle.calls.proofs.writing.store_answer.Lts as lts
-use Rattle.calls.proofs.refusing.room_line.Reads as room-line-reads
 
 returns : tie.Need-returns
 returns c =
