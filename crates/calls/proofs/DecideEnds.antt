@@ -123,8 +123,8 @@ module _ (s fs rs : List ℕ) (st : State) (a : ℕ) (c : Bool) where
     pub end-low : st .end < mostPlaces
     end-low = let k = sure .sizes in omega (arith, r .room)
 
-    pub rows-asked : (rowLength * (length rs / rowLength) ≡ length rs) × (length rs / rowLength ≡ length rs / rowLength)
-    rows-asked = (sure .sizes .numbers-are, refl)
+    pub rows-whole : rowLength * (length rs / rowLength) ≡ length rs
+    rows-whole = sure .sizes .numbers-are
 
     verdict-low : (d : Bool) → (1 ≤ cond d 1 2) × (cond d 1 2 ≤ 2)
     verdict-low true = (omega arith, omega arith)

@@ -4,8 +4,8 @@ use crate::refusing::room_line;
 use page::Page;
 use recovery::Answer;
 use recovery::Done;
-use recovery::ROW_LENGTH;
 use recovery::State;
+use recovery::file_count;
 use recovery::is_lent_right;
 use recovery::refuse;
 ghost use mathlib.Core.Path.{_≡_};
@@ -21,7 +21,7 @@ pub fn begin(sheet: &mut [u8], fates: &mut [u8], rows: &[u64], state: State) -> 
         return refuse(1, state);
     }
     let end = state.end;
-    let files = (rows.len() / ROW_LENGTH) as u64;
+    let files = file_count(rows.len());
     let line = room_line(&sheet[..], end, files, state.undecided + 2);
     if line != 0 {
         return refuse(line, state);

@@ -6,9 +6,9 @@ use page::Page;
 use page::Sought;
 use recovery::Answer;
 use recovery::Done;
-use recovery::ROW_LENGTH;
 use recovery::Row;
 use recovery::State;
+use recovery::file_count;
 use recovery::is_lent_right;
 use recovery::is_opening_at;
 use recovery::refuse;
@@ -39,7 +39,7 @@ fn decide_line(sheet: &[u8], fates: &[u8], rows: &[u64], state: State, action: u
     if line != 0 {
         return line;
     }
-    let files = (rows.len() / ROW_LENGTH) as u64;
+    let files = file_count(rows.len());
     room_line(sheet, state.end, files, 1)
 }
 
@@ -184,7 +184,7 @@ fn decide(
         return refuse(line, state);
     }
     let end = state.end;
-    let files = (rows.len() / ROW_LENGTH) as u64;
+    let files = file_count(rows.len());
     let opened = is_opening_at(&sheet[..], action, files);
     settle_rows(&sheet[..], rows, files, end, action, opened, committed);
     let page = outcome_page(action, committed);

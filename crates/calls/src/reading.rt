@@ -4,11 +4,11 @@ use page::Page;
 use page::Sought;
 use recovery::Answer;
 use recovery::Done;
-use recovery::ROW_LENGTH;
 use recovery::Row;
 use recovery::State;
+use recovery::file_count;
+use recovery::has_file;
 use recovery::image_at;
-use recovery::is_file;
 use recovery::is_lent_right;
 use recovery::is_row_kept;
 use recovery::raised_row;
@@ -167,7 +167,7 @@ fn read_warm(
     ensures { λ r. ⌜ leftBy r (now (sheet .entry)) (now (fates .entry)) (now (rows .exit)) ≡ callLeaves (now (sheet .entry)) (now (fates .entry)) (now (rows .entry)) state (Call.read file time action) ⌝ }
 {
     let end = state.end;
-    let files = (rows.len() / ROW_LENGTH) as u64;
+    let files = file_count(rows.len());
     let row = warm_row(sheet, fates, rows, file, end);
     let reading = read_row(sheet, files, end, file, time, action, row);
     let new = reading.row;
@@ -191,8 +191,7 @@ pub fn read(
     if !is_lent_right(sheet.len(), fates.len(), rows.len(), state) {
         return refuse(1, state);
     }
-    let files = (rows.len() / ROW_LENGTH) as u64;
-    if !is_file(files, file) {
+    if !has_file(rows.len(), file) {
         return refuse(3, state);
     }
     let line = read_line(fates, state.end, action);

@@ -6,11 +6,11 @@ use page::Page;
 use page::Sought;
 use recovery::Answer;
 use recovery::Done;
-use recovery::ROW_LENGTH;
 use recovery::Row;
 use recovery::State;
+use recovery::file_count;
+use recovery::has_file;
 use recovery::image_at;
-use recovery::is_file;
 use recovery::is_lent_right;
 use recovery::is_row_kept;
 use recovery::refuse;
@@ -107,7 +107,7 @@ fn write_warm(
     // First, so that these stores are done when the page is written from them.
     let bytes = pad(value);
     let end = state.end;
-    let files = (rows.len() / ROW_LENGTH) as u64;
+    let files = file_count(rows.len());
     let row = warm_row(&sheet[..], fates, rows, file, end);
     let answer = write_answer(&sheet[..], files, state, file, start, row);
     let Answer::Stored(place) = answer else {
@@ -142,8 +142,7 @@ pub fn write(
     if !is_lent_right(sheet.len(), fates.len(), rows.len(), state) {
         return refuse(1, state);
     }
-    let files = (rows.len() / ROW_LENGTH) as u64;
-    if !is_file(files, file) {
+    if !has_file(rows.len(), file) {
         return refuse(3, state);
     }
     if Page::VALUE_SIZE < value.len() as u64 {

@@ -28,6 +28,8 @@ pub use rebuilding::warm_row;
 pub use rolling::later;
 pub use rolling::raise;
 pub use rolling::raised_row;
+pub use rows::file_count;
+pub use rows::has_file;
 pub use rows::is_file;
 pub use rows::row_of;
 pub use rows::set_row;

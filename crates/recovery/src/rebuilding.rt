@@ -1,12 +1,12 @@
 // Rebuild: a file's row from the pages, going down from the end.
 use crate::Answer;
 use crate::Done;
-use crate::ROW_LENGTH;
 use crate::Row;
 use crate::State;
 use crate::counted_fate;
+use crate::file_count;
+use crate::has_file;
 use crate::image_at;
-use crate::is_file;
 use crate::is_lent_right;
 use crate::refuse;
 use crate::row_of;
@@ -106,7 +106,7 @@ pub fn warm_row(sheet: &[u8], fates: &[u8], rows: &mut [u64], file: u64, end: u6
     if row.mark != 0 {
         return row;
     }
-    let files = (rows.len() / ROW_LENGTH) as u64;
+    let files = file_count(rows.len());
     let new = rebuilt_row(sheet, fates, files, file, end);
     set_row(rows, file, new);
     new
@@ -119,11 +119,11 @@ pub fn rebuild(sheet: &[u8], fates: &[u8], rows: &mut [u64], state: State, file:
     if !is_lent_right(sheet.len(), fates.len(), rows.len(), state) {
         return refuse(1, state);
     }
-    let files = (rows.len() / ROW_LENGTH) as u64;
-    if !is_file(files, file) {
+    if !has_file(rows.len(), file) {
         return refuse(3, state);
     }
     let end = state.end;
+    let files = file_count(rows.len());
     let row = warm_row(sheet, fates, rows, file, end);
     if !is_row_held(sheet, files, end, file, row) {
         return refuse(7, state);

@@ -20,10 +20,10 @@ fit c = passed (c .before .is-lent-right .ensures) (c .if1 .left)
 known : (c : tie.Else1) → Lent (length (now (c .before .before .before .before .before .args .sheet))) (length (now (c .before .before .before .before .before .args .fates))) (length (now (c .before .before .before .before .before .args .rows))) (c .before .before .before .before .before .args .state .end) (c .before .before .before .before .before .args .state .undecided)
 known c = lent-is _ _ _ _ _ (fit c)
 
-room : (c : tie.Else2) → c .before .before .before .before .before .before .before .before .before .args .state .undecided + 2 ≤ length (now (c .before .before .before .before .before .before .before .before .before .args .sheet)) / pageSize - c .before .before .before .before .before .before .before .before .before .args .state .end
+room : (c : tie.Else2) → c .before .before .before .before .before .before .before .before .before .before .args .state .undecided + 2 ≤ length (now (c .before .before .before .before .before .before .before .before .before .before .args .sheet)) / pageSize - c .before .before .before .before .before .before .before .before .before .before .args .state .end
 room c =
-    let a = c .before .before .before .before .before .before .before .before .before .args in
-    begin-room (now (a .sheet)) (now (a .fates)) (now (a .rows)) (a .state) (fit (c .before .before .before .before)) _ (c .before .room-line .ensures) (c .if2 .left)
+    let a = c .before .before .before .before .before .before .before .before .before .before .args in
+    begin-room (now (a .sheet)) (now (a .fates)) (now (a .rows)) (a .state) (fit (c .before .before .before .before .before)) _ (rw (c .before .before .before .before .file-count .ensures) at (c .before .room-line .ensures)) (c .if2 .left)
 
 is-lent-right-requires : tie.Need-is-lent-right-requires
 is-lent-right-requires c κs = search needs
@@ -34,11 +34,14 @@ refuse-requires c κs = search needs
 returns : tie.Need-returns
 returns c = by-refuse _ _ _ _ _ _ (c .refuse .ensures) (ends-line-1 _ _ _ _ _ (refused (c .before .before .is-lent-right .ensures) (c .before .if1 .taken)))
 
+file-count-requires : tie.Need-file-count-requires
+file-count-requires c κs = search needs
+
 add-room-line : tie.Need-add-room-line
-add-room-line c = omega (arith, known (c .before .before), known (c .before .before) .sizes)
+add-room-line c = omega (arith, known (c .before .before .before), known (c .before .before .before) .sizes)
 
 room-line-requires : tie.Need-room-line-requires
-room-line-requires c κs = known (c .before .before) .end-in
+room-line-requires c κs = known (c .before .before .before) .end-in
 
 refuse-requires-2 : tie.Need-refuse-requires-2
 refuse-requires-2 c κs = search needs
@@ -47,24 +50,24 @@ same-length : tie.Need-same-length
 same-length c = search needs
 
 returns-2 : tie.Need-returns-2
-returns-2 c = by-refuse _ _ _ _ _ _ (c .refuse2 .ensures) (begin-refused _ _ _ _ (fit (c .before .before .before .before .before)) _ (c .before .before .room-line .ensures) (c .before .if2 .taken))
+returns-2 c = by-refuse _ _ _ _ _ _ (c .refuse2 .ensures) (begin-refused _ _ _ _ (fit (c .before .before .before .before .before .before)) _ (rw (c .before .before .before .before .before .file-count .ensures) at (c .before .before .room-line .ensures)) (c .before .if2 .taken))
 
 add-place : tie.Need-add-place
-add-place c = let k = known (c .before .before .before .before) in omega (arith, k, k .sizes)
+add-place c = let k = known (c .before .before .before .before .before) in omega (arith, k, k .sizes)
 
 opening-requires : tie.Need-opening-requires
 opening-requires c κs = search needs
 
 append-requires : tie.Need-append-requires
 append-requires c κs =
-    let a = c .before .before .before .before .before .before .before .before .before .before .before .before .args in
-    rw (c .before .before .opening .ensures) (begin-asked (now (a .sheet)) (now (a .fates)) (now (a .rows)) (a .state) (fit (c .before .before .before .before .before .before .before)) _ (c .before .before .before .before .room-line .ensures) (c .before .before .before .if2 .left))
+    let a = c .before .before .before .before .before .before .before .before .before .before .before .before .before .args in
+    rw (c .before .before .opening .ensures, c .before .before .before .before .before .before .before .file-count .ensures) (begin-asked (now (a .sheet)) (now (a .fates)) (now (a .rows)) (a .state) (fit (c .before .before .before .before .before .before .before .before)) _ (rw (c .before .before .before .before .before .before .before .file-count .ensures) at (c .before .before .before .before .room-line .ensures)) (c .before .before .before .if2 .left))
 
 slice-write-fates : tie.Need-slice-write-fates
-slice-write-fates c = let k = known (c .before .before .before .before .before .before .before .before .before .before) .sizes in omega (arith, k, room (c .before .before .before .before .before .before))
+slice-write-fates c = let k = known (c .before .before .before .before .before .before .before .before .before .before .before) .sizes in omega (arith, k, room (c .before .before .before .before .before .before))
 
 add-t18 : tie.Need-add-t18
-add-t18 c = let k = known (c .before .before .before .before .before .before .before .before .before .before .before) in omega (arith, k, k .sizes)
+add-t18 c = let k = known (c .before .before .before .before .before .before .before .before .before .before .before .before) in omega (arith, k, k .sizes)
 
 same-length-2 : tie.Need-same-length-2
 same-length-2 c = search needs
@@ -73,7 +76,7 @@ same-length-3 : tie.Need-same-length-3
 same-length-3 c = search needs
 
 returns-3 : tie.Need-returns-3
-returns-3 c = begin-done _ _ _ _ (fit (c .before .before .before .before .before .before .before .before .before .before .before)) _ (c .before .before .before .before .before .before .before .before .room-line .ensures) (c .before .before .before .before .before .before .before .if2 .left) _ (rw (c .before .before .before .before .before .before .opening .ensures) at (c .before .before .before .append .ensures))
+returns-3 c = begin-done _ _ _ _ (fit (c .before .before .before .before .before .before .before .before .before .before .before .before)) _ (rw (c .before .before .before .before .before .before .before .before .before .before .before .file-count .ensures) at (c .before .before .before .before .before .before .before .before .room-line .ensures)) (c .before .before .before .before .before .before .before .if2 .left) _ (rw (c .before .before .before .before .before .before .opening .ensures) at (c .before .before .before .append .ensures))
 
 pub begin-spec : {M : Type 1} → statement M
 begin-spec =
@@ -82,6 +85,7 @@ begin-spec =
     is-lent-right-requires
     refuse-requires
     returns
+    file-count-requires
     add-room-line
     room-line-requires
     refuse-requires-2

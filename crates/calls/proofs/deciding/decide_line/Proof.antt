@@ -26,11 +26,14 @@ action-line-requires c κs = search needs
 returns-2 : tie.Need-returns-2
 returns-2 c = line-action _ _ _ _ _ (fit (c .before .before)) _ (c .before .action-line .ensures) (c .if2 .taken)
 
+file-count-requires : tie.Need-file-count-requires
+file-count-requires c κs = search needs
+
 room-line-requires : tie.Need-room-line-requires
-room-line-requires c κs = lent-is _ _ _ _ _ (fit (c .before .before)) .end-in
+room-line-requires c κs = lent-is _ _ _ _ _ (fit (c .before .before .before)) .end-in
 
 returns-3 : tie.Need-returns-3
-returns-3 c = line-room _ _ _ _ _ (fit (c .before .before .before)) _ (c .before .before .action-line .ensures) (c .before .if2 .left) _ (c .room-line .ensures)
+returns-3 c = line-room _ _ _ _ _ (fit (c .before .before .before .before)) _ (c .before .before .before .action-line .ensures) (c .before .before .if2 .left) _ (rw (c .before .file-count .ensures) at (c .room-line .ensures))
 
 pub decide-line-spec : {M : Type 1} → statement M
 decide-line-spec =
@@ -40,5 +43,6 @@ decide-line-spec =
     returns
     action-line-requires
     returns-2
+    file-count-requires
     room-line-requires
     returns-3)

@@ -23,8 +23,8 @@ returns c =
     ap (λ (d : Done). leftBy d (now (a .sheet)) (now (a .fates)) (now (a .rows))) (c .refuse .ensures)
     ∙ ends-line-1 (now (a .sheet)) (now (a .fates)) (now (a .rows)) (a .state) (write (a .file) (a .start) (a .action) (now (a .value))) (refused (c .before .before .is-lent-right .ensures) (c .before .if1 .taken))
 
-is-file-requires : tie.Need-is-file-requires
-is-file-requires c κs = search needs
+has-file-requires : tie.Need-has-file-requires
+has-file-requires c κs = search needs
 
 refuse-requires-2 : tie.Need-refuse-requires-2
 refuse-requires-2 c κs = search needs
@@ -33,7 +33,7 @@ returns-2 : tie.Need-returns-2
 returns-2 c =
     let a = c .before .before .before .before .before .before .before .before .before .args in
     ap (λ (d : Done). leftBy d (now (a .sheet)) (now (a .fates)) (now (a .rows))) (c .refuse2 .ensures)
-    ∙ write-3 (now (a .sheet)) (now (a .fates)) (now (a .rows)) (a .state) (passed (c .before .before .before .before .is-lent-right .ensures) (c .before .before .before .if1 .left)) (a .file) (a .start) (a .action) (now (a .value)) (refused (c .before .before .is-file .ensures) (c .before .if2 .taken))
+    ∙ write-3 (now (a .sheet)) (now (a .fates)) (now (a .rows)) (a .state) (passed (c .before .before .before .before .is-lent-right .ensures) (c .before .before .before .if1 .left)) (a .file) (a .start) (a .action) (now (a .value)) (refused (c .before .before .has-file .ensures) (c .before .if2 .taken))
 
 refuse-requires-3 : tie.Need-refuse-requires-3
 refuse-requires-3 c κs = search needs
@@ -42,7 +42,7 @@ returns-3 : tie.Need-returns-3
 returns-3 c =
     let a = c .before .before .before .before .before .before .before .before .before .before .args in
     ap (λ (d : Done). leftBy d (now (a .sheet)) (now (a .fates)) (now (a .rows))) (c .refuse3 .ensures)
-    ∙ write-4 (now (a .sheet)) (now (a .fates)) (now (a .rows)) (a .state) (passed (c .before .before .before .before .before .is-lent-right .ensures) (c .before .before .before .before .if1 .left)) (a .file) (a .start) (a .action) (now (a .value)) (passed (c .before .before .before .is-file .ensures) (c .before .before .if2 .left)) (c .before .if3 .taken)
+    ∙ write-4 (now (a .sheet)) (now (a .fates)) (now (a .rows)) (a .state) (passed (c .before .before .before .before .before .is-lent-right .ensures) (c .before .before .before .before .if1 .left)) (a .file) (a .start) (a .action) (now (a .value)) (passed (c .before .before .before .has-file .ensures) (c .before .before .if2 .left)) (c .before .if3 .taken)
 
 action-line-requires : tie.Need-action-line-requires
 action-line-requires c κs = search needs
@@ -54,10 +54,10 @@ returns-4 : tie.Need-returns-4
 returns-4 c =
     let a = c .before .before .before .before .before .before .before .before .before .before .before .before .args in
     ap (λ (d : Done). leftBy d (now (a .sheet)) (now (a .fates)) (now (a .rows))) (c .refuse4 .ensures)
-    ∙ write-56 (now (a .sheet)) (now (a .fates)) (now (a .rows)) (a .state) (passed (c .before .before .before .before .before .before .before .is-lent-right .ensures) (c .before .before .before .before .before .before .if1 .left)) (a .file) (a .start) (a .action) (now (a .value)) (passed (c .before .before .before .before .before .is-file .ensures) (c .before .before .before .before .if2 .left)) (c .before .before .before .if3 .left) _ (c .before .before .action-line .ensures) (c .before .if4 .taken)
+    ∙ write-56 (now (a .sheet)) (now (a .fates)) (now (a .rows)) (a .state) (passed (c .before .before .before .before .before .before .before .is-lent-right .ensures) (c .before .before .before .before .before .before .if1 .left)) (a .file) (a .start) (a .action) (now (a .value)) (passed (c .before .before .before .before .before .has-file .ensures) (c .before .before .before .before .if2 .left)) (c .before .before .before .if3 .left) _ (c .before .before .action-line .ensures) (c .before .if4 .taken)
 
 write-warm-requires : tie.Need-write-warm-requires
-write-warm-requires c κs = (passed (c .before .before .before .before .before .before .before .before .is-lent-right .ensures) (c .before .before .before .before .before .before .before .if1 .left), passed (c .before .before .before .before .before .before .is-file .ensures) (c .before .before .before .before .before .if2 .left), c .before .before .before .before .if3 .left, sym (c .before .before .before .action-line .ensures) ∙ c .before .before .if4 .left)
+write-warm-requires c κs = (passed (c .before .before .before .before .before .before .before .before .is-lent-right .ensures) (c .before .before .before .before .before .before .before .if1 .left), passed (c .before .before .before .before .before .before .has-file .ensures) (c .before .before .before .before .before .if2 .left), c .before .before .before .before .if3 .left, sym (c .before .before .before .action-line .ensures) ∙ c .before .before .if4 .left)
 
 same-length : tie.Need-same-length
 same-length c = search needs
@@ -75,7 +75,7 @@ write-spec =
     is-lent-right-requires
     refuse-requires
     returns
-    is-file-requires
+    has-file-requires
     refuse-requires-2
     returns-2
     refuse-requires-3
