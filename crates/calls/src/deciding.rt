@@ -43,18 +43,17 @@ fn decide_line(sheet: &[u8], fates: &[u8], rows: &[u64], state: State, action: u
     room_line(sheet, state.end, files, 1)
 }
 
-// Whether a row's token is a sealed image of the file under the action; `opened` says whether that has an opening.
-fn holds_token(
-    sheet: &[u8],
-    files: u64,
-    end: u64,
+// An action that is decided: whether it has an opening, and whether it commits.
+struct Decision {
     action: u64,
     opened: bool,
-    file: u64,
-    row: Row,
-) -> bool
-    requires { ⌜ opened ≡ isOpening (decoded files (now sheet) action) ⌝ }
-    ensures { λ r. ⌜ r ≡ holdsTokenIn (now (sheet .entry)) files end action file row ⌝ }
+    committed: bool,
+}
+
+// Whether a row's token is a sealed image of the file under the action.
+fn holds_token(sheet: &[u8], end: u64, files: u64, file: u64, row: Row, decision: Decision) -> bool
+    requires { ⌜ decision .opened ≡ isOpening (decoded files (now sheet) (decision .action)) ⌝ }
+    ensures { λ r. ⌜ r ≡ holdsTokenIn (now (sheet .entry)) files end (decision .action) file row ⌝ }
 {
     if row.mark != 1 {
         return false;
@@ -69,10 +68,10 @@ fn holds_token(
     let Sought::Image(image) = found else {
         return false;
     };
-    if image.action != action {
+    if image.action != decision.action {
         return false;
     }
-    opened
+    decision.opened
 }
 
 // A row whose token is decided: a committed one is the current version.
@@ -98,43 +97,26 @@ fn decided_row(row: Row, committed: bool) -> Row
 }
 
 // The row of a file, settled where its token is the action's.
-fn settle_row(
-    sheet: &[u8],
-    rows: &mut [u64],
-    files: u64,
-    end: u64,
-    action: u64,
-    opened: bool,
-    committed: bool,
-    file: u64,
-)
-    requires { ⌜ opened ≡ isOpening (decoded files (now sheet) action) ⌝ }
-    ensures { λ _. ⌜ now (rows .exit) ≡ settledRow (now (sheet .entry)) files end action committed file (now (rows .entry)) ⌝ }
+fn settle_row(sheet: &[u8], rows: &mut [u64], end: u64, files: u64, file: u64, decision: Decision)
+    requires { ⌜ decision .opened ≡ isOpening (decoded files (now sheet) (decision .action)) ⌝ }
+    ensures { λ _. ⌜ now (rows .exit) ≡ settledRow (now (sheet .entry)) files end (decision .action) (decision .committed) file (now (rows .entry)) ⌝ }
 {
     let row = row_of(&rows[..], file);
-    if !holds_token(sheet, files, end, action, opened, file, row) {
+    if !holds_token(sheet, end, files, file, row, decision) {
         return;
     }
-    set_row(rows, file, decided_row(row, committed));
+    set_row(rows, file, decided_row(row, decision.committed));
 }
 
 // Every row, settled. Cold rows and rows with no token cost no look at a page, and the action's opening is looked at once for all.
-fn settle_rows(
-    sheet: &[u8],
-    rows: &mut [u64],
-    files: u64,
-    end: u64,
-    action: u64,
-    opened: bool,
-    committed: bool,
-)
-    requires { ⌜ (rowLength * (length (now rows) / rowLength) ≡ length (now rows)) × (files ≡ length (now rows) / rowLength) × (opened ≡ isOpening (decoded files (now sheet) action)) ⌝ }
-    ensures { λ _. ⌜ now (rows .exit) ≡ settledRows (now (sheet .entry)) files end action committed (now (rows .entry)) ⌝ }
+fn settle_rows(sheet: &[u8], rows: &mut [u64], end: u64, files: u64, decision: Decision)
+    requires { ⌜ (rowLength * (length (now rows) / rowLength) ≡ length (now rows)) × (files ≡ length (now rows) / rowLength) × (decision .opened ≡ isOpening (decoded files (now sheet) (decision .action))) ⌝ }
+    ensures { λ _. ⌜ now (rows .exit) ≡ settledRows (now (sheet .entry)) files end (decision .action) (decision .committed) (now (rows .entry)) ⌝ }
 {
     let mut file: u64 = 0;
     while file < files {
         file += 1;
-        settle_row(sheet, rows, files, end, action, opened, committed, file);
+        settle_row(sheet, rows, end, files, file, decision);
     }
 }
 
@@ -186,7 +168,12 @@ fn decide(
     let end = state.end;
     let files = file_count(rows.len());
     let opened = is_opening_at(&sheet[..], action, files);
-    settle_rows(&sheet[..], rows, files, end, action, opened, committed);
+    let decision = Decision {
+        action,
+        opened,
+        committed,
+    };
+    settle_rows(&sheet[..], rows, end, files, decision);
     let page = outcome_page(action, committed);
     append(sheet, end, files, page, &[0u8; 32]);
     fates[action as usize - 1] = outcome_fate(committed);

@@ -58,7 +58,7 @@ fn read_line(fates: &[u8], end: u64, action: u64) -> u64
 }
 
 // The first image from a place down the links whose start is not above a time.
-fn walk(sheet: &[u8], files: u64, file: u64, time: u64, from: u64, first: Page) -> Answer
+fn walk(sheet: &[u8], from: u64, files: u64, file: u64, time: u64, first: Page) -> Answer
     requires { ⌜ sealedImage files (now sheet) file from ≡ sought.Sought.Image first ⌝ }
     ensures { λ r. ⌜ r ≡ walkAt files (now (sheet .entry)) file time (length (now (sheet .entry)) / pageSize) from first ⌝ }
 {
@@ -73,7 +73,7 @@ fn walk(sheet: &[u8], files: u64, file: u64, time: u64, from: u64, first: Page) 
         if next == 0 {
             return Answer::Nothing;
         }
-        let found = image_at(sheet, files, file, next);
+        let found = image_at(sheet, next, files, file);
         let Sought::Image(y) = found else {
             return Answer::Refused(13, place);
         };
@@ -105,7 +105,7 @@ fn read_versions(
             row: reached,
         };
     };
-    let answer = walk(sheet, files, file, time, row.current, newest);
+    let answer = walk(sheet, row.current, files, file, time, newest);
     if time < newest.start {
         return Reading { answer, row };
     }
@@ -118,8 +118,8 @@ fn read_versions(
 // Lines 7 to 14 of read on a warm row. Each place of the row is looked at once.
 fn read_row(
     sheet: &[u8],
-    files: u64,
     end: u64,
+    files: u64,
     file: u64,
     time: u64,
     action: u64,
@@ -127,8 +127,8 @@ fn read_row(
 ) -> Reading
     ensures { λ r. ⌜ Reads files (now (sheet .entry)) end file time action row r ⌝ }
 {
-    let current = image_at(sheet, files, file, row.current);
-    let token = image_at(sheet, files, file, row.token);
+    let current = image_at(sheet, row.current, files, file);
+    let token = image_at(sheet, row.token, files, file);
     if !is_row_kept(end, row, current, token) {
         return Reading {
             answer: Answer::Refused(7, 0),
@@ -168,8 +168,8 @@ fn read_warm(
 {
     let end = state.end;
     let files = file_count(rows.len());
-    let row = warm_row(sheet, fates, rows, file, end);
-    let reading = read_row(sheet, files, end, file, time, action, row);
+    let row = warm_row(sheet, fates, rows, end, file);
+    let reading = read_row(sheet, end, files, file, time, action, row);
     let new = reading.row;
     set_row(rows, file, new);
     let answer = reading.answer;

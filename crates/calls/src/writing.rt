@@ -44,7 +44,7 @@ fn pad(value: &[u8]) -> [u8; 32]
 }
 
 // Lines 10 to 12 of write.
-fn store_answer(sheet: &[u8], files: u64, state: State, start: u64, row: Row) -> Answer
+fn store_answer(sheet: &[u8], state: State, files: u64, start: u64, row: Row) -> Answer
     requires { ⌜ (state .end ≤ length (now sheet) / pageSize) × (state .undecided ≤ state .end) ⌝ }
     ensures { λ r. ⌜ r ≡ storeAnswer (now (sheet .entry)) files state start row ⌝ }
 {
@@ -62,18 +62,18 @@ fn store_answer(sheet: &[u8], files: u64, state: State, start: u64, row: Row) ->
 }
 
 // Lines 7 to 12 of write on a warm row. Each place of the row is looked at once.
-fn write_answer(sheet: &[u8], files: u64, state: State, file: u64, start: u64, row: Row) -> Answer
+fn write_answer(sheet: &[u8], state: State, files: u64, file: u64, start: u64, row: Row) -> Answer
     requires { ⌜ (state .end ≤ length (now sheet) / pageSize) × (state .undecided ≤ state .end) ⌝ }
     ensures { λ r. ⌜ r ≡ writeAnswer (now (sheet .entry)) files state file start row ⌝ }
 {
-    let current = image_at(sheet, files, file, row.current);
-    let token = image_at(sheet, files, file, row.token);
+    let current = image_at(sheet, row.current, files, file);
+    let token = image_at(sheet, row.token, files, file);
     if !is_row_kept(state.end, row, current, token) {
         return Answer::Refused(7, 0);
     }
     match token {
         Sought::Image(x) => Answer::Refused(8, x.action),
-        Sought::Other => store_answer(sheet, files, state, start, row),
+        Sought::Other => store_answer(sheet, state, files, start, row),
     }
 }
 
@@ -108,8 +108,8 @@ fn write_warm(
     let bytes = pad(value);
     let end = state.end;
     let files = file_count(rows.len());
-    let row = warm_row(&sheet[..], fates, rows, file, end);
-    let answer = write_answer(&sheet[..], files, state, file, start, row);
+    let row = warm_row(&sheet[..], fates, rows, end, file);
+    let answer = write_answer(&sheet[..], state, files, file, start, row);
     let Answer::Stored(place) = answer else {
         return Done { answer, state };
     };

@@ -21,7 +21,7 @@ ghost use Rattle.recovery.specs.Steps.{rowFromPages, placeKept, rowKept,
 
 // The row of a file from the pages up to the end, going down: the first committed image is the current one, and the newest
 // undecided image above it the token. A page that is not an image of the file is passed over at once.
-pub fn rebuilt_row(sheet: &[u8], fates: &[u8], files: u64, file: u64, end: u64) -> Row
+pub fn rebuilt_row(sheet: &[u8], fates: &[u8], end: u64, files: u64, file: u64) -> Row
     ensures { λ r. ⌜ r ≡ rowFromPages (now (sheet .entry)) (now (fates .entry)) files file end ⌝ }
 {
     let mut place = least(end, (sheet.len() / Page::SIZE) as u64) as usize;
@@ -38,7 +38,7 @@ pub fn rebuilt_row(sheet: &[u8], fates: &[u8], files: u64, file: u64, end: u64) 
         let Unpacked::Image(image) = Page::test(&sheet[a..e], at, files) else {
             continue;
         };
-        let fate = counted_fate(sheet, fates, files, image.action);
+        let fate = counted_fate(sheet, fates, image.action, files);
         if fate == 2 {
             return Row {
                 mark: 1,
@@ -90,16 +90,16 @@ pub fn is_row_kept(end: u64, row: Row, current: Sought, token: Sought) -> bool
 }
 
 // Line 7.
-fn is_row_held(sheet: &[u8], files: u64, end: u64, file: u64, row: Row) -> bool
+fn is_row_held(sheet: &[u8], end: u64, files: u64, file: u64, row: Row) -> bool
     ensures { λ r. ⌜ r ≡ rowHoldsIn (now (sheet .entry)) files end file row ⌝ }
 {
-    let current = image_at(sheet, files, file, row.current);
-    let token = image_at(sheet, files, file, row.token);
+    let current = image_at(sheet, row.current, files, file);
+    let token = image_at(sheet, row.token, files, file);
     is_row_kept(end, row, current, token)
 }
 
 // A file's row, rebuilt and put into the run where it is cold.
-pub fn warm_row(sheet: &[u8], fates: &[u8], rows: &mut [u64], file: u64, end: u64) -> Row
+pub fn warm_row(sheet: &[u8], fates: &[u8], rows: &mut [u64], end: u64, file: u64) -> Row
     ensures { λ r. ⌜ Warmed (now (sheet .entry)) (now (fates .entry)) (now (rows .entry)) file end r (now (rows .exit)) ⌝ }
 {
     let row = row_of(&rows[..], file);
@@ -107,7 +107,7 @@ pub fn warm_row(sheet: &[u8], fates: &[u8], rows: &mut [u64], file: u64, end: u6
         return row;
     }
     let files = file_count(rows.len());
-    let new = rebuilt_row(sheet, fates, files, file, end);
+    let new = rebuilt_row(sheet, fates, end, files, file);
     set_row(rows, file, new);
     new
 }
@@ -124,8 +124,8 @@ pub fn rebuild(sheet: &[u8], fates: &[u8], rows: &mut [u64], state: State, file:
     }
     let end = state.end;
     let files = file_count(rows.len());
-    let row = warm_row(sheet, fates, rows, file, end);
-    if !is_row_held(sheet, files, end, file, row) {
+    let row = warm_row(sheet, fates, rows, end, file);
+    if !is_row_held(sheet, end, files, file, row) {
         return refuse(7, state);
     }
     Done {

@@ -69,11 +69,11 @@ slice-write-fates c =
     let k = known (c .before .before .before .before .before .before .before .before .before .before .before .before .before .before .before) in
     omega (arith, k .act .low, k .act .high, k .room)
 
-add-t34 : tie.Need-add-t34
-add-t34 c = omega (arith, few (c .before .before .before .before .before .before .before .before .before .before .before .before .before .before .before))
+add-t35 : tie.Need-add-t35
+add-t35 c = omega (arith, few (c .before .before .before .before .before .before .before .before .before .before .before .before .before .before .before))
 
-add-t36 : tie.Need-add-t36
-add-t36 c = omega (arith, few (c .before .before .before .before .before .before .before .before .before .before .before .before .before .before .before))
+add-t37 : tie.Need-add-t37
+add-t37 c = omega (arith, few (c .before .before .before .before .before .before .before .before .before .before .before .before .before .before .before))
 
 less-one-requires : tie.Need-less-one-requires
 less-one-requires c κs = search needs
@@ -111,8 +111,8 @@ decide-spec =
     outcome-fate-requires
     sub-fates
     slice-write-fates
-    add-t34
-    add-t36
+    add-t35
+    add-t37
     less-one-requires
     same-length-4
     same-length-5
