@@ -16,10 +16,11 @@ use Rattle.recovery.specs.Log.{Entry, blank}
 use Rattle.recovery.specs.declared.Row.{Row}
 use Rattle.recovery.specs.declared.State.{State}
 use Rattle.recovery.specs.declared.Answer.{Answer}
+use Rattle.recovery.specs.declared.Done.{Done}
 use Rattle.recovery.specs.declared.Answer.the-variants.{Refused, Stored}
 use Rattle.recovery.specs.World.{isFile, withRow}
-use Rattle.recovery.specs.Lent.{rowLength, rowsOf, flat, pagesOf, lent, whole, Left, refused}
-use Rattle.recovery.specs.Steps.{lineOne, withRowOf}
+use Rattle.recovery.specs.Lent.{rowLength, rowsOf, flat, pagesOf, lent, whole, Left, leftBy, refused}
+use Rattle.recovery.specs.Steps.{lineOne, refusal, withRowOf}
 use Rattle.recovery.proofs.Pages.{pages-long}
 use Rattle.recovery.proofs.Sizes.{Sizes, sizes-right}
 use Rattle.recovery.proofs.Leaves.{rows-back, lent-right, whole-is, put-row}
@@ -38,6 +39,10 @@ lent-is s f r e n h =
     let a = and-true _ (leb n e) h in
     let b = and-true _ (leb e (s / pageSize)) (a .0) in
     record { sizes = sizes-right s f r (b .0); end-in = leb-true e (s / pageSize) (b .1); few = leb-true n e (a .1) }
+
+-- a refusal as the code makes it
+pub by-refuse : (d : Done) (n : ℕ) (s fs rs : List ℕ) (st : State) {x : Left} → d ≡ refusal n st → refused n 0 s fs rs st ≡ x → leftBy d s fs rs ≡ x
+by-refuse d n s fs rs st h e = ap (λ (y : Done). leftBy y s fs rs) h ∙ e
 
 module _ (s fs rs : List ℕ) (st : State) (k : Call) where
   -- all that is left where nothing but the rows may change

@@ -7,10 +7,11 @@ pub mod OtherRows
 pub mod Rebuilding
 pub mod CutLaws
 pub mod Once
-pub mod DecideLines
+pub mod ActionLines
+pub mod RoomLines
+pub mod BeginEnds
 pub mod DecideRows
 pub mod DecideEnds
-pub mod ReadLines
 pub mod ReadImages
 pub mod ReadWalks
 pub mod ReadWarming

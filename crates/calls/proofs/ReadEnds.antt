@@ -19,17 +19,18 @@ use Rattle.recovery.specs.declared.Answer.{Answer}
 use Rattle.recovery.specs.declared.Answer.the-variants.{Refused, Value, Nothing}
 use Rattle.recovery.specs.World.{World, isFile, withRow, warmRow, rowHolds, refuse}
 use Rattle.recovery.specs.Lent.{rowLength, rowsOf, pagesOf, lent, refused}
-use Rattle.recovery.specs.Steps.{lineOne, sealedImage, rowHoldsIn, withRowOf, Warmed}
+use Rattle.recovery.specs.Steps.{lineOne, sealedImage, rowKept, rowHoldsIn, withRowOf, Warmed}
+use Rattle.recovery.proofs.Held.{row-kept}
 use Rattle.recovery.proofs.Pages.{pages-long}
 use Rattle.recovery.proofs.FlatRows.{rows-long}
 use Rattle.calls.specs.declared.reading.Reading.{Reading}
 use Rattle.calls.specs.Walk.{Walk, met, nothing, lost, endless, follow}
 use Rattle.calls.specs.Calls.{read, on, onRead, onToken, answerWalk, imageOf, readCurrent, readToken}
 use Rattle.calls.specs.Effect.{callLeaves}
-use Rattle.calls.specs.ReadSteps.{readLine, rowKept, imageBy, Looked, walkAnswer, walkAt, world, Versions, Reads}
+use Rattle.calls.specs.ReadSteps.{readLine, imageBy, Looked, walkAnswer, walkAt, world, Versions, Reads}
 use Rattle.calls.proofs.Ends.{ends-same, ends-row}
-use Rattle.calls.proofs.ReadLines.{read-by}
-use Rattle.calls.proofs.ReadImages.{met-at, row-kept, looked-token}
+use Rattle.calls.proofs.ActionLines.{read-by}
+use Rattle.calls.proofs.ReadImages.{met-at, looked-token}
 use Rattle.calls.proofs.ReadWalks.{follow-met, met-long}
 use Rattle.calls.proofs.ReadWarming.{warm-is, put-twice, put-over}
 

@@ -1,13 +1,13 @@
 -- Sealed images as the code finds them: what the page at a place then holds, and line 7 for a row. Assumes nothing.
-use Prim.Native.Nat.{ℕ, zero, suc, _*_, _/_, _≤_, _<_}
-use mathlib.Core.Path.{_≡_, refl, sym, ap, ap₂, _∙_}
+use Prim.Native.Nat.{ℕ, zero, suc, _*_, _/_, _≤_}
+use mathlib.Core.Path.{_≡_, refl, sym, ap, _∙_}
 use mathlib.Core.Bool.{Bool, true, false, cond, _&&_, _||_}
 use mathlib.Core.List.{List}
 use mathlib.Core.Option.{some, none}
 use native.Mathlib.Omega.{arith}
 use lib.ListN.{length, drop, length-take, length-drop}
 use lib.Dec.{eqb, leb}
-use borrow.Author.Tests.{eq-eqb, ne-eqb, le-leb, lt-leb, eqb-true, leb-true, leb-false}
+use borrow.Author.Tests.{ne-eqb, eqb-true}
 use Rattle.encoding.proofs.Logic.{and-true, and-false}
 use Rattle.page.specs.declared.Page.{Page}
 use Rattle.page.specs.declared.Unpacked.{Unpacked}
@@ -20,14 +20,14 @@ use Rattle.page.proofs.Found.{ImageIs, image-is, found}
 use Rattle.recovery.specs.Places.{nth}
 use Rattle.recovery.specs.Log.{blank}
 use Rattle.recovery.specs.Sheet.{pageBytes, entryOf, imageFrom, isOpening, seal, decoded}
-use Rattle.recovery.specs.World.{isImageOf, rowHolds}
+use Rattle.recovery.specs.World.{isImageOf}
 use Rattle.recovery.specs.Lent.{pagesOf}
-use Rattle.recovery.specs.Steps.{sealedImage, placeHoldsIn, rowHoldsIn}
+use Rattle.recovery.specs.Steps.{sealedImage, isFound, placeKept, rowKept}
 use Rattle.recovery.specs.declared.Row.{Row}
 use Rattle.recovery.proofs.Pages.{page-at-place, sealed-is}
-use Rattle.recovery.proofs.Held.{held-none, held-above, held-by}
+use Rattle.recovery.proofs.Held.{held-in}
 use Rattle.calls.specs.Calls.{imageOf}
-use Rattle.calls.specs.ReadSteps.{placeKept, rowKept, Looked}
+use Rattle.calls.specs.ReadSteps.{Looked}
 
 -- ---- what a find tells
 
@@ -80,45 +80,12 @@ module _ (files : ℕ) (s : List ℕ) (f p : ℕ) (x : Page) where
   met-at e = from-test (tested (pageBytes s p) p files) refl e
 
 pub none-at : (files : ℕ) (s : List ℕ) (f p : ℕ) → sought.Sought.Other ≡ sealedImage files s f p → isImageOf f (nth blank (pagesOf s files) p) ≡ false
-unfolding placeHoldsIn
 none-at files s f zero h = refl
-none-at files s f (suc q) h =
-    let e = held-by s files (suc q) f (suc q) (λ z. omega arith) (omega arith) sought.Sought.Other h in
-    sym (simp (ne-eqb (suc q) 0 (λ z. omega arith), le-leb (suc q) (suc q) (omega arith)) at e)
+none-at files s f (suc q) h = held-in files s f (suc q) (omega arith) ∙ ap isFound (sym h)
 
 -- ---- line 7
 
-module _ (e p : ℕ) where
-  pub place-zero : p ≡ 0 → (u : Sought) → true ≡ placeKept e p u
-  unfolding placeKept
-  place-zero h u = simp (eq-eqb p 0 h)
-
-  pub place-above : (p ≡ 0 → ⊥) → e < p → (u : Sought) → false ≡ placeKept e p u
-  unfolding placeKept
-  place-above z h u = simp (ne-eqb p 0 z, lt-leb p e h)
-
-  module _ (z : p ≡ 0 → ⊥) (h : p ≤ e) (u : Sought) where
-    pub place-image : (x : Page) → u ≡ sought.Sought.Image x → true ≡ placeKept e p u
-    unfolding placeKept
-    place-image x i = rw i (simp (ne-eqb p 0 z, le-leb p e h))
-
-    pub place-other : u ≡ sought.Sought.Other → false ≡ placeKept e p u
-    unfolding placeKept
-    place-other i = rw i (simp (ne-eqb p 0 z, le-leb p e h))
-
 module _ (files : ℕ) (s : List ℕ) (e f p : ℕ) where
-  held-kept : (u : Sought) → u ≡ sealedImage files s f p → placeKept e p u ≡ placeHoldsIn s files e f p
-  held-kept u h = go (eqb p 0) refl
-    where
-      inner : (p ≡ 0 → ⊥) → (b : Bool) → leb p e ≡ b → (v : Sought) → v ≡ sealedImage files s f p → placeKept e p v ≡ placeHoldsIn s files e f p
-      inner z true k (sought.Sought.Image x) i = sym (place-image e p z (leb-true p e k) _ x refl) ∙ held-by s files e f p z (leb-true p e k) _ i
-      inner z true k sought.Sought.Other i = sym (place-other e p z (leb-true p e k) _ refl) ∙ held-by s files e f p z (leb-true p e k) _ i
-      inner z false k v i = sym (place-above e p z (leb-false p e k) v) ∙ held-above s files e f p z (leb-false p e k)
-
-      go : (b : Bool) → eqb p 0 ≡ b → placeKept e p u ≡ placeHoldsIn s files e f p
-      go true k = let z : p ≡ 0 = eqb-true p 0 k in sym (place-zero e p z u) ∙ held-none s files e f p z
-      go false k = inner (λ z. let y : true ≡ false = sym (eq-eqb p 0 z) ∙ k in let q : _≡_ {A = ℕ} 0 1 = cc in omega arith) (leb p e) refl u h
-
   -- what was found at a place that line 7 lets through
   pub looked : (u : Sought) → u ≡ sealedImage files s f p → placeKept e p u ≡ true → Looked files s f p u
   unfolding placeKept
@@ -130,10 +97,6 @@ module _ (files : ℕ) (s : List ℕ) (e f p : ℕ) where
       go (suc j) q = let y : false ≡ true = simp (ne-eqb (suc j) 0 (λ z. omega arith), and-false (leb (suc j) e) false refl) at q in let r : _≡_ {A = ℕ} 0 1 = cc in absurd (omega arith)
 
 module _ (files : ℕ) (s : List ℕ) (e f : ℕ) (r : Row) (u v : Sought) (hu : u ≡ sealedImage files s f (r .current)) (hv : v ≡ sealedImage files s f (r .token)) where
-  pub row-kept : rowKept e r u v ≡ rowHoldsIn s files e f r
-  unfolding rowKept rowHoldsIn rowHolds placeHoldsIn
-  row-kept = ap₂ _&&_ (ap (λ (b : Bool). leb (r .mark) 1 && b) (held-kept files s e f (r .current) u hu)) (held-kept files s e f (r .token) v hv)
-
   module _ (k : rowKept e r u v ≡ true) where
     pub looked-current : Looked files s f (r .current) u
     unfolding rowKept

@@ -1,30 +1,28 @@
 -- Lines 7 to 12 of write as the code tests them, on a warm row. Assumes nothing.
-use Prim.Native.Nat.{ℕ, suc, _+_, _-_, _/_, _≤_, _<_}
+use Prim.Native.Nat.{ℕ, suc, _+_, _≤_, _<_}
 use mathlib.Core.Path.{_≡_, sym, ap, _∙_}
-use mathlib.Core.Bool.{Bool, true, false, cond}
+use mathlib.Core.Bool.{true, false, cond}
 use mathlib.Core.List.{List}
 use native.Mathlib.Omega.{arith}
 use native.Mathlib.Numerals.{add-one}
-use lib.ListN.{length}
-use borrow.Author.Tests.{eq-eqb, ne-eqb, le-leb, lt-leb, lt-ltb, le-ltb}
+use lib.Dec.{eqb}
+use borrow.Author.Tests.{eq-eqb, ne-eqb, lt-ltb, le-ltb}
 use Rattle.page.specs.declared.Page.{Page}
 use Rattle.page.specs.declared.Sought as sought
 use Rattle.page.specs.declared.Sought.{Sought}
-use Rattle.page.specs.Layout.{pageSize}
 use Rattle.recovery.specs.Places.{nth}
 use Rattle.recovery.specs.Log.{blank}
-use Rattle.recovery.specs.Sheet.{sealed}
 use Rattle.recovery.specs.declared.Row.{Row}
 use Rattle.recovery.specs.declared.State.{State}
 use Rattle.recovery.specs.declared.Answer.{Answer}
 use Rattle.recovery.specs.declared.Answer.the-variants.{Refused, Stored}
-use Rattle.recovery.specs.World.{isBlank}
 use Rattle.recovery.specs.Lent.{pagesOf}
-use Rattle.recovery.specs.Steps.{sealedImage, rowHoldsIn}
-use Rattle.recovery.proofs.Pages.{pages-long, page-here}
+use Rattle.recovery.specs.Steps.{sealedImage, rowKept, rowHoldsIn}
+use Rattle.recovery.proofs.Held.{row-kept}
 use Rattle.calls.specs.Calls.{imageOf, actionOf}
-use Rattle.calls.specs.ReadSteps.{rowKept, storeAnswer, writeAnswer}
-use Rattle.calls.proofs.ReadImages.{met-at, row-kept, no-token}
+use Rattle.calls.specs.LineSteps.{roomLine}
+use Rattle.calls.specs.ReadSteps.{storeAnswer, writeAnswer}
+use Rattle.calls.proofs.ReadImages.{met-at, no-token}
 
 -- ---- lines 10 to 12
 
@@ -38,33 +36,16 @@ module _ (s : List ℕ) (files : ℕ) (st : State) (t : ℕ) (r : Row) where
     unfolding storeAnswer
     store-floor k = simp (lt-ltb (r .currentend) t c, le-ltb (st .floor) t k)
 
-    module _ (d : st .floor < t) where
-      pub store-11 : length s / pageSize - st .end ≤ st .undecided → Refused 11 0 ≡ storeAnswer s files st t r
+    module _ (d : st .floor < t) (n : ℕ) (line-is : n ≡ roomLine s (st .end) files (st .undecided + 1)) where
+      by-room : storeAnswer s files st t r ≡ cond (eqb n 0) (Stored (suc (st .end))) (Refused n 0)
       unfolding storeAnswer
-      store-11 k =
-          let l : length s / pageSize - st .end < st .undecided + 1 = omega arith in
-          simp (lt-ltb (r .currentend) t c, lt-ltb (st .floor) t d, pages-long files (length s / pageSize) s, lt-leb (st .undecided + 1) (length s / pageSize - st .end) l)
+      by-room = simp (lt-ltb (r .currentend) t c, lt-ltb (st .floor) t d, ← line-is)
 
-      module _ (m : st .undecided < length s / pageSize - st .end) (o : Bool) (ho : o ≡ isBlank (sealed files s (st .end + 1))) where
-        by-blank : storeAnswer s files st t r ≡ cond o (Stored (suc (st .end))) (Refused 12 0)
-        unfolding storeAnswer
-        by-blank =
-            let l : st .undecided + 1 ≤ length s / pageSize - st .end = omega arith in
-            let e : isBlank (sealed files s (suc (st .end))) ≡ o = sym (rw add-one at ho) in
-            simp (
-              lt-ltb (r .currentend) t c,
-              lt-ltb (st .floor) t d,
-              pages-long files (length s / pageSize) s,
-              le-leb (st .undecided + 1) (length s / pageSize - st .end) l,
-              page-here files (length s / pageSize) s (st .end) (omega arith),
-              e,
-            )
+      pub store-refused : (n ≡ 0 → ⊥) → Refused n 0 ≡ storeAnswer s files st t r
+      store-refused z = sym (by-room ∙ rw (ne-eqb n 0 z))
 
-        pub store-12 : o ≡ false → Refused 12 0 ≡ storeAnswer s files st t r
-        store-12 q = sym (by-blank ∙ rw q)
-
-        pub store-yes : o ≡ true → Stored (st .end + 1) ≡ storeAnswer s files st t r
-        store-yes q = rw add-one (sym (by-blank ∙ rw q))
+      pub store-yes : n ≡ 0 → Stored (st .end + 1) ≡ storeAnswer s files st t r
+      store-yes z = rw add-one (sym (by-room ∙ rw z))
 
 -- ---- lines 7 and 8
 

@@ -15,7 +15,6 @@ use Rattle.page.specs.Layout.{pageSize, valueSize}
 use Rattle.page.specs.Table.{packed, meetsRules}
 use Rattle.page.specs.Table as table
 use Rattle.page.specs.Answers.{inBounds}
-use Rattle.page.proofs.Rules.{are-in-bounds}
 use Rattle.page.proofs.Obeyed.{image-rules}
 use Rattle.recovery.specs.Places.{put}
 use Rattle.recovery.specs.Log.{Image, image}
@@ -24,66 +23,61 @@ use Rattle.recovery.specs.declared.State.{State}
 use Rattle.recovery.specs.declared.Answer.{Answer}
 use Rattle.recovery.specs.declared.Answer.the-variants.{Refused, Stored}
 use Rattle.recovery.proofs.Answer.{the-type}
-use Rattle.recovery.specs.World.{World, Result, isFile, entryAt, isBlank, isImageOf, placeHolds, rowHolds, withRow, warmRow, refuse}
+use Rattle.recovery.specs.World.{World, Result, isFile, entryAt, isImageOf, placeHolds, rowHolds, withRow, warmRow, refuse}
 use Rattle.recovery.specs.Lent.{rowLength, rowsOf, flat, lent, refused}
 use Rattle.recovery.specs.Steps.{lineOne, rowHoldsIn, withRowOf, Warmed}
-use Rattle.recovery.proofs.Pages.{pages-long}
 use Rattle.recovery.proofs.FlatRows.{rows-long}
-use Rattle.calls.specs.Calls.{write, on, onWrite, append, hasRoom, imageOf, actionOf}
+use Rattle.calls.specs.Calls.{write, on, onWrite, append, imageOf, actionOf}
 use Rattle.calls.specs.Effect.{callLeaves, packedEntry, padded, withPage}
-use Rattle.calls.specs.ReadSteps.{actionLine, storeAnswer, writeAnswer, written}
-use Rattle.calls.proofs.Ends.{Lent, lent-is, ends-same, ends-row, ends-grown}
-use Rattle.calls.proofs.ReadLines.{undecided-by, live-is}
+use Rattle.calls.specs.LineSteps.{actionLine, roomLine}
+use Rattle.calls.specs.ReadSteps.{storeAnswer, writeAnswer, written}
+use Rattle.calls.proofs.Ends.{ends-same, ends-row, ends-grown}
+use Rattle.calls.proofs.ActionLines.{acting, undecided-by}
+use Rattle.calls.proofs.RoomLines.{room-is, room-by, append-fits}
 use Rattle.calls.proofs.ReadWarming.{warm-is, put-warm}
 use Rattle.calls.proofs.WritePads.{pad-zeros}
 
--- ---- five tests, one after the other
+-- ---- four tests, one after the other
 
 abbrev not-stored : List ℕ
 not-stored = 0 ∷ 1 ∷ 2 ∷ 4 ∷ 5 ∷ 6 ∷ []
 
-abbrev answers : ℕ → ℕ → Bool → Bool → Bool → Bool → Bool → Answer
-answers e k b1 b2 b3 b4 b5 = cond b1 (cond b2 (cond b3 (cond b4 (cond b5 (Stored e) (Refused 12 0)) (Refused 11 0)) (Refused 10 0)) (Refused 8 k)) (Refused 7 0)
+abbrev answers : ℕ → ℕ → ℕ → Bool → Bool → Bool → Bool → Answer
+answers e k n b1 b2 b3 b4 = cond b1 (cond b2 (cond b3 (cond b4 (Stored e) (Refused n 0)) (Refused 10 0)) (Refused 8 k)) (Refused 7 0)
 
-abbrev five : ℕ → ℕ → Bool → Bool → Bool → Bool → Bool → World → World → Result
-five e k b1 b2 b3 b4 b5 g v = cond b1 (cond b2 (cond b3 (cond b4 (cond b5 (Stored e, g) (Refused 12 0, v)) (Refused 11 0, v)) (Refused 10 0, v)) (Refused 8 k, v)) (Refused 7 0, v)
+abbrev four : ℕ → ℕ → ℕ → Bool → Bool → Bool → Bool → World → World → Result
+four e k n b1 b2 b3 b4 g v = cond b1 (cond b2 (cond b3 (cond b4 (Stored e, g) (Refused n 0, v)) (Refused 10 0, v)) (Refused 8 k, v)) (Refused 7 0, v)
 
 with-world : (r a : Answer) (v : World) → r ≡ a → _≡_ {A = Result} (a, v) (r, v)
 with-world r a v h = ap (λ (x : Answer). (x, v)) (sym h)
 
-five-no : (e k : ℕ) (b1 b2 b3 b4 b5 : Bool) (g v : World) (r : Answer) → r ≡ answers e k b1 b2 b3 b4 b5 → OneOf not-stored (tagOf the-type r)
-    → five e k b1 b2 b3 b4 b5 g v ≡ (r, v)
-five-no e k false b2 b3 b4 b5 g v r h t = with-world r (Refused 7 0) v h
-five-no e k true false b3 b4 b5 g v r h t = with-world r (Refused 8 k) v h
-five-no e k true true false b4 b5 g v r h t = with-world r (Refused 10 0) v h
-five-no e k true true true false b5 g v r h t = with-world r (Refused 11 0) v h
-five-no e k true true true true false g v r h t = with-world r (Refused 12 0) v h
-five-no e k true true true true true g v r h t = absurd (miss not-stored 3 tt (rw h at t))
+four-no : (e k n : ℕ) (b1 b2 b3 b4 : Bool) (g v : World) (r : Answer) → r ≡ answers e k n b1 b2 b3 b4 → OneOf not-stored (tagOf the-type r)
+    → four e k n b1 b2 b3 b4 g v ≡ (r, v)
+four-no e k n false b2 b3 b4 g v r h t = with-world r (Refused 7 0) v h
+four-no e k n true false b3 b4 g v r h t = with-world r (Refused 8 k) v h
+four-no e k n true true false b4 g v r h t = with-world r (Refused 10 0) v h
+four-no e k n true true true false g v r h t = with-world r (Refused n 0) v h
+four-no e k n true true true true g v r h t = absurd (miss not-stored 3 tt (rw h at t))
 
-pub record All (e : ℕ) (b1 b2 b3 b4 b5 : Bool) (q : ℕ) : Type 0 where
+pub record All (e : ℕ) (b1 b2 b3 b4 : Bool) (q : ℕ) : Type 0 where
   pub one : b1 ≡ true
   pub two : b2 ≡ true
   pub three : b3 ≡ true
-  pub four : b4 ≡ true
-  pub five-is : b5 ≡ true
+  pub four-is : b4 ≡ true
   pub place : q ≡ e
 
-five-yes : (e k : ℕ) (b1 b2 b3 b4 b5 : Bool) (q : ℕ) → Stored q ≡ answers e k b1 b2 b3 b4 b5 → All e b1 b2 b3 b4 b5 q
-five-yes e k false b2 b3 b4 b5 q h = let z : _≡_ {A = ℕ} 0 1 = cc in absurd (omega arith)
-five-yes e k true false b3 b4 b5 q h = let z : _≡_ {A = ℕ} 0 1 = cc in absurd (omega arith)
-five-yes e k true true false b4 b5 q h = let z : _≡_ {A = ℕ} 0 1 = cc in absurd (omega arith)
-five-yes e k true true true false b5 q h = let z : _≡_ {A = ℕ} 0 1 = cc in absurd (omega arith)
-five-yes e k true true true true false q h = let z : _≡_ {A = ℕ} 0 1 = cc in absurd (omega arith)
-five-yes e k true true true true true q h = record { one = refl; two = refl; three = refl; four = refl; five-is = refl; place = cc }
+four-yes : (e k n : ℕ) (b1 b2 b3 b4 : Bool) (q : ℕ) → Stored q ≡ answers e k n b1 b2 b3 b4 → All e b1 b2 b3 b4 q
+four-yes e k n false b2 b3 b4 q h = let z : _≡_ {A = ℕ} 0 1 = cc in absurd (omega arith)
+four-yes e k n true false b3 b4 q h = let z : _≡_ {A = ℕ} 0 1 = cc in absurd (omega arith)
+four-yes e k n true true false b4 q h = let z : _≡_ {A = ℕ} 0 1 = cc in absurd (omega arith)
+four-yes e k n true true true false q h = let z : _≡_ {A = ℕ} 0 1 = cc in absurd (omega arith)
+four-yes e k n true true true true q h = record { one = refl; two = refl; three = refl; four-is = refl; place = cc }
 
 -- ---- lines 3 to 6
 
 module _ (s fs rs : List ℕ) (st : State) (h : lineOne (length s) (length fs) (length rs) (st .end) (st .undecided) ≡ true) (f t a : ℕ) (v : List ℕ) where
   abbrev w : World
   w = lent s fs rs st
-
-  known : Lent (length s) (length fs) (length rs) (st .end) (st .undecided)
-  known = lent-is _ _ _ _ _ h
 
   pub write-3 : isFile (length rs / rowLength) f ≡ false → refused 3 0 s fs rs st ≡ callLeaves s fs rs st (write f t a v)
   write-3 k = ends-same s fs rs st (write f t a v) h (Refused 3 0) (simp (rows-long rs, k))
@@ -118,26 +112,31 @@ module _ (s fs rs : List ℕ) (st : State) (h : lineOne (length s) (length fs) (
         abbrev g₁ : World
         g₁ = append w₁ (image I) fs (put (put (rowsOf rs) f r) f r₁) (st .undecided)
 
+        abbrev line : ℕ
+        line = roomLine s (st .end) (length rs / rowLength) (st .undecided + 1)
+
+        on-room : on w (write f t a v)
+            ≡ four (suc (st .end)) (actionOf (imageOf (entryAt w (r .token)))) line (rowHolds w₁ f r) (eqb (r .token) 0) (ltb (r .currentend) t && ltb (st .floor) t) (eqb line 0) g₁ w₁
+        on-room =
+            on-warm
+            ∙ rw (room-by (length rs / rowLength) s fs (put (rowsOf rs) f r) (st .end) (st .floor) (st .undecided) (st .undecided + 1) (omega arith) (Stored (suc (st .end)), g₁))
+
         pub write-refused : (x : Answer) → x ≡ writeAnswer s (length rs / rowLength) st f t r → OneOf not-stored (tagOf the-type x)
             → record { answer = x; state = st; sheet = s; fates = fs; rows = xs } ≡ callLeaves s fs rs st (write f t a v)
         unfolding writeAnswer storeAnswer rowHoldsIn rowHolds
         write-refused x hx q =
             ends-row s fs rs st (write f t a v) h f r x
-            (on-warm
-            ∙ five-no (suc (st .end)) (actionOf (imageOf (entryAt w (r .token)))) (rowHolds w₁ f r) (eqb (r .token) 0) (ltb (r .currentend) t && ltb (st .floor) t)
-            (hasRoom w (st .undecided + 1)) (isBlank (entryAt w (suc (st .end)))) g₁ w₁ x hx q)
+            (on-room
+            ∙ four-no (suc (st .end)) (actionOf (imageOf (entryAt w (r .token)))) line (rowHolds w₁ f r) (eqb (r .token) 0) (ltb (r .currentend) t && ltb (st .floor) t) (eqb line 0) g₁ w₁ x hx q)
             g xs (wm .left-is)
 
         module _ (q : ℕ) (hq : Stored q ≡ writeAnswer s (length rs / rowLength) st f t r) where
-          all : All (suc (st .end)) (rowHolds w₁ f r) (eqb (r .token) 0) (ltb (r .currentend) t && ltb (st .floor) t) (hasRoom w (st .undecided + 1)) (isBlank (entryAt w (suc (st .end)))) q
+          all : All (suc (st .end)) (rowHolds w₁ f r) (eqb (r .token) 0) (ltb (r .currentend) t && ltb (st .floor) t) (eqb line 0) q
           unfolding writeAnswer storeAnswer rowHoldsIn rowHolds
-          all = five-yes (suc (st .end)) (actionOf (imageOf (entryAt w (r .token)))) (rowHolds w₁ f r) (eqb (r .token) 0) (ltb (r .currentend) t && ltb (st .floor) t)
-              (hasRoom w (st .undecided + 1)) (isBlank (entryAt w (suc (st .end)))) q hq
+          all = four-yes (suc (st .end)) (actionOf (imageOf (entryAt w (r .token)))) line (rowHolds w₁ f r) (eqb (r .token) 0) (ltb (r .currentend) t && ltb (st .floor) t) (eqb line 0) q hq
 
           room : st .end < length s / pageSize
-          room =
-              let k = leb-true (st .undecided + 1) (length s / pageSize - st .end) (rw (pages-long (length rs / rowLength) (length s / pageSize) s) at (all .four)) in
-              omega arith
+          room = omega (arith, room-is s (st .end) (length rs / rowLength) (st .undecided + 1) (eqb-true line 0 (all .four-is)))
 
           link-low : r .current < suc (st .end)
           unfolding rowHolds
@@ -156,12 +155,12 @@ module _ (s fs rs : List ℕ) (st : State) (h : lineOne (length s) (length fs) (
           pub append-asked : t < 2 ^ 64 → (p : Page) → p ≡ page → (pv : List ℕ) → pv ≡ padded v
               → (pageSize * st .end + pageSize ≤ length s) × (inBounds pageSize (suc (st .end)) (length rs / rowLength) ≡ true) × (meetsRules p pv (suc (st .end)) (length rs / rowLength) ≡ true)
           append-asked u p hg pv hp =
-              let k = known .sizes in
-              let l = live-is fs (st .end) a may in
+              let k = append-fits (length s) (length fs) (length rs) (st .end) (st .undecided) h room in
+              let l = acting fs (st .end) a may in
               let i = file-in in
               let c = ltb-true (r .currentend) t (and-true (ltb (r .currentend) t) (ltb (st .floor) t) (all .three) .0) in (
-                omega (arith, k, room),
-                are-in-bounds (record { size-is = refl; place-is = (omega arith, omega (arith, k, room)); files-are = (k .some-files, k .most-files) }),
+                k .0,
+                k .1,
                 ap (λ (x : Page). meetsRules x pv (suc (st .end)) (length rs / rowLength)) hg
                     ∙ rw hp (image-rules (length v) f a (r .current) t (suc (st .end)) (length rs / rowLength) (padded v) short (i .0) (i .1) (l .low) (omega (arith, l)) link-low (omega arith) u (pad-zeros v)),
               )
@@ -174,7 +173,7 @@ module _ (s fs rs : List ℕ) (st : State) (h : lineOne (length s) (length fs) (
               → record { answer = Stored q; state = record { end = q; floor = st .floor; undecided = st .undecided }; sheet = s″; fates = fs; rows = ys } ≡ callLeaves s fs rs st (write f t a v)
           unfolding packedEntry
           write-done p hg y hr s″ ys pv hp hs hy =
-              let o : on w (write f t a v) ≡ (Stored (suc (st .end)), g₁) = on-warm ∙ rw (all .one, all .two, all .three, all .four, all .five-is) in
+              let o : on w (write f t a v) ≡ (Stored (suc (st .end)), g₁) = on-room ∙ rw (all .one, all .two, all .three, all .four-is) in
               let e : q ≡ suc (st .end) = all .place in
               let k : y ≡ r₁ = hr ∙ ap (λ (n : ℕ). written r n t) e in
               let x : s″ ≡ withPage s (st .end) (packed page (padded v) (suc (st .end))) =

@@ -1,32 +1,22 @@
--- What smaller functions of test, begin, commit and abort answer. A reader of document 01 can pass this file over: the laws
+-- What smaller functions of commit and abort answer. A reader of document 01 can pass this file over: the laws
 -- join it to `call`.
 use mathlib.Core.List.{List}
-use mathlib.Core.Bool.{Bool, cond, _&&_}
-use Prim.Native.Nat.{ℕ, suc, _-_, _/_}
+use mathlib.Core.Bool.{Bool, cond}
+use Prim.Native.Nat.{ℕ, _/_}
 use lib.ListN.{length}
-use lib.Dec.{eqb, leb}
-use Rattle.recovery.specs.Places.{nth}
-use Rattle.recovery.specs.Sheet.{sealed}
-use Rattle.recovery.specs.World.{fateIn, isBlank}
+use lib.Dec.{eqb}
 use Rattle.recovery.specs.Lent.{rowLength, rowsOf, flat}
 use Rattle.recovery.specs.Steps.{rowOf, withRowOf, sheetWorld, lineOne}
 use Rattle.recovery.specs.declared.Row.{Row}
 use Rattle.recovery.specs.declared.State.{State}
-use Rattle.calls.specs.Calls.{isKnown, decided, holdsToken, settled, eachRow}
-
--- an action's fate, 1 to 3, or 0 where line 5 refuses
-unfoldable pub knownFate : List ℕ → ℕ → ℕ → ℕ
-knownFate fates end a = cond (leb 1 a && leb a end && isKnown (fateIn fates a)) (nth 0 fates a) 0
+use Rattle.calls.specs.Calls.{decided, holdsToken, settled, eachRow}
+use Rattle.calls.specs.LineSteps.{actionLine, roomLine}
 
 -- the line that refuses commit and abort, 0 if none does
 unfoldable pub decideLine : List ℕ → List ℕ → List ℕ → State → ℕ → ℕ
 decideLine s fates rows state a =
     cond (lineOne (length s) (length fates) (length rows) (state .end) (state .undecided))
-    (cond (eqb (knownFate fates (state .end) a) 0) 5
-    (cond (eqb (knownFate fates (state .end) a) 1)
-    (cond (leb (length fates) (state .end)) 11
-    (cond (isBlank (sealed (length rows / rowLength) s (suc (state .end)))) 0 12))
-    6))
+    (cond (eqb (actionLine fates (state .end) a) 0) (roomLine s (state .end) (length rows / rowLength) 1) (actionLine fates (state .end) a))
     1
 
 -- whether a row's token is decided with this action, by the sheet and the end alone

@@ -1,11 +1,10 @@
 -- What smaller functions of read and write answer. A reader of document 01 can pass this file over: the laws join it to `on`.
 use mathlib.Core.Path.{_≡_}
 use mathlib.Core.List.{List}
-use mathlib.Core.Bool.{Bool, true, false, cond, _&&_, _||_}
+use mathlib.Core.Bool.{cond, _&&_}
 use mathlib.Core.Option.{Option, some, none}
-use Prim.Native.Nat.{ℕ, suc, _+_, _-_}
-use lib.ListN.{length}
-use lib.Dec.{eqb, leb, ltb}
+use Prim.Native.Nat.{ℕ, suc, _+_}
+use lib.Dec.{eqb, ltb}
 use Rattle.page.specs.declared.Page.{Page}
 use Rattle.page.specs.declared.Sought as sought
 use Rattle.page.specs.declared.Sought.{Sought}
@@ -16,30 +15,17 @@ use Rattle.recovery.specs.declared.Row.{Row}
 use Rattle.recovery.specs.declared.State.{State}
 use Rattle.recovery.specs.declared.Answer.{Answer}
 use Rattle.recovery.specs.declared.Answer.the-variants.{Refused, Stored, Nothing}
-use Rattle.recovery.specs.World.{World, fateIn, withRow, isBlank}
+use Rattle.recovery.specs.World.{World, withRow}
 use Rattle.recovery.specs.Lent.{pagesOf}
 use Rattle.recovery.specs.Steps.{sealedImage, rowHoldsIn}
 use Rattle.calls.specs.declared.reading.Reading.{Reading}
+use Rattle.calls.specs.LineSteps.{actionLine, roomLine}
 use Rattle.calls.specs.Walk.{Walk, met, nothing, lost, endless, follow}
-use Rattle.calls.specs.Calls.{isKnown, isDecided, imageOf, actionOf, valueOf, onVersions, onRead}
+use Rattle.calls.specs.Calls.{imageOf, actionOf, valueOf, onVersions, onRead}
 
--- lines 5 and 6: the one that refuses, or 0
-unfoldable pub actionLine : List ℕ → ℕ → ℕ → ℕ
-actionLine fates end a = cond (leb 1 a && leb a end && isKnown (fateIn fates a)) (cond (isDecided (fateIn fates a)) 6 0) 5
-
+-- lines 5 and 6 of read, which passes over them for action 0
 unfoldable pub readLine : List ℕ → ℕ → ℕ → ℕ
 readLine fates end a = cond (eqb a 0) 0 (actionLine fates end a)
-
--- line 7, by what was found at the places of a row
-abbrev pub isFound : Sought → Bool
-isFound (sought.Sought.Image x) = true
-isFound sought.Sought.Other = false
-
-unfoldable pub placeKept : ℕ → ℕ → Sought → Bool
-placeKept end place u = eqb place 0 || (leb place end && isFound u)
-
-unfoldable pub rowKept : ℕ → Row → Sought → Sought → Bool
-rowKept end r u v = leb (r .mark) 1 && placeKept end (r .current) u && placeKept end (r .token) v
 
 -- the image of a page's bytes, by the fields that were found
 abbrev pub imageBy : List ℕ → Sought → Option Image
@@ -78,9 +64,7 @@ pub record Reads (files : ℕ) (s : List ℕ) (end file time action : ℕ) (r : 
 unfoldable pub storeAnswer : List ℕ → ℕ → State → ℕ → Row → Answer
 storeAnswer s files state start r =
     cond (ltb (r .currentend) start && ltb (state .floor) start)
-    (cond (leb (state .undecided + 1) (length (pagesOf s files) - state .end))
-    (cond (isBlank (nth blank (pagesOf s files) (suc (state .end)))) (Stored (suc (state .end))) (Refused 12 0))
-    (Refused 11 0))
+    (cond (eqb (roomLine s (state .end) files (state .undecided + 1)) 0) (Stored (suc (state .end))) (Refused (roomLine s (state .end) files (state .undecided + 1)) 0))
     (Refused 10 0)
 
 unfoldable pub writeAnswer : List ℕ → ℕ → State → ℕ → ℕ → Row → Answer

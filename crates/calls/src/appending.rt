@@ -7,16 +7,7 @@ ghost use lib.ListN.{length};
 ghost use Rattle.page.specs.Layout.{pageSize};
 ghost use Rattle.page.specs.Table.{packed, meetsRules};
 ghost use Rattle.page.specs.Answers.{inBounds};
-ghost use Rattle.recovery.specs.Sheet.{sealed};
-ghost use Rattle.recovery.specs.World.{isBlank};
 ghost use Rattle.calls.specs.Effect.{withPage};
-
-// Whether the page at a place is blank.
-pub(crate) fn is_blank_at(sheet: &[u8], place: u64, files: u64) -> bool
-    ensures { λ r. ⌜ r ≡ isBlank (sealed files (now (sheet .entry)) place) ⌝ }
-{
-    recovery::is_blank_at(sheet, place, files)
-}
 
 // Stores a page above the end, byte 0 first and byte 63 last, as pack writes it.
 pub(crate) fn append(sheet: &mut [u8], end: u64, files: u64, page: Page, value: &[u8; 32])

@@ -1,14 +1,14 @@
-// Test, begin, commit and abort: the calls about an action (a transaction) and its fate.
+// Commit and abort: the outcome of an action.
 use crate::appending::append;
-use crate::appending::is_blank_at;
+use crate::refusing::action_line;
+use crate::refusing::room_line;
 use page::Page;
 use page::Sought;
 use recovery::Answer;
 use recovery::Done;
-use recovery::ROW_LENGTH;
 use recovery::Row;
 use recovery::State;
-use recovery::fate_at;
+use recovery::file_count;
 use recovery::is_lent_right;
 use recovery::is_opening_at;
 use recovery::refuse;
@@ -26,67 +26,7 @@ ghost use Rattle.recovery.specs.Sheet.{isOpening, decoded};
 ghost use Rattle.recovery.specs.Lent.{rowLength, leftBy};
 ghost use Rattle.calls.specs.Calls.{Call, decided};
 ghost use Rattle.calls.specs.Effect.{callLeaves};
-ghost use Rattle.calls.specs.DecideSteps.{knownFate, decideLine, holdsTokenIn, settledRow, settledRows};
-
-// An action's fate, 0 where line 5 refuses.
-pub(crate) fn known_fate(fates: &[u8], end: u64, action: u64) -> u64
-    ensures { λ r. ⌜ r ≡ knownFate (now (fates .entry)) end action ⌝ }
-{
-    let fate = fate_at(fates, action);
-    if end < action {
-        return 0;
-    }
-    if 3 < fate {
-        return 0;
-    }
-    fate
-}
-
-// The fate of an action.
-pub fn test(sheet: &[u8], fates: &[u8], rows: &[u64], state: State, action: u64) -> Done
-    ensures { λ r. ⌜ leftBy r (now (sheet .entry)) (now (fates .entry)) (now (rows .entry)) ≡ callLeaves (now (sheet .entry)) (now (fates .entry)) (now (rows .entry)) state (Call.test action) ⌝ }
-{
-    if !is_lent_right(sheet.len(), fates.len(), rows.len(), state) {
-        return refuse(1, state);
-    }
-    let fate = known_fate(fates, state.end, action);
-    if fate == 0 {
-        return refuse(5, state);
-    }
-    Done {
-        answer: Answer::Told(fate),
-        state,
-    }
-}
-
-// Begins an action: appends its opening, and leaves room for the outcome of each undecided action.
-pub fn begin(sheet: &mut [u8], fates: &mut [u8], rows: &[u64], state: State) -> Done
-    ensures { λ r. ⌜ leftBy r (now (sheet .exit)) (now (fates .exit)) (now (rows .entry)) ≡ callLeaves (now (sheet .entry)) (now (fates .entry)) (now (rows .entry)) state Call.begin ⌝ }
-{
-    if !is_lent_right(sheet.len(), fates.len(), rows.len(), state) {
-        return refuse(1, state);
-    }
-    let end = state.end;
-    if fates.len() as u64 - end < state.undecided + 2 {
-        return refuse(11, state);
-    }
-    let files = (rows.len() / ROW_LENGTH) as u64;
-    let place = end + 1;
-    if !is_blank_at(&sheet[..], place, files) {
-        return refuse(12, state);
-    }
-    let page = Page::opening(place);
-    append(sheet, end, files, page, &[0u8; 32]);
-    fates[end as usize] = 1;
-    Done {
-        answer: Answer::Stored(place),
-        state: State {
-            end: place,
-            floor: state.floor,
-            undecided: state.undecided + 1,
-        },
-    }
-}
+ghost use Rattle.calls.specs.DecideSteps.{decideLine, holdsTokenIn, settledRow, settledRows};
 
 // The line that refuses commit and abort, 0 if none does.
 fn decide_line(sheet: &[u8], fates: &[u8], rows: &[u64], state: State, action: u64) -> u64
@@ -95,35 +35,25 @@ fn decide_line(sheet: &[u8], fates: &[u8], rows: &[u64], state: State, action: u
     if !is_lent_right(sheet.len(), fates.len(), rows.len(), state) {
         return 1;
     }
-    let fate = known_fate(fates, state.end, action);
-    if fate == 0 {
-        return 5;
+    let line = action_line(fates, state.end, action);
+    if line != 0 {
+        return line;
     }
-    if fate != 1 {
-        return 6;
-    }
-    if fates.len() as u64 <= state.end {
-        return 11;
-    }
-    let files = (rows.len() / ROW_LENGTH) as u64;
-    if !is_blank_at(sheet, state.end + 1, files) {
-        return 12;
-    }
-    0
+    let files = file_count(rows.len());
+    room_line(sheet, state.end, files, 1)
 }
 
-// Whether a row's token is a sealed image of the file under the action; `opened` says whether that has an opening.
-fn holds_token(
-    sheet: &[u8],
-    files: u64,
-    end: u64,
+// An action that is decided: whether it has an opening, and whether it commits.
+struct Decision {
     action: u64,
     opened: bool,
-    file: u64,
-    row: Row,
-) -> bool
-    requires { ⌜ opened ≡ isOpening (decoded files (now sheet) action) ⌝ }
-    ensures { λ r. ⌜ r ≡ holdsTokenIn (now (sheet .entry)) files end action file row ⌝ }
+    committed: bool,
+}
+
+// Whether a row's token is a sealed image of the file under the action.
+fn holds_token(sheet: &[u8], end: u64, files: u64, file: u64, row: Row, decision: Decision) -> bool
+    requires { ⌜ decision .opened ≡ isOpening (decoded files (now sheet) (decision .action)) ⌝ }
+    ensures { λ r. ⌜ r ≡ holdsTokenIn (now (sheet .entry)) files end (decision .action) file row ⌝ }
 {
     if row.mark != 1 {
         return false;
@@ -138,10 +68,10 @@ fn holds_token(
     let Sought::Image(image) = found else {
         return false;
     };
-    if image.action != action {
+    if image.action != decision.action {
         return false;
     }
-    opened
+    decision.opened
 }
 
 // A row whose token is decided: a committed one is the current version.
@@ -167,43 +97,26 @@ fn decided_row(row: Row, committed: bool) -> Row
 }
 
 // The row of a file, settled where its token is the action's.
-fn settle_row(
-    sheet: &[u8],
-    rows: &mut [u64],
-    files: u64,
-    end: u64,
-    action: u64,
-    opened: bool,
-    committed: bool,
-    file: u64,
-)
-    requires { ⌜ opened ≡ isOpening (decoded files (now sheet) action) ⌝ }
-    ensures { λ _. ⌜ now (rows .exit) ≡ settledRow (now (sheet .entry)) files end action committed file (now (rows .entry)) ⌝ }
+fn settle_row(sheet: &[u8], rows: &mut [u64], end: u64, files: u64, file: u64, decision: Decision)
+    requires { ⌜ decision .opened ≡ isOpening (decoded files (now sheet) (decision .action)) ⌝ }
+    ensures { λ _. ⌜ now (rows .exit) ≡ settledRow (now (sheet .entry)) files end (decision .action) (decision .committed) file (now (rows .entry)) ⌝ }
 {
     let row = row_of(&rows[..], file);
-    if !holds_token(sheet, files, end, action, opened, file, row) {
+    if !holds_token(sheet, end, files, file, row, decision) {
         return;
     }
-    set_row(rows, file, decided_row(row, committed));
+    set_row(rows, file, decided_row(row, decision.committed));
 }
 
 // Every row, settled. Cold rows and rows with no token cost no look at a page, and the action's opening is looked at once for all.
-fn settle_rows(
-    sheet: &[u8],
-    rows: &mut [u64],
-    files: u64,
-    end: u64,
-    action: u64,
-    opened: bool,
-    committed: bool,
-)
-    requires { ⌜ (rowLength * (length (now rows) / rowLength) ≡ length (now rows)) × (files ≡ length (now rows) / rowLength) × (opened ≡ isOpening (decoded files (now sheet) action)) ⌝ }
-    ensures { λ _. ⌜ now (rows .exit) ≡ settledRows (now (sheet .entry)) files end action committed (now (rows .entry)) ⌝ }
+fn settle_rows(sheet: &[u8], rows: &mut [u64], end: u64, files: u64, decision: Decision)
+    requires { ⌜ (rowLength * (length (now rows) / rowLength) ≡ length (now rows)) × (files ≡ length (now rows) / rowLength) × (decision .opened ≡ isOpening (decoded files (now sheet) (decision .action))) ⌝ }
+    ensures { λ _. ⌜ now (rows .exit) ≡ settledRows (now (sheet .entry)) files end (decision .action) (decision .committed) (now (rows .entry)) ⌝ }
 {
     let mut file: u64 = 0;
     while file < files {
         file += 1;
-        settle_row(sheet, rows, files, end, action, opened, committed, file);
+        settle_row(sheet, rows, end, files, file, decision);
     }
 }
 
@@ -253,9 +166,14 @@ fn decide(
         return refuse(line, state);
     }
     let end = state.end;
-    let files = (rows.len() / ROW_LENGTH) as u64;
+    let files = file_count(rows.len());
     let opened = is_opening_at(&sheet[..], action, files);
-    settle_rows(&sheet[..], rows, files, end, action, opened, committed);
+    let decision = Decision {
+        action,
+        opened,
+        committed,
+    };
+    settle_rows(&sheet[..], rows, end, files, decision);
     let page = outcome_page(action, committed);
     append(sheet, end, files, page, &[0u8; 32]);
     fates[action as usize - 1] = outcome_fate(committed);

@@ -1,9 +1,9 @@
 // Any call from begin to abort as a value, and one function that makes it.
+use crate::beginning::begin;
 use crate::deciding::abort;
-use crate::deciding::begin;
 use crate::deciding::commit;
-use crate::deciding::test;
 use crate::reading::read;
+use crate::testing::test;
 use crate::writing::write;
 use recovery::Done;
 use recovery::State;

@@ -1,15 +1,16 @@
 // Read: the value of a file at a time, for an action or for none.
+use crate::refusing::action_line;
 use page::Page;
 use page::Sought;
 use recovery::Answer;
 use recovery::Done;
-use recovery::ROW_LENGTH;
 use recovery::Row;
 use recovery::State;
-use recovery::fate_at;
+use recovery::file_count;
+use recovery::has_file;
 use recovery::image_at;
-use recovery::is_file;
 use recovery::is_lent_right;
+use recovery::is_row_kept;
 use recovery::raised_row;
 use recovery::refuse;
 use recovery::set_row;
@@ -25,7 +26,7 @@ ghost use Rattle.recovery.specs.Lent.{leftBy, rowLength};
 ghost use Rattle.recovery.specs.Steps.{lineOne, sealedImage};
 ghost use Rattle.calls.specs.Calls.{Call, readCurrent, readToken};
 ghost use Rattle.calls.specs.Effect.{callLeaves};
-ghost use Rattle.calls.specs.ReadSteps.{actionLine, readLine, placeKept, rowKept, walkAt, Looked, Versions, Reads};
+ghost use Rattle.calls.specs.ReadSteps.{readLine, walkAt, Looked, Versions, Reads};
 
 // What a read of a warm row answers, and the row that it leaves.
 struct Reading {
@@ -46,21 +47,6 @@ fn token_read(row: Row, time: u64) -> Row
     raised_row(row, 0, time)
 }
 
-// Lines 5 and 6: the one that refuses an action, or 0.
-pub(crate) fn action_line(fates: &[u8], end: u64, action: u64) -> u64
-    ensures { λ r. ⌜ r ≡ actionLine (now (fates .entry)) end action ⌝ }
-{
-    let fate = fate_at(fates, action);
-    let known = (1 <= action) & (action <= end) & ((1 <= fate) & (fate <= 3));
-    if !known {
-        return 5;
-    }
-    if fate != 1 {
-        return 6;
-    }
-    0
-}
-
 // Lines 5 and 6 of read, which are passed over for action 0.
 fn read_line(fates: &[u8], end: u64, action: u64) -> u64
     ensures { λ r. ⌜ r ≡ readLine (now (fates .entry)) end action ⌝ }
@@ -71,33 +57,8 @@ fn read_line(fates: &[u8], end: u64, action: u64) -> u64
     action_line(fates, end, action)
 }
 
-// Line 7 for a place of a row, by what was found there.
-fn is_place_kept(end: u64, place: u64, found: Sought) -> bool
-    ensures { λ r. ⌜ r ≡ placeKept end place found ⌝ }
-{
-    if place == 0 {
-        return true;
-    }
-    if end < place {
-        return false;
-    }
-    match found {
-        Sought::Image(_) => true,
-        Sought::Other => false,
-    }
-}
-
-// Line 7, by what was found at both places of a row.
-pub(crate) fn is_row_kept(end: u64, row: Row, current: Sought, token: Sought) -> bool
-    ensures { λ r. ⌜ r ≡ rowKept end row current token ⌝ }
-{
-    (row.mark <= 1)
-        & is_place_kept(end, row.current, current)
-        & is_place_kept(end, row.token, token)
-}
-
 // The first image from a place down the links whose start is not above a time.
-fn walk(sheet: &[u8], files: u64, file: u64, time: u64, from: u64, first: Page) -> Answer
+fn walk(sheet: &[u8], from: u64, files: u64, file: u64, time: u64, first: Page) -> Answer
     requires { ⌜ sealedImage files (now sheet) file from ≡ sought.Sought.Image first ⌝ }
     ensures { λ r. ⌜ r ≡ walkAt files (now (sheet .entry)) file time (length (now (sheet .entry)) / pageSize) from first ⌝ }
 {
@@ -112,7 +73,7 @@ fn walk(sheet: &[u8], files: u64, file: u64, time: u64, from: u64, first: Page) 
         if next == 0 {
             return Answer::Nothing;
         }
-        let found = image_at(sheet, files, file, next);
+        let found = image_at(sheet, next, files, file);
         let Sought::Image(y) = found else {
             return Answer::Refused(13, place);
         };
@@ -144,7 +105,7 @@ fn read_versions(
             row: reached,
         };
     };
-    let answer = walk(sheet, files, file, time, row.current, newest);
+    let answer = walk(sheet, row.current, files, file, time, newest);
     if time < newest.start {
         return Reading { answer, row };
     }
@@ -157,8 +118,8 @@ fn read_versions(
 // Lines 7 to 14 of read on a warm row. Each place of the row is looked at once.
 fn read_row(
     sheet: &[u8],
-    files: u64,
     end: u64,
+    files: u64,
     file: u64,
     time: u64,
     action: u64,
@@ -166,8 +127,8 @@ fn read_row(
 ) -> Reading
     ensures { λ r. ⌜ Reads files (now (sheet .entry)) end file time action row r ⌝ }
 {
-    let current = image_at(sheet, files, file, row.current);
-    let token = image_at(sheet, files, file, row.token);
+    let current = image_at(sheet, row.current, files, file);
+    let token = image_at(sheet, row.token, files, file);
     if !is_row_kept(end, row, current, token) {
         return Reading {
             answer: Answer::Refused(7, 0),
@@ -206,9 +167,9 @@ fn read_warm(
     ensures { λ r. ⌜ leftBy r (now (sheet .entry)) (now (fates .entry)) (now (rows .exit)) ≡ callLeaves (now (sheet .entry)) (now (fates .entry)) (now (rows .entry)) state (Call.read file time action) ⌝ }
 {
     let end = state.end;
-    let files = (rows.len() / ROW_LENGTH) as u64;
-    let row = warm_row(sheet, fates, rows, file, end);
-    let reading = read_row(sheet, files, end, file, time, action, row);
+    let files = file_count(rows.len());
+    let row = warm_row(sheet, fates, rows, end, file);
+    let reading = read_row(sheet, end, files, file, time, action, row);
     let new = reading.row;
     set_row(rows, file, new);
     let answer = reading.answer;
@@ -230,8 +191,7 @@ pub fn read(
     if !is_lent_right(sheet.len(), fates.len(), rows.len(), state) {
         return refuse(1, state);
     }
-    let files = (rows.len() / ROW_LENGTH) as u64;
-    if !is_file(files, file) {
+    if !has_file(rows.len(), file) {
         return refuse(3, state);
     }
     let line = read_line(fates, state.end, action);

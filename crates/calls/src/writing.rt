@@ -1,18 +1,18 @@
 // Write: a value of a file under an action, as the file's token.
 use crate::appending::append;
-use crate::appending::is_blank_at;
-use crate::reading::action_line;
-use crate::reading::is_row_kept;
+use crate::refusing::action_line;
+use crate::refusing::room_line;
 use page::Page;
 use page::Sought;
 use recovery::Answer;
 use recovery::Done;
-use recovery::ROW_LENGTH;
 use recovery::Row;
 use recovery::State;
+use recovery::file_count;
+use recovery::has_file;
 use recovery::image_at;
-use recovery::is_file;
 use recovery::is_lent_right;
+use recovery::is_row_kept;
 use recovery::refuse;
 use recovery::set_row;
 use recovery::warm_row;
@@ -26,7 +26,8 @@ ghost use Rattle.recovery.specs.Lent.{leftBy, rowLength};
 ghost use Rattle.recovery.specs.Steps.{lineOne};
 ghost use Rattle.calls.specs.Calls.{Call};
 ghost use Rattle.calls.specs.Effect.{callLeaves, padded};
-ghost use Rattle.calls.specs.ReadSteps.{actionLine, storeAnswer, writeAnswer, written};
+ghost use Rattle.calls.specs.LineSteps.{actionLine};
+ghost use Rattle.calls.specs.ReadSteps.{storeAnswer, writeAnswer, written};
 
 // A value and zeros after it.
 fn pad(value: &[u8]) -> [u8; 32]
@@ -43,8 +44,8 @@ fn pad(value: &[u8]) -> [u8; 32]
 }
 
 // Lines 10 to 12 of write.
-fn store_answer(sheet: &[u8], files: u64, state: State, start: u64, row: Row) -> Answer
-    requires { ⌜ state .end ≤ length (now sheet) / pageSize ⌝ }
+fn store_answer(sheet: &[u8], state: State, files: u64, start: u64, row: Row) -> Answer
+    requires { ⌜ (state .end ≤ length (now sheet) / pageSize) × (state .undecided ≤ state .end) ⌝ }
     ensures { λ r. ⌜ r ≡ storeAnswer (now (sheet .entry)) files state start row ⌝ }
 {
     if start <= row.currentend {
@@ -53,30 +54,26 @@ fn store_answer(sheet: &[u8], files: u64, state: State, start: u64, row: Row) ->
     if start <= state.floor {
         return Answer::Refused(10, 0);
     }
-    let pages = (sheet.len() / Page::SIZE) as u64;
-    if pages - state.end <= state.undecided {
-        return Answer::Refused(11, 0);
+    let line = room_line(sheet, state.end, files, state.undecided + 1);
+    if line != 0 {
+        return Answer::Refused(line, 0);
     }
-    let place = state.end + 1;
-    if !is_blank_at(sheet, place, files) {
-        return Answer::Refused(12, 0);
-    }
-    Answer::Stored(place)
+    Answer::Stored(state.end + 1)
 }
 
 // Lines 7 to 12 of write on a warm row. Each place of the row is looked at once.
-fn write_answer(sheet: &[u8], files: u64, state: State, file: u64, start: u64, row: Row) -> Answer
-    requires { ⌜ state .end ≤ length (now sheet) / pageSize ⌝ }
+fn write_answer(sheet: &[u8], state: State, files: u64, file: u64, start: u64, row: Row) -> Answer
+    requires { ⌜ (state .end ≤ length (now sheet) / pageSize) × (state .undecided ≤ state .end) ⌝ }
     ensures { λ r. ⌜ r ≡ writeAnswer (now (sheet .entry)) files state file start row ⌝ }
 {
-    let current = image_at(sheet, files, file, row.current);
-    let token = image_at(sheet, files, file, row.token);
+    let current = image_at(sheet, row.current, files, file);
+    let token = image_at(sheet, row.token, files, file);
     if !is_row_kept(state.end, row, current, token) {
         return Answer::Refused(7, 0);
     }
     match token {
         Sought::Image(x) => Answer::Refused(8, x.action),
-        Sought::Other => store_answer(sheet, files, state, start, row),
+        Sought::Other => store_answer(sheet, state, files, start, row),
     }
 }
 
@@ -110,9 +107,9 @@ fn write_warm(
     // First, so that these stores are done when the page is written from them.
     let bytes = pad(value);
     let end = state.end;
-    let files = (rows.len() / ROW_LENGTH) as u64;
-    let row = warm_row(&sheet[..], fates, rows, file, end);
-    let answer = write_answer(&sheet[..], files, state, file, start, row);
+    let files = file_count(rows.len());
+    let row = warm_row(&sheet[..], fates, rows, end, file);
+    let answer = write_answer(&sheet[..], state, files, file, start, row);
     let Answer::Stored(place) = answer else {
         return Done { answer, state };
     };
@@ -145,8 +142,7 @@ pub fn write(
     if !is_lent_right(sheet.len(), fates.len(), rows.len(), state) {
         return refuse(1, state);
     }
-    let files = (rows.len() / ROW_LENGTH) as u64;
-    if !is_file(files, file) {
+    if !has_file(rows.len(), file) {
         return refuse(3, state);
     }
     if Page::VALUE_SIZE < value.len() as u64 {

@@ -1,12 +1,12 @@
 -- Sealed images of a file, as the code finds them, and line 7. Assumes nothing.
 use Prim.Native.Nat.{ℕ, _*_, _/_, _<_, _≤_}
-use mathlib.Core.Path.{_≡_, refl, sym, ap, _∙_}
-use mathlib.Core.Bool.{Bool, true, false, cond, _&&_}
+use mathlib.Core.Path.{_≡_, refl, sym, ap, ap₂, _∙_}
+use mathlib.Core.Bool.{Bool, true, false, cond, _&&_, _||_}
 use mathlib.Core.List.{List}
 use native.Mathlib.Omega.{arith}
 use lib.ListN.{length}
 use lib.Dec.{eqb, leb}
-use borrow.Author.Tests.{eq-eqb, ne-eqb, le-leb, lt-leb, leb-true, leb-false}
+use borrow.Author.Tests.{eq-eqb, ne-eqb, le-leb, lt-leb, eqb-false, leb-true, leb-false}
 use Rattle.encoding.proofs.Logic.{by-test}
 use Rattle.page.specs.declared.Page.{Page}
 use Rattle.page.specs.declared.Unpacked.{Unpacked}
@@ -18,9 +18,10 @@ use Rattle.page.specs.Answers.{tested, onImage, imageOf}
 use Rattle.recovery.specs.Places.{nth}
 use Rattle.recovery.specs.Log.{Entry, blank, bad, image}
 use Rattle.recovery.specs.Sheet.{pageBytes, entryOf, imageFrom, isOpening, seal, decoded, sealed}
-use Rattle.recovery.specs.World.{isImageOf}
+use Rattle.recovery.specs.World.{isImageOf, placeHolds, rowHolds}
 use Rattle.recovery.specs.Lent.{pagesOf}
-use Rattle.recovery.specs.Steps.{sealedImage, placeHoldsIn}
+use Rattle.recovery.specs.declared.Row.{Row}
+use Rattle.recovery.specs.Steps.{sealedImage, sheetWorld, rowHoldsIn, isFound, placeKept, rowKept}
 use Rattle.recovery.proofs.Pages.{test-out, page-at-place, pages-long}
 use Rattle.recovery.proofs.Lookups.{nth-past}
 use Rattle.recovery.proofs.WalkDown.{apart, found-same}
@@ -81,10 +82,6 @@ module _ (files : ℕ) (s : List ℕ) (file place : ℕ) where
 
 -- ---- line 7
 
-abbrev isFound : Sought → Bool
-isFound (sought.Sought.Image x) = true
-isFound sought.Sought.Other = false
-
 entry-found : (file : ℕ) (ρ : ℕ → Entry) (b : List ℕ) (u : Unpacked)
     → isImageOf file (seal ρ (entryOf b u)) ≡ isFound (with-opening file (λ (a : ℕ). isOpening (ρ a)) u)
 entry-found file ρ b Refused = refl
@@ -106,7 +103,7 @@ held-here : (files : ℕ) (s : List ℕ) (file place : ℕ) → isImageOf file (
 unfolding sealed decoded sealedImage
 held-here files s file place = entry-found file (decoded files s) (pageBytes s place) (tested (pageBytes s place) place files)
 
-held-in : (files : ℕ) (s : List ℕ) (file place : ℕ) → 1 ≤ place → isImageOf file (nth blank (pagesOf s files) place) ≡ isFound (sealedImage files s file place)
+pub held-in : (files : ℕ) (s : List ℕ) (file place : ℕ) → 1 ≤ place → isImageOf file (nth blank (pagesOf s files) place) ≡ isFound (sealedImage files s file place)
 held-in files s file place l = go (leb place (length s / pageSize)) refl
   where
     go : (c : Bool) → leb place (length s / pageSize) ≡ c → isImageOf file (nth blank (pagesOf s files) place) ≡ isFound (sealedImage files s file place)
@@ -116,15 +113,33 @@ held-in files s file place l = go (leb place (length s / pageSize)) refl
         let b : blank ≡ nth blank (pagesOf s files) place = nth-past blank (pagesOf s files) place (omega (arith, pages-long files (length s / pageSize) s)) in
         rw (← b) (ap isFound (image-none files s file place (seek-out s place files file (λ p q. omega arith))))
 
-module _ (s : List ℕ) (files end file place : ℕ) where
-  pub held-none : place ≡ 0 → true ≡ placeHoldsIn s files end file place
-  unfolding placeHoldsIn
-  held-none e = simp (eq-eqb place 0 e)
+module _ (e p : ℕ) where
+  pub place-zero : p ≡ 0 → (u : Sought) → true ≡ placeKept e p u
+  unfolding placeKept
+  place-zero h u = simp (eq-eqb p 0 h)
 
-  pub held-above : (place ≡ 0 → ⊥) → end < place → false ≡ placeHoldsIn s files end file place
-  unfolding placeHoldsIn
-  held-above n h = simp (ne-eqb place 0 n, lt-leb place end h)
+  pub place-above : (p ≡ 0 → ⊥) → e < p → (u : Sought) → false ≡ placeKept e p u
+  unfolding placeKept
+  place-above z h u = simp (ne-eqb p 0 z, lt-leb p e h)
 
-  pub held-by : (place ≡ 0 → ⊥) → place ≤ end → (u : Sought) → u ≡ sealedImage files s file place → isFound u ≡ placeHoldsIn s files end file place
-  unfolding placeHoldsIn
-  held-by n h u e = simp (ne-eqb place 0 n, le-leb place end h) (ap isFound e ∙ sym (held-in files s file place (omega (arith, n))))
+  module _ (z : p ≡ 0 → ⊥) (h : p ≤ e) (u : Sought) where
+    pub place-image : (x : Page) → u ≡ sought.Sought.Image x → true ≡ placeKept e p u
+    unfolding placeKept
+    place-image x i = rw i (simp (ne-eqb p 0 z, le-leb p e h))
+
+    pub place-other : u ≡ sought.Sought.Other → false ≡ placeKept e p u
+    unfolding placeKept
+    place-other i = rw i (simp (ne-eqb p 0 z, le-leb p e h))
+
+module _ (files : ℕ) (s : List ℕ) (e f : ℕ) where
+  place-held : (p : ℕ) (u : Sought) → u ≡ sealedImage files s f p → placeKept e p u ≡ placeHolds (sheetWorld s files e) f p
+  unfolding placeKept
+  place-held p u h = go (eqb p 0) refl
+    where
+      go : (b : Bool) → eqb p 0 ≡ b → (b || (leb p e && isFound u)) ≡ (b || (leb p e && isImageOf f (nth blank (pagesOf s files) p)))
+      go true k = refl
+      go false k = ap (λ (x : Bool). leb p e && x) (ap isFound h ∙ sym (held-in files s f p (omega (arith, eqb-false p 0 k))))
+
+  pub row-kept : (r : Row) (u v : Sought) → u ≡ sealedImage files s f (r .current) → v ≡ sealedImage files s f (r .token) → rowKept e r u v ≡ rowHoldsIn s files e f r
+  unfolding rowKept rowHoldsIn rowHolds
+  row-kept r u v hu hv = ap₂ _&&_ (ap (λ (b : Bool). leb (r .mark) 1 && b) (place-held (r .current) u hu)) (place-held (r .token) v hv)

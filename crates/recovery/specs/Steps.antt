@@ -1,7 +1,7 @@
 -- What smaller functions of the code answer. A reader of document 01 can pass this file over: the laws join it to `rebuilt`.
 use mathlib.Core.Path.{_≡_}
 use mathlib.Core.List.{List, []}
-use mathlib.Core.Bool.{Bool, cond, _&&_, _||_}
+use mathlib.Core.Bool.{Bool, true, false, cond, _&&_, _||_}
 use Prim.Native.Nat.{ℕ, pred, _/_}
 use lib.ListN.{length}
 use lib.Dec.{eqb, leb}
@@ -11,9 +11,8 @@ use Rattle.page.specs.declared.Sought.{Sought}
 use Rattle.page.specs.Layout.{pageSize}
 use Rattle.page.specs.Answers.{tested, onImage}
 use Rattle.recovery.specs.Places.{nth}
-use Rattle.recovery.specs.Log.{Entry}
 use Rattle.recovery.specs.Sheet.{pageBytes, isOpening, decoded}
-use Rattle.recovery.specs.World.{World, down, rebuiltRow, fateIn, cold, isFile, placeHolds, rowHolds}
+use Rattle.recovery.specs.World.{World, down, rebuiltRow, fateIn, cold, isFile, rowHolds}
 use Rattle.recovery.specs.Lent.{rowLength, rowsOf, putRow, pagesOf, sizesRight}
 use Rattle.recovery.specs.declared.Row.{Row}
 use Rattle.recovery.specs.declared.State.{State}
@@ -50,11 +49,19 @@ rowFromPages s fates files file end = rebuiltRow (down (pagesOf s files) end) (f
 abbrev pub sheetWorld : List ℕ → ℕ → ℕ → World
 sheetWorld s files end = record { sheet = pagesOf s files; fates = []; rows = []; end = end; floor = 0; undecided = 0 }
 
-unfoldable pub placeHoldsIn : List ℕ → ℕ → ℕ → ℕ → ℕ → Bool
-placeHoldsIn s files end file place = placeHolds (sheetWorld s files end) file place
-
 unfoldable pub rowHoldsIn : List ℕ → ℕ → ℕ → ℕ → Row → Bool
 rowHoldsIn s files end file r = rowHolds (sheetWorld s files end) file r
+
+-- line 7, by what was found at the places of a row
+abbrev pub isFound : Sought → Bool
+isFound (sought.Sought.Image x) = true
+isFound sought.Sought.Other = false
+
+unfoldable pub placeKept : ℕ → ℕ → Sought → Bool
+placeKept end place u = eqb place 0 || (leb place end && isFound u)
+
+unfoldable pub rowKept : ℕ → Row → Sought → Sought → Bool
+rowKept end r u v = leb (r .mark) 1 && placeKept end (r .current) u && placeKept end (r .token) v
 
 -- a file's row, rebuilt where it is cold, and the run that then holds it
 unfoldable pub warmRowOf : List ℕ → List ℕ → List ℕ → ℕ → ℕ → Row

@@ -54,7 +54,7 @@ pub fn is_opening_at(sheet: &[u8], place: u64, files: u64) -> bool
 }
 
 // The fields of a sealed image of a file at a place.
-pub fn image_at(sheet: &[u8], files: u64, file: u64, place: u64) -> Sought
+pub fn image_at(sheet: &[u8], place: u64, files: u64, file: u64) -> Sought
     ensures { λ r. ⌜ r ≡ sealedImage files (now (sheet .entry)) file place ⌝ }
 {
     let found = seek_at(sheet, place, files, file);
@@ -88,7 +88,7 @@ fn is_counted(fate: u64) -> bool
 }
 
 // The fate under which images of an action count; the opening is looked at only where the fate could count.
-pub fn counted_fate(sheet: &[u8], fates: &[u8], files: u64, action: u64) -> u64
+pub fn counted_fate(sheet: &[u8], fates: &[u8], action: u64, files: u64) -> u64
     ensures { λ r. ⌜ r ≡ countedFate files (now (sheet .entry)) (now (fates .entry)) action ⌝ }
 {
     let fate = fate_at(fates, action);

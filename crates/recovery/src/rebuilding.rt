@@ -1,12 +1,12 @@
 // Rebuild: a file's row from the pages, going down from the end.
 use crate::Answer;
 use crate::Done;
-use crate::ROW_LENGTH;
 use crate::Row;
 use crate::State;
 use crate::counted_fate;
+use crate::file_count;
+use crate::has_file;
 use crate::image_at;
-use crate::is_file;
 use crate::is_lent_right;
 use crate::refuse;
 use crate::row_of;
@@ -17,11 +17,11 @@ use page::Sought;
 use page::Unpacked;
 ghost use mathlib.Core.Path.{_≡_};
 ghost use Rattle.recovery.specs.Lent.{leftBy, rebuildLeaves};
-ghost use Rattle.recovery.specs.Steps.{rowFromPages, placeHoldsIn, rowHoldsIn, Warmed};
+ghost use Rattle.recovery.specs.Steps.{rowFromPages, placeKept, rowKept, rowHoldsIn, Warmed};
 
 // The row of a file from the pages up to the end, going down: the first committed image is the current one, and the newest
 // undecided image above it the token. A page that is not an image of the file is passed over at once.
-pub fn rebuilt_row(sheet: &[u8], fates: &[u8], files: u64, file: u64, end: u64) -> Row
+pub fn rebuilt_row(sheet: &[u8], fates: &[u8], end: u64, files: u64, file: u64) -> Row
     ensures { λ r. ⌜ r ≡ rowFromPages (now (sheet .entry)) (now (fates .entry)) files file end ⌝ }
 {
     let mut place = least(end, (sheet.len() / Page::SIZE) as u64) as usize;
@@ -38,7 +38,7 @@ pub fn rebuilt_row(sheet: &[u8], fates: &[u8], files: u64, file: u64, end: u64) 
         let Unpacked::Image(image) = Page::test(&sheet[a..e], at, files) else {
             continue;
         };
-        let fate = counted_fate(sheet, fates, files, image.action);
+        let fate = counted_fate(sheet, fates, image.action, files);
         if fate == 2 {
             return Row {
                 mark: 1,
@@ -64,9 +64,9 @@ pub fn rebuilt_row(sheet: &[u8], fates: &[u8], files: u64, file: u64, end: u64) 
     }
 }
 
-// A place of a row is 0, or a place up to the end with a sealed image of the file.
-fn is_place_held(sheet: &[u8], files: u64, end: u64, file: u64, place: u64) -> bool
-    ensures { λ r. ⌜ r ≡ placeHoldsIn (now (sheet .entry)) files end file place ⌝ }
+// Line 7 for a place of a row, by what was found there: it is 0, or a place up to the end with a sealed image of the file.
+fn is_place_kept(end: u64, place: u64, found: Sought) -> bool
+    ensures { λ r. ⌜ r ≡ placeKept end place found ⌝ }
 {
     if place == 0 {
         return true;
@@ -74,32 +74,40 @@ fn is_place_held(sheet: &[u8], files: u64, end: u64, file: u64, place: u64) -> b
     if end < place {
         return false;
     }
-    let found = image_at(sheet, files, file, place);
     match found {
         Sought::Image(_) => true,
         Sought::Other => false,
     }
 }
 
-// Line 7.
-pub fn is_row_held(sheet: &[u8], files: u64, end: u64, file: u64, row: Row) -> bool
-    ensures { λ r. ⌜ r ≡ rowHoldsIn (now (sheet .entry)) files end file row ⌝ }
+// Line 7, by what was found at both places of a row.
+pub fn is_row_kept(end: u64, row: Row, current: Sought, token: Sought) -> bool
+    ensures { λ r. ⌜ r ≡ rowKept end row current token ⌝ }
 {
     (row.mark <= 1)
-        & is_place_held(sheet, files, end, file, row.current)
-        & is_place_held(sheet, files, end, file, row.token)
+        & is_place_kept(end, row.current, current)
+        & is_place_kept(end, row.token, token)
+}
+
+// Line 7.
+fn is_row_held(sheet: &[u8], end: u64, files: u64, file: u64, row: Row) -> bool
+    ensures { λ r. ⌜ r ≡ rowHoldsIn (now (sheet .entry)) files end file row ⌝ }
+{
+    let current = image_at(sheet, row.current, files, file);
+    let token = image_at(sheet, row.token, files, file);
+    is_row_kept(end, row, current, token)
 }
 
 // A file's row, rebuilt and put into the run where it is cold.
-pub fn warm_row(sheet: &[u8], fates: &[u8], rows: &mut [u64], file: u64, end: u64) -> Row
+pub fn warm_row(sheet: &[u8], fates: &[u8], rows: &mut [u64], end: u64, file: u64) -> Row
     ensures { λ r. ⌜ Warmed (now (sheet .entry)) (now (fates .entry)) (now (rows .entry)) file end r (now (rows .exit)) ⌝ }
 {
     let row = row_of(&rows[..], file);
     if row.mark != 0 {
         return row;
     }
-    let files = (rows.len() / ROW_LENGTH) as u64;
-    let new = rebuilt_row(sheet, fates, files, file, end);
+    let files = file_count(rows.len());
+    let new = rebuilt_row(sheet, fates, end, files, file);
     set_row(rows, file, new);
     new
 }
@@ -111,13 +119,13 @@ pub fn rebuild(sheet: &[u8], fates: &[u8], rows: &mut [u64], state: State, file:
     if !is_lent_right(sheet.len(), fates.len(), rows.len(), state) {
         return refuse(1, state);
     }
-    let files = (rows.len() / ROW_LENGTH) as u64;
-    if !is_file(files, file) {
+    if !has_file(rows.len(), file) {
         return refuse(3, state);
     }
     let end = state.end;
-    let row = warm_row(sheet, fates, rows, file, end);
-    if !is_row_held(sheet, files, end, file, row) {
+    let files = file_count(rows.len());
+    let row = warm_row(sheet, fates, rows, end, file);
+    if !is_row_held(sheet, end, files, file, row) {
         return refuse(7, state);
     }
     Done {

@@ -2,17 +2,31 @@
 use crate::ROW_LENGTH;
 use crate::Row;
 ghost use mathlib.Core.Path.{_≡_};
-ghost use Prim.Native.Nat.{_+_, _*_, _≤_};
+ghost use Prim.Native.Nat.{_+_, _*_, _/_, _≤_};
 ghost use lib.ListN.{length};
 ghost use Rattle.recovery.specs.World.{isFile};
 ghost use Rattle.recovery.specs.Lent.{rowLength, rowFrom, putRow};
 ghost use Rattle.recovery.specs.Steps.{rowOf, withRowOf};
 
-// Line 3: the number of a file.
+// How many files a run of so many numbers has rows for.
+pub fn file_count(numbers: usize) -> u64
+    ensures { λ r. ⌜ r ≡ numbers / rowLength ⌝ }
+{
+    (numbers / ROW_LENGTH) as u64
+}
+
+// The number of a file, of so many.
 pub fn is_file(files: u64, file: u64) -> bool
     ensures { λ r. ⌜ r ≡ isFile files file ⌝ }
 {
     (1 <= file) & (file <= files)
+}
+
+// Line 3, by the length of the run.
+pub fn has_file(numbers: usize, file: u64) -> bool
+    ensures { λ r. ⌜ r ≡ isFile (numbers / rowLength) file ⌝ }
+{
+    is_file(file_count(numbers), file)
 }
 
 // The row after k others in the run.
@@ -46,8 +60,7 @@ fn write_row(rows: &mut [u64], k: usize, row: Row)
 pub fn row_of(rows: &[u64], file: u64) -> Row
     ensures { λ r. ⌜ r ≡ rowOf (now (rows .entry)) file ⌝ }
 {
-    let files = (rows.len() / ROW_LENGTH) as u64;
-    if !is_file(files, file) {
+    if !has_file(rows.len(), file) {
         return Row {
             mark: 0,
             current: 0,
@@ -63,8 +76,7 @@ pub fn row_of(rows: &[u64], file: u64) -> Row
 pub fn set_row(rows: &mut [u64], file: u64, row: Row)
     ensures { λ _. ⌜ now (rows .exit) ≡ withRowOf (now (rows .entry)) file row ⌝ }
 {
-    let files = (rows.len() / ROW_LENGTH) as u64;
-    if !is_file(files, file) {
+    if !has_file(rows.len(), file) {
         return;
     }
     write_row(rows, file as usize - 1, row);

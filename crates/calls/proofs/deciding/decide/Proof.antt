@@ -3,8 +3,8 @@ use Prim.Native.Nat.{_<_}
 use Rattle.page.specs.Layout.{mostPlaces}
 use denote.Ref.{now}
 use native.Mathlib.Omega.{arith}
-use Rattle.calls.proofs.DecideEnds.{Ready, ready, decide-refused, end-low, rows-asked, outcome-asked, decide-done}
-use Rattle.calls.proofs.DecideLines.{by-refuse}
+use Rattle.calls.proofs.DecideEnds.{Ready, ready, decide-refused, end-low, rows-whole, outcome-asked, decide-done}
+use Rattle.calls.proofs.Ends.{by-refuse}
 use borrow.Author.Needs.{needs}
 use Rattle.calls.proofs.deciding.decide.Statement.{statement}
 use Rattle.calls.proofs.deciding.decide.Tie as tie
@@ -38,39 +38,42 @@ returns : tie.Need-returns
 returns c =
     by-refuse _ _ _ _ _ _ (c .refuse .ensures) (decide-refused _ _ _ _ _ _ _ (c .before .before .decide-line .ensures) (c .before .if1 .taken))
 
+file-count-requires : tie.Need-file-count-requires
+file-count-requires c κs = search needs
+
 is-opening-at-requires : tie.Need-is-opening-at-requires
 is-opening-at-requires c κs = search needs
 
 settle-rows-requires : tie.Need-settle-rows-requires
 settle-rows-requires c κs =
-    let a = c .before .before .before .before .before .before .before .before .before .before .before .before .args in
-    let r = rows-asked (now (a .sheet)) (now (a .fates)) (now (a .rows)) (a .state) (a .action) (a .committed) (known (c .before .before .before .before)) in
-    (r .0, r .1, c .before .before .is-opening-at .ensures)
+    let a = c .before .before .before .before .before .before .before .before .before .before .before .before .before .args in
+    let r = rows-whole (now (a .sheet)) (now (a .fates)) (now (a .rows)) (a .state) (a .action) (a .committed) (known (c .before .before .before .before .before)) in
+    (r, c .before .before .before .before .file-count .ensures, c .before .before .is-opening-at .ensures)
 
 outcome-page-requires : tie.Need-outcome-page-requires
 outcome-page-requires c κs = search needs
 
 append-requires : tie.Need-append-requires
 append-requires c κs =
-    let a = c .before .before .before .before .before .before .before .before .before .before .before .before .before .before .before .before .before .before .args in
-    outcome-asked (now (a .sheet)) (now (a .fates)) (now (a .rows)) (a .state) (a .action) (a .committed) (known (c .before .before .before .before .before .before .before .before .before .before)) _ (c .before .before .outcome-page .ensures)
+    let a = c .before .before .before .before .before .before .before .before .before .before .before .before .before .before .before .before .before .before .before .args in
+    rw (c .before .before .before .before .before .before .before .before .before .before .file-count .ensures) (outcome-asked (now (a .sheet)) (now (a .fates)) (now (a .rows)) (a .state) (a .action) (a .committed) (known (c .before .before .before .before .before .before .before .before .before .before .before)) _ (c .before .before .outcome-page .ensures))
 
 outcome-fate-requires : tie.Need-outcome-fate-requires
 outcome-fate-requires c κs = search needs
 
 sub-fates : tie.Need-sub-fates
-sub-fates c = omega (arith, known (c .before .before .before .before .before .before .before .before .before .before .before .before .before .before) .act .low)
+sub-fates c = omega (arith, known (c .before .before .before .before .before .before .before .before .before .before .before .before .before .before .before) .act .low)
 
 slice-write-fates : tie.Need-slice-write-fates
 slice-write-fates c =
-    let k = known (c .before .before .before .before .before .before .before .before .before .before .before .before .before .before) in
+    let k = known (c .before .before .before .before .before .before .before .before .before .before .before .before .before .before .before) in
     omega (arith, k .act .low, k .act .high, k .room)
 
-add-t34 : tie.Need-add-t34
-add-t34 c = omega (arith, few (c .before .before .before .before .before .before .before .before .before .before .before .before .before .before))
+add-t35 : tie.Need-add-t35
+add-t35 c = omega (arith, few (c .before .before .before .before .before .before .before .before .before .before .before .before .before .before .before))
 
-add-t36 : tie.Need-add-t36
-add-t36 c = omega (arith, few (c .before .before .before .before .before .before .before .before .before .before .before .before .before .before))
+add-t37 : tie.Need-add-t37
+add-t37 c = omega (arith, few (c .before .before .before .before .before .before .before .before .before .before .before .before .before .before .before))
 
 less-one-requires : tie.Need-less-one-requires
 less-one-requires c κs = search needs
@@ -87,8 +90,8 @@ same-length-6 c = search needs
 returns-2 : tie.Need-returns-2
 returns-2 c =
     let d = c .before .before .before .before .before .before .before .before .before .before in
-    let e = d .before .before .before .before .before in
-    decide-done _ _ _ _ _ _ (known e) _ (c .before .before .before .before .before .before .before .outcome-page .ensures) _ _ _ _ (c .before .before .before .before .append .ensures) (c .before .outcome-fate .ensures) (d .settle-rows .ensures) (c .less-one .ensures)
+    let e = d .before .before .before .before .before .before in
+    decide-done _ _ _ _ _ _ (known e) _ (c .before .before .before .before .before .before .before .outcome-page .ensures) _ _ _ _ (c .before .before .before .before .append .ensures) (c .before .outcome-fate .ensures) (rw (d .before .before .before .before .before .file-count .ensures) at (d .settle-rows .ensures)) (c .less-one .ensures)
 
 pub decide-spec : {M : Type 1} → statement M
 decide-spec =
@@ -100,6 +103,7 @@ decide-spec =
     same-length-2
     same-length-3
     returns
+    file-count-requires
     is-opening-at-requires
     settle-rows-requires
     outcome-page-requires
@@ -107,8 +111,8 @@ decide-spec =
     outcome-fate-requires
     sub-fates
     slice-write-fates
-    add-t34
-    add-t36
+    add-t35
+    add-t37
     less-one-requires
     same-length-4
     same-length-5

@@ -11,10 +11,10 @@ use Rattle.calls.proofs.deciding.settle_rows.Statement.{statement}
 use Rattle.calls.proofs.deciding.settle_rows.Tie as tie
 
 abbrev Inv-loop : tie.InvT-loop
-Inv-loop sheet rows₀ files end action opened committed file₀ rows file = (file ≤ files) × (rows ≡ runTo sheet files end action committed rows₀ file)
+Inv-loop sheet rows₀ end files decision file₀ rows file = (file ≤ files) × (rows ≡ runTo sheet files end (decision .action) (decision .committed) rows₀ file)
 
 abbrev μ-loop : tie.MeasureT-loop
-μ-loop sheet rows₀ files end action opened committed file₀ rows file = files - file
+μ-loop sheet rows₀ end files decision file₀ rows file = files - file
 
 long : (c : tie.At-loop Inv-loop μ-loop) → length (c .loop .rows) ≡ length (now (c .before .before .before .args .rows))
 long c = ap length (c .loop .inv .1) ∙ run-long _ _ _ _ _ _ (c .before .before .before .pre .0) _
@@ -22,7 +22,7 @@ long c = ap length (c .loop .inv .1) ∙ run-long _ _ _ _ _ _ (c .before .before
 loop-holds : tie.Need-loop-holds Inv-loop μ-loop
 loop-holds c =
     let s = c .before .before in
-    (search needs, run-none (now (s .args .sheet)) (s .args .files) (s .args .end) (s .args .action) (s .args .committed) (now (s .args .rows)) (s .pre .0))
+    (search needs, run-none (now (s .args .sheet)) (s .args .files) (s .args .end) (s .args .decision .action) (s .args .decision .committed) (now (s .args .rows)) (s .pre .0))
 
 add-file : tie.Need-add-file Inv-loop μ-loop
 add-file c = search needs
@@ -38,7 +38,7 @@ loop-again c =
     let d = c .before .before in
     let l = d .before .before .before in
     let s = l .before .before .before in
-    (search needs, run-more (now (s .args .sheet)) (s .args .files) (s .args .end) (s .args .action) (s .args .committed) (now (s .args .rows)) (l .loop .file) (omega (arith, s .pre, d .before .before .loop-test .taken)) _ _ (l .loop .inv .1) (d .settle-row .ensures))
+    (search needs, run-more (now (s .args .sheet)) (s .args .files) (s .args .end) (s .args .decision .action) (s .args .decision .committed) (now (s .args .rows)) (l .loop .file) (omega (arith, s .pre, d .before .before .loop-test .taken)) _ _ (l .loop .inv .1) (d .settle-row .ensures))
 
 same-length : tie.Need-same-length Inv-loop μ-loop
 same-length c = long (c .before)
@@ -47,7 +47,7 @@ returns : tie.Need-returns Inv-loop μ-loop
 returns c =
     let l = c .before in
     let s = l .before .before .before in
-    run-all (now (s .args .sheet)) (s .args .files) (s .args .end) (s .args .action) (s .args .committed) (now (s .args .rows)) (l .loop .file) _ (omega (arith, s .pre, l .loop .inv .0)) (omega (arith, s .pre, c .loop-test .left)) (l .loop .inv .1)
+    run-all (now (s .args .sheet)) (s .args .files) (s .args .end) (s .args .decision .action) (s .args .decision .committed) (now (s .args .rows)) (l .loop .file) _ (omega (arith, s .pre, l .loop .inv .0)) (omega (arith, s .pre, c .loop-test .left)) (l .loop .inv .1)
 
 pub settle-rows-spec : {M : Type 1} → statement M
 settle-rows-spec =

@@ -1,12 +1,10 @@
 -- `calls::reading::read`: lines 1, 3, 5 and 6, and the rest on a warm row. Assumes nothing.
-use mathlib.Core.Path.{ap, sym, _∙_}
+use mathlib.Core.Path.{sym, _∙_}
 use denote.Ref.{now}
 use Rattle.encoding.proofs.Logic.{refused, passed}
-use Rattle.recovery.specs.Lent.{leftBy}
-use Rattle.recovery.specs.declared.Done.{Done}
 use Rattle.calls.specs.Calls.{read}
 use Rattle.calls.proofs.ReadEnds.{read-3, read-56}
-use Rattle.calls.proofs.Ends.{ends-line-1}
+use Rattle.calls.proofs.Ends.{by-refuse, ends-line-1}
 use borrow.Author.Needs.{needs}
 use Rattle.calls.proofs.reading.read.Statement.{statement}
 use Rattle.calls.proofs.reading.read.Tie as tie
@@ -20,11 +18,10 @@ refuse-requires c κs = search needs
 returns : tie.Need-returns
 returns c =
     let a = c .before .before .before .before .before .before .args in
-    ap (λ (d : Done). leftBy d (now (a .sheet)) (now (a .fates)) (now (a .rows))) (c .refuse .ensures)
-    ∙ ends-line-1 (now (a .sheet)) (now (a .fates)) (now (a .rows)) (a .state) (read (a .file) (a .time) (a .action)) (refused (c .before .before .is-lent-right .ensures) (c .before .if1 .taken))
+    by-refuse _ _ _ _ _ _ (c .refuse .ensures) (ends-line-1 (now (a .sheet)) (now (a .fates)) (now (a .rows)) (a .state) (read (a .file) (a .time) (a .action)) (refused (c .before .before .is-lent-right .ensures) (c .before .if1 .taken)))
 
-is-file-requires : tie.Need-is-file-requires
-is-file-requires c κs = search needs
+has-file-requires : tie.Need-has-file-requires
+has-file-requires c κs = search needs
 
 refuse-requires-2 : tie.Need-refuse-requires-2
 refuse-requires-2 c κs = search needs
@@ -32,8 +29,7 @@ refuse-requires-2 c κs = search needs
 returns-2 : tie.Need-returns-2
 returns-2 c =
     let a = c .before .before .before .before .before .before .before .before .args in
-    ap (λ (d : Done). leftBy d (now (a .sheet)) (now (a .fates)) (now (a .rows))) (c .refuse2 .ensures)
-    ∙ read-3 (now (a .sheet)) (now (a .fates)) (now (a .rows)) (a .state) (passed (c .before .before .before .before .is-lent-right .ensures) (c .before .before .before .if1 .left)) (a .file) (a .time) (a .action) (refused (c .before .before .is-file .ensures) (c .before .if2 .taken))
+    by-refuse _ _ _ _ _ _ (c .refuse2 .ensures) (read-3 (now (a .sheet)) (now (a .fates)) (now (a .rows)) (a .state) (passed (c .before .before .before .before .is-lent-right .ensures) (c .before .before .before .if1 .left)) (a .file) (a .time) (a .action) (refused (c .before .before .has-file .ensures) (c .before .if2 .taken)))
 
 read-line-requires : tie.Need-read-line-requires
 read-line-requires c κs = search needs
@@ -44,11 +40,10 @@ refuse-requires-3 c κs = search needs
 returns-3 : tie.Need-returns-3
 returns-3 c =
     let a = c .before .before .before .before .before .before .before .before .before .before .args in
-    ap (λ (d : Done). leftBy d (now (a .sheet)) (now (a .fates)) (now (a .rows))) (c .refuse3 .ensures)
-    ∙ read-56 (now (a .sheet)) (now (a .fates)) (now (a .rows)) (a .state) (passed (c .before .before .before .before .before .before .is-lent-right .ensures) (c .before .before .before .before .before .if1 .left)) (a .file) (a .time) (a .action) (passed (c .before .before .before .before .is-file .ensures) (c .before .before .before .if2 .left)) _ (c .before .before .read-line .ensures) (c .before .if3 .taken)
+    by-refuse _ _ _ _ _ _ (c .refuse3 .ensures) (read-56 (now (a .sheet)) (now (a .fates)) (now (a .rows)) (a .state) (passed (c .before .before .before .before .before .before .is-lent-right .ensures) (c .before .before .before .before .before .if1 .left)) (a .file) (a .time) (a .action) (passed (c .before .before .before .before .has-file .ensures) (c .before .before .before .if2 .left)) _ (c .before .before .read-line .ensures) (c .before .if3 .taken))
 
 read-warm-requires : tie.Need-read-warm-requires
-read-warm-requires c κs = (passed (c .before .before .before .before .before .before .is-lent-right .ensures) (c .before .before .before .before .before .if1 .left), passed (c .before .before .before .before .is-file .ensures) (c .before .before .before .if2 .left), sym (c .before .before .read-line .ensures) ∙ c .before .if3 .left)
+read-warm-requires c κs = (passed (c .before .before .before .before .before .before .is-lent-right .ensures) (c .before .before .before .before .before .if1 .left), passed (c .before .before .before .before .has-file .ensures) (c .before .before .before .if2 .left), sym (c .before .before .read-line .ensures) ∙ c .before .if3 .left)
 
 same-length : tie.Need-same-length
 same-length c = search needs
@@ -63,7 +58,7 @@ read-spec =
     is-lent-right-requires
     refuse-requires
     returns
-    is-file-requires
+    has-file-requires
     refuse-requires-2
     returns-2
     read-line-requires

@@ -1,7 +1,7 @@
 -- `calls::reading::read_line`: action 0, or lines 5 and 6. Assumes nothing.
 use denote.Ref.{now}
 use mathlib.Core.Path.{_∙_}
-use Rattle.calls.proofs.ReadLines.{any-line, own-line}
+use Rattle.calls.proofs.ActionLines.{any-line, own-line}
 use borrow.Author.Needs.{needs}
 use Rattle.calls.proofs.reading.read_line.Statement.{statement}
 use Rattle.calls.proofs.reading.read_line.Tie as tie

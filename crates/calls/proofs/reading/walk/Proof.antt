@@ -13,10 +13,10 @@ use Rattle.calls.proofs.reading.walk.Statement.{statement}
 use Rattle.calls.proofs.reading.walk.Tie as tie
 
 abbrev Inv-loop : tie.InvT-loop
-Inv-loop sheet files file time from place₀ x₀ left₀ place x left = (sealedImage files sheet file place ≡ sought.Sought.Image x) × (walkAt files sheet file time left place x ≡ walkAt files sheet file time (length sheet / pageSize) from x₀)
+Inv-loop sheet from files file time place₀ x₀ left₀ place x left = (sealedImage files sheet file place ≡ sought.Sought.Image x) × (walkAt files sheet file time left place x ≡ walkAt files sheet file time (length sheet / pageSize) from x₀)
 
 abbrev μ-loop : tie.MeasureT-loop
-μ-loop sheet files file time from place₀ x₀ left₀ place x left = left
+μ-loop sheet from files file time place₀ x₀ left₀ place x left = left
 
 loop-holds : tie.Need-loop-holds Inv-loop μ-loop
 loop-holds c = (c .before .pre, refl)

@@ -1,7 +1,6 @@
--- `calls::writing::store_answer`: lines 10, 11 and 12. Assumes nothing.
+-- `calls::writing::store_answer`: line 10, then 11 and 12. Assumes nothing.
 use denote.Ref.{now}
-use borrow.Author.Tests.{not-true, not-false}
-use Rattle.calls.proofs.WriteAnswers.{store-10, store-floor, store-11, store-12, store-yes}
+use Rattle.calls.proofs.WriteAnswers.{store-10, store-floor, store-refused, store-yes}
 use borrow.Author.Needs.{needs}
 use Rattle.calls.proofs.writing.store_answer.Statement.{statement}
 use Rattle.calls.proofs.writing.store_answer.Tie as tie
@@ -16,39 +15,26 @@ returns-2 c =
     let a = c .before .before .before .before .before .args in
     store-floor (now (a .sheet)) (a .files) (a .state) (a .start) (a .row) (c .before .before .if1 .left) (c .if2 .taken)
 
-sub-if3 : tie.Need-sub-if3
-sub-if3 c = search needs
+add-room-line : tie.Need-add-room-line
+add-room-line c = search needs
+
+room-line-requires : tie.Need-room-line-requires
+room-line-requires c κs = search needs
 
 returns-3 : tie.Need-returns-3
 returns-3 c =
     let a = c .before .before .before .before .before .before .before .before .args in
-    store-11 (now (a .sheet)) (a .files) (a .state) (a .start) (a .row) (c .before .before .before .before .before .if1 .left) (c .before .before .before .if2 .left) (c .if3 .taken)
+    store-refused (now (a .sheet)) (a .files) (a .state) (a .start) (a .row) (c .before .before .before .before .before .if1 .left) (c .before .before .before .if2 .left) _ (c .before .room-line .ensures) (c .if3 .taken)
 
-add-place : tie.Need-add-place
-add-place c = search needs
-
-is-blank-at-requires : tie.Need-is-blank-at-requires
-is-blank-at-requires c κs = search needs
+add-t8 : tie.Need-add-t8
+add-t8 c = search needs
 
 returns-4 : tie.Need-returns-4
 returns-4 c =
-    let a = c .before .before .before .before .before .before .before .before .before .before .before .args in
-    store-12 (now (a .sheet)) (a .files) (a .state) (a .start) (a .row) (c .before .before .before .before .before .before .before .before .if1 .left) (c .before .before .before .before .before .before .if2 .left) (c .before .before .before .if3 .left) _ (c .before .is-blank-at .ensures) (not-true _ (c .if4 .taken))
-
-returns-5 : tie.Need-returns-5
-returns-5 c =
-    let a = c .before .before .before .before .before .before .before .before .before .before .before .args in
-    store-yes (now (a .sheet)) (a .files) (a .state) (a .start) (a .row) (c .before .before .before .before .before .before .before .before .if1 .left) (c .before .before .before .before .before .before .if2 .left) (c .before .before .before .if3 .left) _ (c .before .is-blank-at .ensures) (not-false _ (c .if4 .left))
+    let a = c .before .before .before .before .before .before .before .before .before .args in
+    store-yes (now (a .sheet)) (a .files) (a .state) (a .start) (a .row) (c .before .before .before .before .before .before .if1 .left) (c .before .before .before .before .if2 .left) _ (c .before .before .room-line .ensures) (c .before .if3 .left)
 
 pub store-answer-spec : {M : Type 1} → statement M
 store-answer-spec =
     tie.close
-    (tie.spec
-    returns
-    returns-2
-    sub-if3
-    returns-3
-    add-place
-    is-blank-at-requires
-    returns-4
-    returns-5)
+    (tie.spec returns returns-2 add-room-line room-line-requires returns-3 add-t8 returns-4)

@@ -1,12 +1,10 @@
 -- `calls::writing::write`: lines 1, 3, 4, 5 and 6, and the rest on a warm row. Assumes nothing.
-use mathlib.Core.Path.{ap, sym, _∙_}
+use mathlib.Core.Path.{sym, _∙_}
 use denote.Ref.{now}
 use Rattle.encoding.proofs.Logic.{refused, passed}
-use Rattle.recovery.specs.Lent.{leftBy}
-use Rattle.recovery.specs.declared.Done.{Done}
 use Rattle.calls.specs.Calls.{write}
 use Rattle.calls.proofs.WriteEnds.{write-3, write-4, write-56}
-use Rattle.calls.proofs.Ends.{ends-line-1}
+use Rattle.calls.proofs.Ends.{by-refuse, ends-line-1}
 use borrow.Author.Needs.{needs}
 use Rattle.calls.proofs.writing.write.Statement.{statement}
 use Rattle.calls.proofs.writing.write.Tie as tie
@@ -20,11 +18,10 @@ refuse-requires c κs = search needs
 returns : tie.Need-returns
 returns c =
     let a = c .before .before .before .before .before .before .before .args in
-    ap (λ (d : Done). leftBy d (now (a .sheet)) (now (a .fates)) (now (a .rows))) (c .refuse .ensures)
-    ∙ ends-line-1 (now (a .sheet)) (now (a .fates)) (now (a .rows)) (a .state) (write (a .file) (a .start) (a .action) (now (a .value))) (refused (c .before .before .is-lent-right .ensures) (c .before .if1 .taken))
+    by-refuse _ _ _ _ _ _ (c .refuse .ensures) (ends-line-1 (now (a .sheet)) (now (a .fates)) (now (a .rows)) (a .state) (write (a .file) (a .start) (a .action) (now (a .value))) (refused (c .before .before .is-lent-right .ensures) (c .before .if1 .taken)))
 
-is-file-requires : tie.Need-is-file-requires
-is-file-requires c κs = search needs
+has-file-requires : tie.Need-has-file-requires
+has-file-requires c κs = search needs
 
 refuse-requires-2 : tie.Need-refuse-requires-2
 refuse-requires-2 c κs = search needs
@@ -32,8 +29,7 @@ refuse-requires-2 c κs = search needs
 returns-2 : tie.Need-returns-2
 returns-2 c =
     let a = c .before .before .before .before .before .before .before .before .before .args in
-    ap (λ (d : Done). leftBy d (now (a .sheet)) (now (a .fates)) (now (a .rows))) (c .refuse2 .ensures)
-    ∙ write-3 (now (a .sheet)) (now (a .fates)) (now (a .rows)) (a .state) (passed (c .before .before .before .before .is-lent-right .ensures) (c .before .before .before .if1 .left)) (a .file) (a .start) (a .action) (now (a .value)) (refused (c .before .before .is-file .ensures) (c .before .if2 .taken))
+    by-refuse _ _ _ _ _ _ (c .refuse2 .ensures) (write-3 (now (a .sheet)) (now (a .fates)) (now (a .rows)) (a .state) (passed (c .before .before .before .before .is-lent-right .ensures) (c .before .before .before .if1 .left)) (a .file) (a .start) (a .action) (now (a .value)) (refused (c .before .before .has-file .ensures) (c .before .if2 .taken)))
 
 refuse-requires-3 : tie.Need-refuse-requires-3
 refuse-requires-3 c κs = search needs
@@ -41,8 +37,7 @@ refuse-requires-3 c κs = search needs
 returns-3 : tie.Need-returns-3
 returns-3 c =
     let a = c .before .before .before .before .before .before .before .before .before .before .args in
-    ap (λ (d : Done). leftBy d (now (a .sheet)) (now (a .fates)) (now (a .rows))) (c .refuse3 .ensures)
-    ∙ write-4 (now (a .sheet)) (now (a .fates)) (now (a .rows)) (a .state) (passed (c .before .before .before .before .before .is-lent-right .ensures) (c .before .before .before .before .if1 .left)) (a .file) (a .start) (a .action) (now (a .value)) (passed (c .before .before .before .is-file .ensures) (c .before .before .if2 .left)) (c .before .if3 .taken)
+    by-refuse _ _ _ _ _ _ (c .refuse3 .ensures) (write-4 (now (a .sheet)) (now (a .fates)) (now (a .rows)) (a .state) (passed (c .before .before .before .before .before .is-lent-right .ensures) (c .before .before .before .before .if1 .left)) (a .file) (a .start) (a .action) (now (a .value)) (passed (c .before .before .before .has-file .ensures) (c .before .before .if2 .left)) (c .before .if3 .taken))
 
 action-line-requires : tie.Need-action-line-requires
 action-line-requires c κs = search needs
@@ -53,11 +48,10 @@ refuse-requires-4 c κs = search needs
 returns-4 : tie.Need-returns-4
 returns-4 c =
     let a = c .before .before .before .before .before .before .before .before .before .before .before .before .args in
-    ap (λ (d : Done). leftBy d (now (a .sheet)) (now (a .fates)) (now (a .rows))) (c .refuse4 .ensures)
-    ∙ write-56 (now (a .sheet)) (now (a .fates)) (now (a .rows)) (a .state) (passed (c .before .before .before .before .before .before .before .is-lent-right .ensures) (c .before .before .before .before .before .before .if1 .left)) (a .file) (a .start) (a .action) (now (a .value)) (passed (c .before .before .before .before .before .is-file .ensures) (c .before .before .before .before .if2 .left)) (c .before .before .before .if3 .left) _ (c .before .before .action-line .ensures) (c .before .if4 .taken)
+    by-refuse _ _ _ _ _ _ (c .refuse4 .ensures) (write-56 (now (a .sheet)) (now (a .fates)) (now (a .rows)) (a .state) (passed (c .before .before .before .before .before .before .before .is-lent-right .ensures) (c .before .before .before .before .before .before .if1 .left)) (a .file) (a .start) (a .action) (now (a .value)) (passed (c .before .before .before .before .before .has-file .ensures) (c .before .before .before .before .if2 .left)) (c .before .before .before .if3 .left) _ (c .before .before .action-line .ensures) (c .before .if4 .taken))
 
 write-warm-requires : tie.Need-write-warm-requires
-write-warm-requires c κs = (passed (c .before .before .before .before .before .before .before .before .is-lent-right .ensures) (c .before .before .before .before .before .before .before .if1 .left), passed (c .before .before .before .before .before .before .is-file .ensures) (c .before .before .before .before .before .if2 .left), c .before .before .before .before .if3 .left, sym (c .before .before .before .action-line .ensures) ∙ c .before .before .if4 .left)
+write-warm-requires c κs = (passed (c .before .before .before .before .before .before .before .before .is-lent-right .ensures) (c .before .before .before .before .before .before .before .if1 .left), passed (c .before .before .before .before .before .before .has-file .ensures) (c .before .before .before .before .before .if2 .left), c .before .before .before .before .if3 .left, sym (c .before .before .before .action-line .ensures) ∙ c .before .before .if4 .left)
 
 same-length : tie.Need-same-length
 same-length c = search needs
@@ -75,7 +69,7 @@ write-spec =
     is-lent-right-requires
     refuse-requires
     returns
-    is-file-requires
+    has-file-requires
     refuse-requires-2
     returns-2
     refuse-requires-3

@@ -12,14 +12,18 @@ use Rattle.calls.proofs.writing.write_warm.Tie as tie
 pad-requires : tie.Need-pad-requires
 pad-requires c κs = c .before .before .before .before .pre .2
 
+file-count-requires : tie.Need-file-count-requires
+file-count-requires c κs = search needs
+
 warm-row-requires : tie.Need-warm-row-requires
 warm-row-requires c κs = search needs
 
 write-answer-requires : tie.Need-write-answer-requires
 write-answer-requires c κs =
-    let b = c .before .before .before .before .before .before .before .before .before .before .before in
+    let b = c .before .before .before .before .before .before .before .before .before .before .before .before in
     let a = b .args in
-    lent-is (length (now (a .sheet))) (length (now (a .fates))) (length (now (a .rows))) (a .state .end) (a .state .undecided) (b .pre .0) .end-in
+    let k = lent-is (length (now (a .sheet))) (length (now (a .fates))) (length (now (a .rows))) (a .state .end) (a .state .undecided) (b .pre .0) in
+    (k .end-in, k .few)
 
 enum-known-answer : tie.Need-enum-known-answer
 enum-known-answer c = search needs
@@ -32,9 +36,9 @@ same-length-2 c = search needs
 
 returns : tie.Need-returns
 returns c =
-    let b = c .before .before .before .before .before .before .before .before .before .before .before .before .before in
+    let b = c .before .before .before .before .before .before .before .before .before .before .before .before .before .before in
     let a = b .args in
-    write-refused (now (a .sheet)) (now (a .fates)) (now (a .rows)) (a .state) (b .pre .0) (a .file) (a .start) (a .action) (now (a .value)) (b .pre .1) (b .pre .2) (b .pre .3) _ _ (c .before .before .before .before .before .warm-row .ensures) (c .before .write-answer .result) (c .before .write-answer .ensures) (c .match .keys2)
+    write-refused (now (a .sheet)) (now (a .fates)) (now (a .rows)) (a .state) (b .pre .0) (a .file) (a .start) (a .action) (now (a .value)) (b .pre .1) (b .pre .2) (b .pre .3) _ _ (c .before .before .before .before .before .warm-row .ensures) (c .before .write-answer .result) (rw (c .before .before .before .before .before .before .before .before .file-count .ensures) at (c .before .write-answer .ensures)) (c .match .keys2)
 
 written-row-requires : tie.Need-written-row-requires
 written-row-requires c κs = search needs
@@ -47,9 +51,9 @@ image-requires c κs = search needs
 
 append-requires : tie.Need-append-requires
 append-requires c κs =
-    let b = c .before .before .before .before .before .before .before .before .before .before .before .before .before .before .before .before .before .before .before .before .before .before .before in
+    let b = c .before .before .before .before .before .before .before .before .before .before .before .before .before .before .before .before .before .before .before .before .before .before .before .before in
     let a = b .args in
-    append-asked (now (a .sheet)) (now (a .fates)) (now (a .rows)) (a .state) (b .pre .0) (a .file) (a .start) (a .action) (now (a .value)) (b .pre .1) (b .pre .2) (b .pre .3) _ _ (c .before .before .before .before .before .before .before .before .before .before .before .before .before .before .before .warm-row .ensures) _ (sym (c .before .before .before .before .before .before .before .before .before .answer .given .1) ∙ c .before .before .before .before .before .before .before .before .before .before .before .write-answer .ensures) (b .fits .start .fits) _ (c .before .before .image .ensures) _ (c .before .before .before .before .before .before .before .before .before .before .before .before .before .before .before .before .before .before .pad .ensures)
+    rw (c .before .before .before .before .before .before .before .before .before .before .before .before .before .before .before .before .before .before .file-count .ensures) (append-asked (now (a .sheet)) (now (a .fates)) (now (a .rows)) (a .state) (b .pre .0) (a .file) (a .start) (a .action) (now (a .value)) (b .pre .1) (b .pre .2) (b .pre .3) _ _ (c .before .before .before .before .before .before .before .before .before .before .before .before .before .before .before .warm-row .ensures) _ (rw (c .before .before .before .before .before .before .before .before .before .before .before .before .before .before .before .before .before .before .file-count .ensures) at (sym (c .before .before .before .before .before .before .before .before .before .answer .given .1) ∙ c .before .before .before .before .before .before .before .before .before .before .before .write-answer .ensures)) (b .fits .start .fits) _ (c .before .before .image .ensures) _ (c .before .before .before .before .before .before .before .before .before .before .before .before .before .before .before .before .before .before .before .pad .ensures))
 
 same-length-3 : tie.Need-same-length-3
 same-length-3 c = search needs
@@ -59,15 +63,16 @@ same-length-4 c = omega (arith, c .before .before .before .before .before .befor
 
 returns-2 : tie.Need-returns-2
 returns-2 c =
-    let b = c .before .before .before .before .before .before .before .before .before .before .before .before .before .before .before .before .before .before .before .before .before .before .before .before .before .before in
+    let b = c .before .before .before .before .before .before .before .before .before .before .before .before .before .before .before .before .before .before .before .before .before .before .before .before .before .before .before in
     let a = b .args in
-    write-done (now (a .sheet)) (now (a .fates)) (now (a .rows)) (a .state) (b .pre .0) (a .file) (a .start) (a .action) (now (a .value)) (b .pre .1) (b .pre .2) (b .pre .3) _ _ (c .before .before .before .before .before .before .before .before .before .before .before .before .before .before .before .before .before .before .warm-row .ensures) _ (sym (c .before .before .before .before .before .before .before .before .before .before .before .before .answer .given .1) ∙ c .before .before .before .before .before .before .before .before .before .before .before .before .before .before .write-answer .ensures) _ (c .before .before .before .before .before .image .ensures) _ (c .before .before .before .before .before .before .before .before .before .written-row .ensures) _ _ _ (c .before .before .before .before .before .before .before .before .before .before .before .before .before .before .before .before .before .before .before .before .before .pad .ensures) (c .before .before .append .ensures) (c .before .before .before .before .before .before .before .before .set-row .ensures)
+    write-done (now (a .sheet)) (now (a .fates)) (now (a .rows)) (a .state) (b .pre .0) (a .file) (a .start) (a .action) (now (a .value)) (b .pre .1) (b .pre .2) (b .pre .3) _ _ (c .before .before .before .before .before .before .before .before .before .before .before .before .before .before .before .before .before .before .warm-row .ensures) _ (rw (c .before .before .before .before .before .before .before .before .before .before .before .before .before .before .before .before .before .before .before .before .before .file-count .ensures) at (sym (c .before .before .before .before .before .before .before .before .before .before .before .before .answer .given .1) ∙ c .before .before .before .before .before .before .before .before .before .before .before .before .before .before .write-answer .ensures)) _ (c .before .before .before .before .before .image .ensures) _ (c .before .before .before .before .before .before .before .before .before .written-row .ensures) _ _ _ (c .before .before .before .before .before .before .before .before .before .before .before .before .before .before .before .before .before .before .before .before .before .before .pad .ensures) (c .before .before .append .ensures) (c .before .before .before .before .before .before .before .before .set-row .ensures)
 
 pub write-warm-spec : {M : Type 1} → statement M
 write-warm-spec =
     tie.close
     (tie.spec
     pad-requires
+    file-count-requires
     warm-row-requires
     write-answer-requires
     enum-known-answer

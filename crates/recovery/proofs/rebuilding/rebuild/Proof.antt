@@ -21,8 +21,8 @@ returns c =
     ap (λ (d : Done). leftBy d (now (a .sheet)) (now (a .fates)) (now (a .rows))) (c .refuse .ensures)
     ∙ rebuild-line-1 (now (a .sheet)) (now (a .fates)) (now (a .rows)) (a .state) (a .file) (refused (c .before .before .is-lent-right .ensures) (c .before .if1 .taken))
 
-is-file-requires : tie.Need-is-file-requires
-is-file-requires c κs = search needs
+has-file-requires : tie.Need-has-file-requires
+has-file-requires c κs = search needs
 
 refuse-requires-2 : tie.Need-refuse-requires-2
 refuse-requires-2 c κs = search needs
@@ -31,7 +31,10 @@ returns-2 : tie.Need-returns-2
 returns-2 c =
     let a = c .before .before .before .before .before .before .before .before .args in
     ap (λ (d : Done). leftBy d (now (a .sheet)) (now (a .fates)) (now (a .rows))) (c .refuse2 .ensures)
-    ∙ rebuild-line-3 (now (a .sheet)) (now (a .fates)) (now (a .rows)) (a .state) (a .file) (passed (c .before .before .before .before .is-lent-right .ensures) (c .before .before .before .if1 .left)) (refused (c .before .before .is-file .ensures) (c .before .if2 .taken))
+    ∙ rebuild-line-3 (now (a .sheet)) (now (a .fates)) (now (a .rows)) (a .state) (a .file) (passed (c .before .before .before .before .is-lent-right .ensures) (c .before .before .before .if1 .left)) (refused (c .before .before .has-file .ensures) (c .before .if2 .taken))
+
+file-count-requires : tie.Need-file-count-requires
+file-count-requires c κs = search needs
 
 warm-row-requires : tie.Need-warm-row-requires
 warm-row-requires c κs = search needs
@@ -47,19 +50,19 @@ same-length c = search needs
 
 returns-3 : tie.Need-returns-3
 returns-3 c =
-    let a = c .before .before .before .before .before .before .before .before .before .before .before .before .before .before .args in
+    let a = c .before .before .before .before .before .before .before .before .before .before .before .before .before .before .before .args in
     let w = c .before .before .before .before .before .warm-row in
     ap (λ (d : Done). leftBy d (now (a .sheet)) (now (a .fates)) (w .last .1 .1 .0)) (c .refuse3 .ensures)
-    ∙ rebuild-line-7 (now (a .sheet)) (now (a .fates)) (now (a .rows)) (a .state) (a .file) (passed (c .before .before .before .before .before .before .before .before .before .before .is-lent-right .ensures) (c .before .before .before .before .before .before .before .before .before .if1 .left)) (passed (c .before .before .before .before .before .before .before .before .is-file .ensures) (c .before .before .before .before .before .before .before .if2 .left)) (w .result) _ (w .ensures) (refused (c .before .before .is-row-held .ensures) (c .before .if3 .taken))
+    ∙ rebuild-line-7 (now (a .sheet)) (now (a .fates)) (now (a .rows)) (a .state) (a .file) (passed (c .before .before .before .before .before .before .before .before .before .before .before .is-lent-right .ensures) (c .before .before .before .before .before .before .before .before .before .before .if1 .left)) (passed (c .before .before .before .before .before .before .before .before .before .has-file .ensures) (c .before .before .before .before .before .before .before .before .if2 .left)) (w .result) _ (w .ensures) (refused (rw (c .before .before .before .before .before .before .before .file-count .ensures) at (c .before .before .is-row-held .ensures)) (c .before .if3 .taken))
 
 same-length-2 : tie.Need-same-length-2
 same-length-2 c = search needs
 
 returns-4 : tie.Need-returns-4
 returns-4 c =
-    let a = c .before .before .before .before .before .before .before .before .before .before .before .before .before .args in
+    let a = c .before .before .before .before .before .before .before .before .before .before .before .before .before .before .args in
     let w = c .before .before .before .before .warm-row in
-    rebuild-done (now (a .sheet)) (now (a .fates)) (now (a .rows)) (a .state) (a .file) (passed (c .before .before .before .before .before .before .before .before .before .is-lent-right .ensures) (c .before .before .before .before .before .before .before .before .if1 .left)) (passed (c .before .before .before .before .before .before .before .is-file .ensures) (c .before .before .before .before .before .before .if2 .left)) (w .result) _ (w .ensures) (passed (c .before .is-row-held .ensures) (c .if3 .left))
+    rebuild-done (now (a .sheet)) (now (a .fates)) (now (a .rows)) (a .state) (a .file) (passed (c .before .before .before .before .before .before .before .before .before .before .is-lent-right .ensures) (c .before .before .before .before .before .before .before .before .before .if1 .left)) (passed (c .before .before .before .before .before .before .before .before .has-file .ensures) (c .before .before .before .before .before .before .before .if2 .left)) (w .result) _ (w .ensures) (passed (rw (c .before .before .before .before .before .before .file-count .ensures) at (c .before .is-row-held .ensures)) (c .if3 .left))
 
 pub rebuild-spec : {M : Type 1} → statement M
 rebuild-spec =
@@ -68,9 +71,10 @@ rebuild-spec =
     is-lent-right-requires
     refuse-requires
     returns
-    is-file-requires
+    has-file-requires
     refuse-requires-2
     returns-2
+    file-count-requires
     warm-row-requires
     is-row-held-requires
     refuse-requires-3

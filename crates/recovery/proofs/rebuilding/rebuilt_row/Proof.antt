@@ -22,13 +22,13 @@ use Rattle.recovery.proofs.rebuilding.rebuilt_row.Statement.{statement}
 use Rattle.recovery.proofs.rebuilding.rebuilt_row.Tie as tie
 
 abbrev Inv-loop : tie.InvT-loop
-Inv-loop sheet fates files file end place₀ token₀ tokenend₀ place token tokenend =
+Inv-loop sheet fates end files file place₀ token₀ tokenend₀ place token tokenend =
     (place ≤ length sheet / 64)
     × (overlay token tokenend (rowTo files sheet fates file place) ≡ rowTo files sheet fates file end)
     × (token ≡ 0 → tokenend ≡ 0)
 
 abbrev μ-loop : tie.MeasureT-loop
-μ-loop sheet fates files file end place₀ token₀ tokenend₀ place token tokenend = place
+μ-loop sheet fates end files file place₀ token₀ tokenend₀ place token tokenend = place
 
 -- the cheap look and the page test, at the page that a turn looks at
 named-at : (c : tie.After-names Inv-loop μ-loop) → c .names .result ≡ named (pageBytes (now (c .before .before .before .before .before .before .before .args .sheet)) (c .before .before .before .loop .place)) (c .before .before .before .before .before .before .before .args .file)

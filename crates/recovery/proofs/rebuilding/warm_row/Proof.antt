@@ -16,6 +16,9 @@ returns c =
     let a = c .before .before .before .before .before .before .before .args in
     warm-same (now (a .sheet)) (now (a .fates)) (now (a .rows)) (a .file) (a .end) (c .before .before .row-of .result) (c .before .before .row-of .ensures) (c .if1 .taken)
 
+file-count-requires : tie.Need-file-count-requires
+file-count-requires c κs = search needs
+
 rebuilt-row-requires : tie.Need-rebuilt-row-requires
 rebuilt-row-requires c κs = search needs
 
@@ -27,8 +30,8 @@ same-length-2 c = search needs
 
 returns-2 : tie.Need-returns-2
 returns-2 c =
-    let a = c .before .before .before .before .before .before .before .before .before .before .before .before .args in
-    warm-new (now (a .sheet)) (now (a .fates)) (now (a .rows)) (a .file) (a .end) (c .before .before .before .before .before .before .before .row-of .result) (c .before .before .before .before .before .before .before .row-of .ensures) (c .before .before .before .before .before .if1 .left) _ _ (c .before .before .before .before .rebuilt-row .ensures) (c .before .before .set-row .ensures)
+    let a = c .before .before .before .before .before .before .before .before .before .before .before .before .before .args in
+    warm-new (now (a .sheet)) (now (a .fates)) (now (a .rows)) (a .file) (a .end) (c .before .before .before .before .before .before .before .before .row-of .result) (c .before .before .before .before .before .before .before .before .row-of .ensures) (c .before .before .before .before .before .before .if1 .left) _ _ (rw (c .before .before .before .before .before .file-count .ensures) at (c .before .before .before .before .rebuilt-row .ensures)) (c .before .before .set-row .ensures)
 
 pub warm-row-spec : {M : Type 1} → statement M
 warm-row-spec =
@@ -37,6 +40,7 @@ warm-row-spec =
     row-of-requires
     same-length
     returns
+    file-count-requires
     rebuilt-row-requires
     set-row-requires
     same-length-2

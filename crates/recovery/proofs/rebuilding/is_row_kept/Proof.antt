@@ -1,11 +1,11 @@
--- `calls::reading::is_row_kept`: each test by its definition. Assumes nothing.
+-- `recovery::rebuilding::is_row_kept`: each test by its definition. Assumes nothing.
 use mathlib.Core.Path.{ap, ap₂}
 use mathlib.Core.Bool.{Bool, _&&_}
 use lib.Dec.{leb}
-use Rattle.calls.specs.ReadSteps.{rowKept}
+use Rattle.recovery.specs.Steps.{rowKept}
 use borrow.Author.Needs.{needs}
-use Rattle.calls.proofs.reading.is_row_kept.Statement.{statement}
-use Rattle.calls.proofs.reading.is_row_kept.Tie as tie
+use Rattle.recovery.proofs.rebuilding.is_row_kept.Statement.{statement}
+use Rattle.recovery.proofs.rebuilding.is_row_kept.Tie as tie
 
 is-place-kept-requires : tie.Need-is-place-kept-requires
 is-place-kept-requires c κs = search needs

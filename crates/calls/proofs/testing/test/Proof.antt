@@ -1,10 +1,10 @@
--- `calls::deciding::test`: lines 1 and 5, and the fate. Assumes nothing.
+-- `calls::testing::test`: lines 1 and 5, and the fate. Assumes nothing.
 use Rattle.encoding.proofs.Logic.{refused, passed}
-use Rattle.calls.proofs.Ends.{ends-line-1}
-use Rattle.calls.proofs.DecideLines.{by-refuse, test-none, test-told}
+use Rattle.calls.proofs.Ends.{by-refuse, ends-line-1}
+use Rattle.calls.proofs.BeginEnds.{test-none, test-told}
 use borrow.Author.Needs.{needs}
-use Rattle.calls.proofs.deciding.test.Statement.{statement}
-use Rattle.calls.proofs.deciding.test.Tie as tie
+use Rattle.calls.proofs.testing.test.Statement.{statement}
+use Rattle.calls.proofs.testing.test.Tie as tie
 
 is-lent-right-requires : tie.Need-is-lent-right-requires
 is-lent-right-requires c κs = search needs

@@ -1,8 +1,8 @@
--- `calls::reading::is_place_kept`: by its four ways out. Assumes nothing.
-use Rattle.calls.proofs.ReadImages.{place-zero, place-above, place-image, place-other}
+-- `recovery::rebuilding::is_place_kept`: by its four ways out. Assumes nothing.
+use Rattle.recovery.proofs.Held.{place-zero, place-above, place-image, place-other}
 use borrow.Author.Needs.{needs}
-use Rattle.calls.proofs.reading.is_place_kept.Statement.{statement}
-use Rattle.calls.proofs.reading.is_place_kept.Tie as tie
+use Rattle.recovery.proofs.rebuilding.is_place_kept.Statement.{statement}
+use Rattle.recovery.proofs.rebuilding.is_place_kept.Tie as tie
 
 returns : tie.Need-returns
 returns c = place-zero _ _ (c .if1 .taken) _

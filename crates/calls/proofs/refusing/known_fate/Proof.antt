@@ -1,8 +1,8 @@
--- `calls::deciding::known_fate`: what line 5 asks of the lent fate. Assumes nothing.
-use Rattle.calls.proofs.DecideLines.{fate-above, fate-high, fate-low}
+-- `calls::refusing::known_fate`: what line 5 asks of the lent fate. Assumes nothing.
+use Rattle.calls.proofs.ActionLines.{fate-above, fate-high, fate-low}
 use borrow.Author.Needs.{needs}
-use Rattle.calls.proofs.deciding.known_fate.Statement.{statement}
-use Rattle.calls.proofs.deciding.known_fate.Tie as tie
+use Rattle.calls.proofs.refusing.known_fate.Statement.{statement}
+use Rattle.calls.proofs.refusing.known_fate.Tie as tie
 
 fate-at-requires : tie.Need-fate-at-requires
 fate-at-requires c κs = search needs
