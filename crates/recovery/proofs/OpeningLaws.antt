@@ -79,9 +79,9 @@ module _ (s fates rows : List ℕ) (floor : ℕ) where
         opened-by true (k .sizes-are)
         ∙ ap (λ (b : Bool). cond b (leaves s (opened sheet fates (rowsOf rows) floor)) (refused 1 0 s fates rows closed)) (sym (k .whole-is))
 
-    module _ (n : ℕ) (m : n ≡ length fates) (sc : Scan) (kept : List ℕ) (h : Scanned (length rows / rowLength) n s sc kept) where
+    module _ (n files : ℕ) (m : n ≡ length fates) (c : files ≡ length rows / rowLength) (sc : Scan) (kept : List ℕ) (h : Scanned files n s sc kept) where
       here : Scanned (length rows / rowLength) (length s / pageSize) s sc kept
-      here = subst (λ (x : ℕ). Scanned (length rows / rowLength) x s sc kept) (m ∙ k .fates-are) h
+      here = subst (λ (x : ℕ). Scanned (length rows / rowLength) x s sc kept) (m ∙ k .fates-are) (subst (λ (x : ℕ). Scanned x n s sc kept) c h)
 
       long : length s / pageSize ≡ length sheet
       long = sym (pages-long (length rows / rowLength) (length s / pageSize) s)

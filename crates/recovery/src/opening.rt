@@ -2,9 +2,9 @@
 // refused opening leaves those that are lent.
 use crate::Answer;
 use crate::Done;
-use crate::ROW_LENGTH;
 use crate::State;
 use crate::is_sized;
+use crate::rows::file_count;
 use encoding::copy;
 use page::Page;
 use page::Unpacked;
@@ -144,7 +144,7 @@ fn open_with(sheet: &[u8], fates: &mut [u8], rows: &mut [u64], floor: u64, kept:
     requires { ⌜ (sizesRight (length (now sheet)) (length (now fates)) (length (now rows)) ≡ true) × (length (now kept) ≡ length (now fates)) × (now kept ≡ replicate (length (now kept)) 0) ⌝ }
     ensures { λ r. ⌜ leftBy r (now (sheet .entry)) (now (fates .exit)) (now (rows .exit)) ≡ openLeaves (now (sheet .entry)) (now (fates .entry)) (now (rows .entry)) floor ⌝ }
 {
-    let files = (rows.len() / ROW_LENGTH) as u64;
+    let files = file_count(rows.len());
     let scan = scan_pages(sheet, kept, files);
     if scan.bad != 0 {
         return refuse(2, scan.bad);

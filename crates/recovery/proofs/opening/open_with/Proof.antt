@@ -7,11 +7,15 @@ use borrow.Author.Needs.{needs}
 use Rattle.recovery.proofs.opening.open_with.Statement.{statement}
 use Rattle.recovery.proofs.opening.open_with.Tie as tie
 
+file-count-requires : tie.Need-file-count-requires
+file-count-requires c κs = search needs
+
 scan-pages-requires : tie.Need-scan-pages-requires
 scan-pages-requires c κs =
-    let p = c .before .before .before .before .before .pre in
+    let p = c .before .before .before .before .before .before .pre in
+    let n = c .before .file-count .ensures in
     let h = sizes-right _ _ _ (p .0) in
-    (omega arith, omega arith, p .2)
+    (omega arith, omega (arith, n), p .2)
 
 refuse-requires : tie.Need-refuse-requires
 refuse-requires c κs = search needs
@@ -21,10 +25,10 @@ same-length c = search needs
 
 returns : tie.Need-returns
 returns c =
-    let g = c .before .before .before .before .before .before .before .before .before .before .before in
+    let g = c .before .before .before .before .before .before .before .before .before .before .before .before in
     let a = g .args in
     let p = c .before .before .before .before .before .scan-pages in
-    open-bad (now (a .sheet)) (now (a .fates)) (now (a .rows)) (a .floor) (g .pre .0) _ (g .pre .1) _ _ (p .ensures) (c .before .if1 .taken) _ (c .refuse .ensures)
+    open-bad (now (a .sheet)) (now (a .fates)) (now (a .rows)) (a .floor) (g .pre .0) _ _ (g .pre .1) (c .before .before .before .before .before .before .before .file-count .ensures) _ _ (p .ensures) (c .before .if1 .taken) _ (c .refuse .ensures)
 
 count-undecided-requires : tie.Need-count-undecided-requires
 count-undecided-requires c κs = search needs
@@ -46,10 +50,10 @@ same-length-4 c = search needs
 
 returns-2 : tie.Need-returns-2
 returns-2 c =
-    let g = c .before .before .before .before .before .before .before .before .before .before .before .before .before .before .before .before .before .before .before .before .before in
+    let g = c .before .before .before .before .before .before .before .before .before .before .before .before .before .before .before .before .before .before .before .before .before .before in
     let a = g .args in
     let p = c .before .before .before .before .before .before .before .before .before .before .before .before .before .before .before .scan-pages in
-    open-good (now (a .sheet)) (now (a .fates)) (now (a .rows)) (a .floor) (g .pre .0) _ (g .pre .1) _ _ (p .ensures) _ _ _
+    open-good (now (a .sheet)) (now (a .fates)) (now (a .rows)) (a .floor) (g .pre .0) _ _ (g .pre .1) (c .before .before .before .before .before .before .before .before .before .before .before .before .before .before .before .before .before .file-count .ensures) _ _ (p .ensures) _ _ _
     (c .before .before .before .before .before .before .before .before .before .before .before .if1 .left)
     (c .before .before .before .before .before .before .before .before .before .count-undecided .ensures)
     (omega (arith, p .kept, g .pre .1))
@@ -60,7 +64,7 @@ pub open-with-spec : {M : Type 1} → statement M
 open-with-spec =
     tie.close
     (tie.spec
-    scan-pages-requires
+    file-count-requires scan-pages-requires
     refuse-requires
     same-length
     returns
