@@ -15,7 +15,7 @@ use Rattle.page.specs.Answers.{inBounds, tested, isBlankPage, packs}
 use Rattle.recovery.specs.Sheet.{pageBytes, decoded, sealed}
 use Rattle.recovery.specs.World.{isBlank}
 use Rattle.recovery.proofs.Pages.{sealed-is, blank-sealed}
-use Rattle.calls.specs.Effect.{withPage}
+use Rattle.calls.specs.Leaves.{withPage}
 
 pub put-page : (s : List ℕ) (q : ℕ) (new : List ℕ) → putMid (pageSize * q) (pageSize * q + pageSize - pageSize * q) s new ≡ withPage s q new
 unfolding withPage

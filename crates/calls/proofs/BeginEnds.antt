@@ -22,7 +22,7 @@ use Rattle.recovery.specs.Lent.{rowLength, rowsOf, lent, refused}
 use Rattle.recovery.specs.Steps.{lineOne}
 use Rattle.recovery.proofs.Leaves.{rows-back, whole-is}
 use Rattle.calls.specs.Calls.{begin, test, on, append}
-use Rattle.calls.specs.Effect.{packedEntry, withPage, callLeaves}
+use Rattle.calls.specs.Leaves.{packedEntry, withPage, callLeaves}
 use Rattle.calls.specs.LineSteps.{knownFate, roomLine}
 use Rattle.calls.proofs.Ends.{ends-same, ends-grown}
 use Rattle.calls.proofs.ActionLines.{fate-none, fate-some}

@@ -11,7 +11,7 @@ use lib.Dec.{ltb}
 use borrow.Author.Tests.{ltb-true, ltb-false, lt-ltb, le-ltb}
 use Rattle.page.specs.Layout.{pageSize}
 use Rattle.recovery.specs.Sheet.{pageBytes}
-use Rattle.calls.specs.Effect.{withPage}
+use Rattle.calls.specs.Leaves.{withPage}
 use Rattle.calls.specs.Cuts.{mixed, storedOf, firstBytes}
 use Rattle.calls.proofs.OnePage.{SameBut}
 

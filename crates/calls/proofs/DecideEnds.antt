@@ -23,7 +23,7 @@ use Rattle.recovery.specs.World.{World, Result, refuse, fateNumber}
 use Rattle.recovery.specs.Lent.{rowLength, rowsOf, lent, refused}
 use Rattle.recovery.specs.Steps.{lineOne}
 use Rattle.calls.specs.Calls.{decide, on, append, settled, eachRow, onDecide}
-use Rattle.calls.specs.Effect.{packedEntry, withPage, callLeaves}
+use Rattle.calls.specs.Leaves.{packedEntry, withPage, callLeaves}
 use Rattle.calls.specs.LineSteps.{actionLine, roomLine}
 use Rattle.calls.specs.DecideSteps.{decideLine, settledRows}
 use Rattle.calls.proofs.Ends.{Lent, lent-is, ends-line-1, ends-same, ends-grown}

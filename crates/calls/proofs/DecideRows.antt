@@ -18,7 +18,7 @@ use Rattle.page.specs.declared.Sought as sought
 use Rattle.page.specs.declared.Sought.{Sought}
 use Rattle.page.specs.Layout.{pageSize}
 use Rattle.page.specs.Answers.{tested, onImage}
-use Rattle.page.specs.Answers as seek
+use Rattle.page.specs.Answers.{imageOfFile}
 use Rattle.recovery.specs.Places.{nth}
 use Rattle.recovery.specs.Log.{Entry, blank, bad, image}
 use Rattle.recovery.specs.Sheet.{pageBytes, entryOf, imageFrom, isOpening, seal, decoded, sealed}
@@ -94,10 +94,10 @@ module _ (s : List ℕ) (files end a f : ℕ) (r : Row) where
 
     -- by the quick look, and one look at the action's opening
     module _ (n : r .token ≡ 0 → ⊥) (h : r .token ≤ end) where
-      pub holds-none : sought.Sought.Other ≡ seek.imageOf f (tested (pageBytes s (r .token)) (r .token) files) → false ≡ holdsTokenIn s files end a f r
+      pub holds-none : sought.Sought.Other ≡ imageOfFile f (tested (pageBytes s (r .token)) (r .token) files) → false ≡ holdsTokenIn s files end a f r
       holds-none e = holds-by n h sought.Sought.Other (image-none files s f (r .token) e)
 
-      module _ (x : Page) (e : sought.Sought.Image x ≡ seek.imageOf f (tested (pageBytes s (r .token)) (r .token) files)) where
+      module _ (x : Page) (e : sought.Sought.Image x ≡ imageOfFile f (tested (pageBytes s (r .token)) (r .token) files)) where
         pub holds-other : (x .action ≡ a → ⊥) → false ≡ holdsTokenIn s files end a f r
         holds-other o = go (isOpening (decoded files s (x .action))) refl
           where

@@ -25,7 +25,7 @@ use Rattle.recovery.proofs.Pages.{pages-long}
 use Rattle.recovery.proofs.Sizes.{Sizes, sizes-right}
 use Rattle.recovery.proofs.Leaves.{rows-back, lent-right, whole-is, put-row}
 use Rattle.calls.specs.Calls.{Call, call, on, append}
-use Rattle.calls.specs.Effect.{packedEntry, withPage, lower, callLeaves}
+use Rattle.calls.specs.Leaves.{packedEntry, withPage, lower, callLeaves}
 
 -- what line 1 lets through
 pub record Lent (s f r e n : ℕ) : Type 0 where

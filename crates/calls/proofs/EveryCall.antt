@@ -19,8 +19,8 @@ use Rattle.recovery.specs.declared.Answer.the-variants.{Refused, Opened, Rebuil
 use Rattle.recovery.specs.Numbers.{isRefused}
 use Rattle.recovery.specs.World.{World, Result, refuse, entryAt, isBlank, withRow, warmRow, rowHolds, lentRight, isFile, fateAt, fateNumber, answerRow, rebuilt}
 use Rattle.calls.specs.Walk.{Walk, met, nothing, lost, endless}
-use Rattle.calls.specs.Effect.{padded, valueAt}
-use Rattle.calls.specs.Calls.{Call, begin, write, read, test, decide, rebuild, forFile, forAction, forUndecided, hasAction, isDecided, hasRoom, append, store, onBegin, onWrite, onRead, onToken, onVersions, answerWalk, actionOf, valueOf, readCurrent, readToken, reaches, walkFrom, imageOf, settled, eachRow, onDecide, on, call}
+use Rattle.calls.specs.Leaves.{padded, valueAt}
+use Rattle.calls.specs.Calls.{Call, begin, write, read, test, decide, rebuild, forFile, forAction, forUndecided, hasAction, isDecided, hasRoom, append, store, onBegin, onWrite, onRead, onToken, onVersions, answerWalk, actionOf, versionAnswer, readCurrent, readToken, reaches, walkFrom, imageOf, settled, eachRow, onDecide, on, call}
 
 -- the four ways, from one world
 pub record Ways (P : Result → Type 0) (w : World) : Type 0 where
@@ -81,7 +81,7 @@ module _ (P : Result → Type 0) where
 
     walks : (f : ℕ) (r : Row) (x : Walk) → P (answerWalk w f r x)
     unfolding isRefused
-    walks f r (met x) = h .changing (valueOf x) f r refl
+    walks f r (met x) = h .changing (versionAnswer x) f r refl
     walks f r nothing = h .changing Nothing f r refl
     walks f r (lost place) = h .refusing 13 place
     walks f r endless = h .refusing 14 0
@@ -94,7 +94,7 @@ module _ (P : Result → Type 0) where
     unfolding isRefused
     tokens f time a r none = versions f time r
     tokens f time a r (some i) =
-        let x : Answer = valueOf (record { place = r .token; image = i }) in
+        let x : Answer = versionAnswer (record { place = r .token; image = i }) in
         let own : Result = (x, withRow w f (readToken time r)) in
         either (leb (i .start) time) (cond (eqb (i .action) a) own (refuse 9 (i .action) w)) (onVersions w f time r)
         (either (eqb (i .action) a) own (refuse 9 (i .action) w) (h .changing x f (readToken time r) refl) (h .refusing 9 (i .action))) (versions f time r)

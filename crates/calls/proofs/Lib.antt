@@ -6,7 +6,7 @@ pub mod OnePage
 pub mod OtherRows
 pub mod Rebuilding
 pub mod CutLaws
-pub mod Once
+pub mod NoSecondOutcome
 pub mod ActionLines
 pub mod RoomLines
 pub mod BeginEnds

@@ -19,7 +19,7 @@ use Rattle.recovery.specs.World.{World, Result, entryAt}
 use Rattle.recovery.specs.Lent.{lent, whole, rowLength, refused}
 use Rattle.recovery.proofs.Pages.{pages-long}
 use Rattle.calls.specs.Calls.{Call, call}
-use Rattle.calls.specs.Effect.{packedEntry, withPage, fieldsAt, valueAt, grown, lower, callLeaves}
+use Rattle.calls.specs.Leaves.{packedEntry, withPage, fieldsAt, valueAt, grown, lower, callLeaves}
 use Rattle.calls.proofs.EveryCall.{Ways, fileOf, warmed, every-call}
 
 -- bytes that are the same but for the page above place q

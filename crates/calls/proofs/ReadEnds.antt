@@ -26,7 +26,7 @@ use Rattle.recovery.proofs.FlatRows.{rows-long}
 use Rattle.calls.specs.declared.reading.Reading.{Reading}
 use Rattle.calls.specs.Walk.{Walk, met, nothing, lost, endless, follow}
 use Rattle.calls.specs.Calls.{read, on, onRead, onToken, answerWalk, imageOf, readCurrent, readToken}
-use Rattle.calls.specs.Effect.{callLeaves}
+use Rattle.calls.specs.Leaves.{callLeaves}
 use Rattle.calls.specs.ReadSteps.{readLine, imageBy, Looked, walkAnswer, walkAt, world, Versions, Reads}
 use Rattle.calls.proofs.Ends.{ends-same, ends-row}
 use Rattle.calls.proofs.ActionLines.{read-by}

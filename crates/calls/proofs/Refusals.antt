@@ -17,7 +17,7 @@ use Rattle.recovery.specs.World.{World, Result, withRow, warmRow}
 use Rattle.recovery.specs.Lent.{Left, lent, whole, rowsOf, flat, refused}
 use Rattle.recovery.proofs.Leaves.{rows-back}
 use Rattle.calls.specs.Calls.{Call, append, call}
-use Rattle.calls.specs.Effect.{lower, callLeaves}
+use Rattle.calls.specs.Leaves.{lower, callLeaves}
 use Rattle.recovery.specs.Numbers.{isRefused}
 use Rattle.calls.proofs.EveryCall.{Ways, fileOf, warmed, every-call}
 

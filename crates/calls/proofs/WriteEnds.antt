@@ -28,7 +28,7 @@ use Rattle.recovery.specs.Lent.{rowLength, rowsOf, flat, lent, refused}
 use Rattle.recovery.specs.Steps.{lineOne, rowHoldsIn, withRowOf, Warmed}
 use Rattle.recovery.proofs.FlatRows.{rows-long}
 use Rattle.calls.specs.Calls.{write, on, onWrite, append, imageOf, actionOf}
-use Rattle.calls.specs.Effect.{callLeaves, packedEntry, padded, withPage}
+use Rattle.calls.specs.Leaves.{callLeaves, packedEntry, padded, withPage}
 use Rattle.calls.specs.LineSteps.{actionLine, roomLine}
 use Rattle.calls.specs.ReadSteps.{storeAnswer, writeAnswer, written}
 use Rattle.calls.proofs.Ends.{ends-same, ends-row, ends-grown}

@@ -10,7 +10,7 @@ use lib.Seq.{take-suc, set-at, take-all, length-take-le, drop-at}
 use Rattle.encoding.specs.Bytes.{zeros}
 use Rattle.encoding.proofs.Numbers.{zeros-replicate}
 use Rattle.page.specs.Layout.{valueSize}
-use Rattle.calls.specs.Effect.{padded}
+use Rattle.calls.specs.Leaves.{padded}
 
 pub pad-none : (v : List ℕ) → replicate valueSize 0 ≡ take 0 v ++ replicate (valueSize - 0) 0
 pad-none v = refl

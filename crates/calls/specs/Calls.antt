@@ -1,4 +1,5 @@
--- The calls of the store over decoded pages, on all inputs, line by line in the order of document 01.
+-- The calls of the store over decoded pages, on all inputs, line by line in the order of document 01. docs/STORE.md has them
+-- in words (The calls), and what each refusal means (Why a call says no).
 use mathlib.Core.List.{List, [], _∷_}
 use mathlib.Core.Bool.{Bool, true, false, cond, _&&_}
 use mathlib.Core.Option.{Option, some, none}
@@ -104,11 +105,11 @@ abbrev pub walkFrom : World → ℕ → ℕ → ℕ → Option Image → Walk
 walkFrom w f time place none = nothing
 walkFrom w f time place (some i) = follow (entryAt w) f time (length (w .sheet)) (record { place = place; image = i })
 
-abbrev pub valueOf : Placed → Answer
-valueOf x = Value (x .place) (x .image .start) (length (x .image .value))
+abbrev pub versionAnswer : Placed → Answer
+versionAnswer x = Value (x .place) (x .image .start) (length (x .image .value))
 
 abbrev pub answerWalk : World → ℕ → Row → Walk → Result
-answerWalk w f r (met x) = (valueOf x, withRow w f r)
+answerWalk w f r (met x) = (versionAnswer x, withRow w f r)
 answerWalk w f r nothing = (Nothing, withRow w f r)
 answerWalk w f r (lost place) = refuse 13 place w
 answerWalk w f r endless = refuse 14 0 w
@@ -133,7 +134,7 @@ abbrev pub onToken : World → ℕ → ℕ → ℕ → Row → Option Image → 
 onToken w f time a r none = onVersions w f time r
 onToken w f time a r (some i) =
     cond (leb (i .start) time)
-    (cond (eqb (i .action) a) (valueOf (record { place = r .token; image = i }), withRow w f (readToken time r)) (refuse 9 (i .action) w))
+    (cond (eqb (i .action) a) (versionAnswer (record { place = r .token; image = i }), withRow w f (readToken time r)) (refuse 9 (i .action) w))
     (onVersions w f time r)
 
 abbrev pub onRead : World → ℕ → ℕ → ℕ → Row → Result

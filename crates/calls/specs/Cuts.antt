@@ -4,7 +4,7 @@ use mathlib.Core.List.{List, [], _∷_}
 use mathlib.Core.Bool.{Bool, cond}
 use lib.Dec.{ltb}
 use Rattle.recovery.specs.Sheet.{pageBytes}
-use Rattle.calls.specs.Effect.{withPage}
+use Rattle.calls.specs.Leaves.{withPage}
 
 -- byte by byte, the new one where it is stored and the old one where not
 unfoldable pub mixed : (ℕ → Bool) → List ℕ → List ℕ → List ℕ

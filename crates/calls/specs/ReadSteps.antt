@@ -21,7 +21,7 @@ use Rattle.recovery.specs.Steps.{sealedImage, rowHoldsIn}
 use Rattle.calls.specs.declared.reading.Reading.{Reading}
 use Rattle.calls.specs.LineSteps.{actionLine, roomLine}
 use Rattle.calls.specs.Walk.{Walk, met, nothing, lost, endless, follow}
-use Rattle.calls.specs.Calls.{imageOf, actionOf, valueOf, onVersions, onRead}
+use Rattle.calls.specs.Calls.{imageOf, actionOf, versionAnswer, onVersions, onRead}
 
 -- lines 5 and 6 of read, which passes over them for action 0
 unfoldable pub readLine : List ℕ → ℕ → ℕ → ℕ
@@ -39,7 +39,7 @@ pub record Looked (files : ℕ) (s : List ℕ) (file place : ℕ) (u : Sought) :
 
 -- what a walk answers, and the walk from a place whose page has these fields, with room for so many links
 abbrev pub walkAnswer : Walk → Answer
-walkAnswer (met x) = valueOf x
+walkAnswer (met x) = versionAnswer x
 walkAnswer nothing = Nothing
 walkAnswer (lost place) = Refused 13 place
 walkAnswer endless = Refused 14 0

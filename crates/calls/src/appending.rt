@@ -7,7 +7,7 @@ ghost use lib.ListN.{length};
 ghost use Rattle.page.specs.Layout.{pageSize};
 ghost use Rattle.page.specs.Table.{packed, meetsRules};
 ghost use Rattle.page.specs.Answers.{inBounds};
-ghost use Rattle.calls.specs.Effect.{withPage};
+ghost use Rattle.calls.specs.Leaves.{withPage};
 
 // Stores a page above the end, byte 0 first and byte 63 last, as pack writes it.
 pub(crate) fn append(sheet: &mut [u8], end: u64, files: u64, page: Page, value: &[u8; 32])

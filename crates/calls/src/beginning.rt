@@ -11,7 +11,7 @@ use recovery::refuse;
 ghost use mathlib.Core.Path.{_≡_};
 ghost use Rattle.recovery.specs.Lent.{leftBy};
 ghost use Rattle.calls.specs.Calls.{Call};
-ghost use Rattle.calls.specs.Effect.{callLeaves};
+ghost use Rattle.calls.specs.Leaves.{callLeaves};
 
 // Begins an action: appends its opening, and leaves room for the outcome of each undecided action.
 pub fn begin(sheet: &mut [u8], fates: &mut [u8], rows: &[u64], state: State) -> Done

@@ -25,7 +25,7 @@ ghost use Rattle.recovery.specs.World.{fateNumber};
 ghost use Rattle.recovery.specs.Sheet.{isOpening, decoded};
 ghost use Rattle.recovery.specs.Lent.{rowLength, leftBy};
 ghost use Rattle.calls.specs.Calls.{Call, decided};
-ghost use Rattle.calls.specs.Effect.{callLeaves};
+ghost use Rattle.calls.specs.Leaves.{callLeaves};
 ghost use Rattle.calls.specs.DecideSteps.{decideLine, holdsTokenIn, settledRow, settledRows};
 
 // The line that refuses commit and abort, 0 if none does.

@@ -1,5 +1,5 @@
 // The calls on an open sheet: begin, write, read, test, commit and abort. Each takes the sheet, fates, rows and state as the last
-// call left them, trusts none of it, and answers with the state that the next one gets.
+// call left them, trusts none of it, and answers with the state that the next one gets (docs/STORE.md, The calls).
 mod appending;
 mod beginning;
 mod deciding;

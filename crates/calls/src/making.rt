@@ -10,7 +10,7 @@ use recovery::State;
 ghost use mathlib.Core.Path.{_≡_};
 ghost use Rattle.recovery.specs.Lent.{leftBy};
 ghost use Rattle.calls.specs.Asked.{asked};
-ghost use Rattle.calls.specs.Effect.{callLeaves};
+ghost use Rattle.calls.specs.Leaves.{callLeaves};
 
 // A call, but for the value that a write stores. Write: file, start, action. Read: file, time, action or 0. The others: action.
 pub enum Call {

@@ -25,7 +25,7 @@ ghost use Rattle.recovery.specs.World.{isFile};
 ghost use Rattle.recovery.specs.Lent.{leftBy, rowLength};
 ghost use Rattle.recovery.specs.Steps.{lineOne, sealedImage};
 ghost use Rattle.calls.specs.Calls.{Call, readCurrent, readToken};
-ghost use Rattle.calls.specs.Effect.{callLeaves};
+ghost use Rattle.calls.specs.Leaves.{callLeaves};
 ghost use Rattle.calls.specs.ReadSteps.{readLine, walkAt, Looked, Versions, Reads};
 
 // What a read of a warm row answers, and the row that it leaves.

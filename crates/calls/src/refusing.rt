@@ -1,4 +1,5 @@
-// The lines of the refusals that several calls test: each function answers the line that refuses, or 0.
+// The lines of the refusals (docs/STORE.md, Why a call says no) that several calls test: each function answers the line that
+// refuses, or 0.
 use page::Page;
 use recovery::fate_at;
 use recovery::is_blank_at;

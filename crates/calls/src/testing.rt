@@ -8,7 +8,7 @@ use recovery::refuse;
 ghost use mathlib.Core.Path.{_≡_};
 ghost use Rattle.recovery.specs.Lent.{leftBy};
 ghost use Rattle.calls.specs.Calls.{Call};
-ghost use Rattle.calls.specs.Effect.{callLeaves};
+ghost use Rattle.calls.specs.Leaves.{callLeaves};
 
 // The fate of an action.
 pub fn test(sheet: &[u8], fates: &[u8], rows: &[u64], state: State, action: u64) -> Done

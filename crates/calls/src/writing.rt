@@ -25,7 +25,7 @@ ghost use Rattle.recovery.specs.World.{isFile};
 ghost use Rattle.recovery.specs.Lent.{leftBy, rowLength};
 ghost use Rattle.recovery.specs.Steps.{lineOne};
 ghost use Rattle.calls.specs.Calls.{Call};
-ghost use Rattle.calls.specs.Effect.{callLeaves, padded};
+ghost use Rattle.calls.specs.Leaves.{callLeaves, padded};
 ghost use Rattle.calls.specs.LineSteps.{actionLine};
 ghost use Rattle.calls.specs.ReadSteps.{storeAnswer, writeAnswer, written};
 

@@ -1,4 +1,4 @@
--- The lines that the command program takes, and the command that each one is.
+-- The lines that the command program takes, and the command that each one is (docs/STORE.md, The command language).
 use Prim.Native.Nat.{ℕ, _+_, _*_, _-_, _^_}
 use mathlib.Core.List.{List, [], _∷_}
 use mathlib.Core.Bool.{Bool, true, false, _&&_, cond}

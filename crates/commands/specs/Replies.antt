@@ -1,4 +1,4 @@
--- The lines that the command program prints.
+-- The lines that the command program prints (docs/STORE.md, The command language).
 use Prim.Native.Nat.{ℕ, zero, suc, _+_, _/_, _%_}
 use mathlib.Core.List.{List, [], _∷_, _++_}
 use mathlib.Core.Bool.{_||_, cond}

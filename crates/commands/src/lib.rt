@@ -1,4 +1,4 @@
-// The command language: lines to commands, and replies to lines.
+// The command language (docs/STORE.md): lines to commands, and replies to lines.
 mod parsing;
 mod printing;
 

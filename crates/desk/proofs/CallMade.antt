@@ -19,7 +19,7 @@ use Rattle.recovery.specs.Sheet.{pageBytes}
 use Rattle.recovery.specs.Lent.{Left, leftBy}
 use Rattle.calls.specs.declared.making.Call.{Call}
 use Rattle.calls.specs.Asked.{asked}
-use Rattle.calls.specs.Effect.{withPage, callLeaves}
+use Rattle.calls.specs.Leaves.{withPage, callLeaves}
 use Rattle.calls.proofs.OnePage.{SameBut, only-one-page, room-above}
 use Rattle.calls.proofs.CutLaws.{first-stored}
 use Rattle.calls.proofs.Appends.{put-page}

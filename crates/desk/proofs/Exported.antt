@@ -14,7 +14,7 @@ use Rattle.page.specs.Layout.{valueSize}
 use Rattle.page.specs.Answers.{packs, packNumber, tested, testNumber, testValues}
 use Rattle.inspection.specs.declared.Inspected.{Inspected}
 use Rattle.inspection.specs.Inspected.{inspected, inspectNumber, inspectPlace}
-use Rattle.desk.specs.Exports.{fieldCount, numbered, packedFor, fieldsGiven, testedFor, refusal, inspectedFor}
+use Rattle.desk.specs.Exports.{fieldCount, numbered, packedFor, fieldsGiven, testedFor, refusalNumber, inspectedFor}
 
 -- six stores fill six numbers
 pub six-stores : (xs : List ℕ) (a b c d e f : ℕ) → length xs ≡ fieldCount
@@ -64,7 +64,7 @@ pack-left p value bytes zeros place files out left a r l z b h n =
 
 -- the answer in one number
 abbrev told : Inspected → ℕ
-told x = cond (eqb (inspectNumber x) 0) (inspectPlace x) refusal
+told x = cond (eqb (inspectNumber x) 0) (inspectPlace x) refusalNumber
 
 pub inspect-told : (s : List ℕ) (files : ℕ) (a v : Inspected) → a ≡ inspected s files → a ≡ v → told v ≡ inspectedFor s files
 unfolding inspectedFor

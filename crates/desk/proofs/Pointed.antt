@@ -15,11 +15,11 @@ use Rattle.recovery.specs.World.{down, warmRow, rowHolds, lentRight, endOf, hig
 use Rattle.recovery.specs.Lent.{Left, rowLength, rowsOf, flat, sizesRight, openLeaves}
 use Rattle.recovery.specs.Numbers.{numbersOf}
 use Rattle.recovery.specs.declared.Answer.the-variants.{Refused, Opened, Stored}
-use Rattle.recovery.specs.OpenSteps.{refusal}
+use Rattle.recovery.specs.OpenSteps.{refusedOpening}
 use Rattle.recovery.proofs.OpeningLaws.{open-refused}
 use Rattle.calls.specs.Walk.{follow}
 use Rattle.calls.specs.Calls.{Call, begin, write, decide, eachRow, call}
-use Rattle.calls.specs.Effect.{packedEntry, withPage, callLeaves}
+use Rattle.calls.specs.Leaves.{packedEntry, withPage, callLeaves}
 use Rattle.calls.specs.Cuts.{mixed, storedOf, firstBytes}
 use Rattle.desk.specs.Points as point
 use Rattle.desk.proofs.BlankSheets.{opened-blank}
@@ -36,7 +36,7 @@ unfolding point.opened
 refuses size e =
     let a = length-replicate {A = ℕ} size 0 in
     let b = length-replicate {A = ℕ} (size / pageSize) 0 in
-    ap (λ (x : Left). numbersOf (x .answer)) (sym (open-refused (replicate size 0) (replicate (size / pageSize) 0) (replicate (rowLength * 8) 0) 0 (rw (a, b) e) (refusal 1 0) refl))
+    ap (λ (x : Left). numbersOf (x .answer)) (sym (open-refused (replicate size 0) (replicate (size / pageSize) 0) (replicate (rowLength * 8) 0) 0 (rw (a, b) e) (refusedOpening 1 0) refl))
 
 row : {x y : List ℕ} {xs ys : List (List ℕ)} → x ≡ y → xs ≡ ys → x ∷ xs ≡ y ∷ ys
 row e f = λ i. e i ∷ f i

@@ -11,7 +11,7 @@ use Rattle.recovery.specs.World.{isFile}
 use Rattle.recovery.specs.Lent.{Left, rowLength, closed, openLeaves}
 use Rattle.calls.specs.declared.making.Call.{Call}
 use Rattle.calls.specs.Asked.{asked}
-use Rattle.calls.specs.Effect.{callLeaves}
+use Rattle.calls.specs.Leaves.{callLeaves}
 use Rattle.calls.specs.Cuts.{storedOf, firstBytes}
 use Rattle.commands.specs.declared.parsing.Command as command
 use Rattle.commands.specs.declared.parsing.Command.{Command}

@@ -30,8 +30,8 @@ unfoldable pub testedFor : List ℕ → ℕ → ℕ → List ℕ → ℕ × List
 testedFor part place files fields = cond (eqb (length fields) fieldCount) (fieldsGiven (tested part place files) fields) (1, fields)
 
 -- above every place
-abbrev pub refusal : ℕ
-refusal = 0xffffffffffffffff
+abbrev pub refusalNumber : ℕ
+refusalNumber = 0xffffffffffffffff
 
 unfoldable pub inspectedFor : List ℕ → ℕ → ℕ
-inspectedFor s files = cond (eqb (inspectNumber (inspected s files)) 0) (inspectPlace (inspected s files)) refusal
+inspectedFor s files = cond (eqb (inspectNumber (inspected s files)) 0) (inspectPlace (inspected s files)) refusalNumber

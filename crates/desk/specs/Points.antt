@@ -10,7 +10,7 @@ use Rattle.recovery.specs.Sheet.{sealed}
 use Rattle.recovery.specs.Lent.{Left, rowLength, openLeaves}
 use Rattle.recovery.specs.Numbers.{numbersOf}
 use Rattle.calls.specs.Calls.{Call, begin, write, decide}
-use Rattle.calls.specs.Effect.{callLeaves}
+use Rattle.calls.specs.Leaves.{callLeaves}
 use Rattle.calls.specs.Cuts.{storedOf, firstBytes}
 
 -- a blank sheet of so many bytes, with fates to match, opened for 8 files; and a call on what is left

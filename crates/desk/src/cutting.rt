@@ -18,7 +18,7 @@ ghost use Prim.Native.Nat.{suc, _+_, _*_, _≤_};
 ghost use lib.ListN.{length, take, drop};
 ghost use Rattle.page.specs.Layout.{pageSize};
 ghost use Rattle.recovery.specs.Sheet.{pageBytes};
-ghost use Rattle.calls.specs.Effect.{withPage};
+ghost use Rattle.calls.specs.Leaves.{withPage};
 ghost use Rattle.desk.specs.Conversation.{isStruck, acted};
 ghost use Rattle.desk.specs.TalkSteps.{leftAfter, answeredTurn, lostTurn};
 

@@ -10,8 +10,8 @@ use Rattle.page.specs.declared.Packing as packing
 use Rattle.page.specs.declared.Packing.{Packing}
 use Rattle.page.specs.Layout.{pageSize}
 use Rattle.page.specs.Table.{image}
-use Rattle.page.specs.Answers.{tested, imageOf, packs}
-use Rattle.calls.specs.Effect.{withPage}
+use Rattle.page.specs.Answers.{tested, imageOfFile, packs}
+use Rattle.calls.specs.Leaves.{withPage}
 
 -- the bytes of the page above i others; its place is i + 1
 abbrev pub pageAt : List ℕ → ℕ → List ℕ
@@ -45,7 +45,7 @@ abbrev pub fitsAt : List ℕ → ℕ → ℕ → ℕ
 fitsAt s files i = fields (tested (pageAt s i) (i + 1) files)
 
 abbrev pub seenAt : List ℕ → ℕ → ℕ → ℕ → ℕ
-seenAt s files file i = found (imageOf file (tested (pageAt s i) (i + 1) files))
+seenAt s files file i = found (imageOfFile file (tested (pageAt s i) (i + 1) files))
 
 -- an image of file 1 packed at every place from 1 on: how many were written, and the sheet
 abbrev pub packedInto : ℕ → ℕ × List ℕ → Packing × List ℕ → ℕ × List ℕ

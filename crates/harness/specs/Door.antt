@@ -11,7 +11,7 @@ use Rattle.recovery.specs.Numbers.{numbersOf}
 use Rattle.calls.specs.declared.making.Call.{Call}
 use Rattle.calls.specs.declared.making.Call.the-variants.{Begin, Write, Read, Test, Commit, Abort}
 use Rattle.calls.specs.Asked.{asked}
-use Rattle.calls.specs.Effect.{callLeaves}
+use Rattle.calls.specs.Leaves.{callLeaves}
 
 -- ---- what is asked
 

@@ -4,4 +4,4 @@ pub mod Slots
 pub mod ArraysKnow
 pub mod ClimbSteps
 pub mod ClimbPass
-pub mod Once
+pub mod NoSecondOutcome

@@ -1,4 +1,4 @@
--- Lawful, page by page: each page fits those below it (a consistent log).
+-- Lawful, page by page: each page fits those below it (a consistent log; docs/STORE.md, Words).
 use mathlib.Core.List.{List, [], _∷_}
 use mathlib.Core.Bool.{Bool, true, false, cond, _&&_}
 use mathlib.Core.Option.{Option, some, none}

@@ -6,4 +6,4 @@ pub mod Seek
 pub mod Written
 pub mod Obeyed
 pub mod Opening
-pub mod Once
+pub mod NoSecondOutcome

@@ -102,8 +102,8 @@ onImage (Outcome p) f d = d
 onImage Unfit f d = d
 
 -- an image of this file, of what the page test says
-unfoldable pub imageOf : ℕ → Unpacked → Sought
-imageOf file u = onImage u (λ (p : Page). cond (eqb (p .file) file) (sought.Sought.Image p) sought.Sought.Other) sought.Sought.Other
+unfoldable pub imageOfFile : ℕ → Unpacked → Sought
+imageOfFile file u = onImage u (λ (p : Page). cond (eqb (p .file) file) (sought.Sought.Image p) sought.Sought.Other) sought.Sought.Other
 
 -- the value's 32 bytes, zeros where the part is not a page's size
 unfoldable pub valueIn : List ℕ → List ℕ

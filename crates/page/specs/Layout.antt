@@ -1,4 +1,4 @@
--- Where each field of a page begins, by document 01's table. A field ends where the next one begins.
+-- Where each field of a page begins, by document 01's table (docs/STORE.md, The page). A field ends where the next one begins.
 -- The constants of `Page` in the code are these; a proof fails where they differ.
 use Prim.Native.Nat.{ℕ}
 

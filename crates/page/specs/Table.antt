@@ -1,4 +1,4 @@
--- Document 01's table of a page (a log record): its 64 bytes, the fields read back, and the rules of each kind.
+-- Document 01's table of a page (a log record; docs/STORE.md, The page): its 64 bytes, the fields read back, and the rules of each kind.
 -- `packed` is the table; `fieldsOf` and `valueOf` read it back; `lowest` and `highest` are its columns, the least and the
 -- greatest of each field; `fits` says that bytes are a page by the table. A place is a log address.
 use Prim.Native.Nat.{ℕ, _-_, _^_}

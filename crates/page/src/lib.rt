@@ -1,4 +1,4 @@
-// The page: document 01's table, packing fields into 64 bytes and testing 64 bytes for a page.
+// The page: document 01's table (docs/STORE.md, The page), packing fields into 64 bytes and testing 64 bytes for a page.
 // The layers above know pages only through what these functions promise and the laws of `proofs/`.
 use encoding::byte_at;
 use encoding::check_word;
@@ -16,7 +16,7 @@ ghost use Rattle.encoding.specs.Bytes.{bytes, zeros, same, check};
 ghost use Rattle.page.specs.Layout.{valueAt, pageSize, mostPlaces, valueSize};
 ghost use Rattle.page.specs.Table.{head, front, packed, field, fieldsOf, opening, image, outcome, lowest, highest, within, between, used, meetsRules, isPageOf, torn};
 ghost use Rattle.page.specs.Steps.{framed, named};
-ghost use Rattle.page.specs.Answers.{inBounds, byKind, tested, isBlankPage, isOpeningPage, packs, imageOf, valueIn};
+ghost use Rattle.page.specs.Answers.{inBounds, byKind, tested, isBlankPage, isOpeningPage, packs, imageOfFile, valueIn};
 
 // The fields of a page (a log record), kind to start. The 32 bytes of the value stay beside it.
 pub struct Page {
@@ -409,7 +409,7 @@ impl Page {
 
     // The quick look: the image of this file in a part, by its kind and file before anything else.
     pub fn seek(part: &[u8], place: u64, files: u64, file: u64) -> Sought
-        ensures { λ r. ⌜ r ≡ imageOf file (tested (now (part .entry)) place files) ⌝ }
+        ensures { λ r. ⌜ r ≡ imageOfFile file (tested (now (part .entry)) place files) ⌝ }
     {
         if !Page::names(part, file) {
             return Sought::Other;

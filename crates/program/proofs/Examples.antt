@@ -21,7 +21,7 @@ use Rattle.recovery.specs.Lent.{rowsOf, flat, sizesRight, openLeaves}
 use Rattle.recovery.specs.Numbers.{isRefused}
 use Rattle.calls.specs.Walk.{follow}
 use Rattle.calls.specs.Calls.{eachRow, call}
-use Rattle.calls.specs.Effect.{packedEntry, withPage, callLeaves}
+use Rattle.calls.specs.Leaves.{packedEntry, withPage, callLeaves}
 use Rattle.desk.specs.Wording.{callReply, openReply}
 use Rattle.desk.specs.Conversation.{startedFor, openedFor, calledFor, acted}
 use Rattle.program.specs.Typing.{WasTyped, textOf}

@@ -13,7 +13,7 @@ use Rattle.recovery.specs.declared.Answer.{Answer}
 use Rattle.recovery.specs.Numbers.{numbersOf, isRefused}
 use Rattle.recovery.specs.World.{Result, sizes, isFile, coldRows, opened, down, endOf, highestBad, refuse, unopened}
 use Rattle.recovery.specs.Lent.{Left, rowLength, rowsOf, flat, pagesOf, whole, sizesRight, leaves, refused, closed, leftBy, openLeaves}
-use Rattle.recovery.specs.OpenSteps.{refusal}
+use Rattle.recovery.specs.OpenSteps.{refusedOpening}
 use Rattle.recovery.proofs.FlatRows.{flat-long}
 use Rattle.recovery.proofs.Sizes.{sizes-right}
 use Rattle.recovery.proofs.OpeningLaws.{open-refused}
@@ -23,7 +23,7 @@ use Rattle.recovery.proofs.Leaves.{rows-back}
 use Rattle.calls.specs.declared.making.Call as code
 use Rattle.calls.specs.Calls.{Call}
 use Rattle.calls.specs.Asked.{asked}
-use Rattle.calls.specs.Effect.{callLeaves}
+use Rattle.calls.specs.Leaves.{callLeaves}
 use Rattle.calls.specs.Cuts.{firstBytes}
 use Rattle.commands.specs.declared.parsing.Command as command
 use Rattle.commands.specs.declared.parsing.Command.{Command}
@@ -137,9 +137,9 @@ opened-long s fates rows floor =
     (λ q. cold-long) (λ q. ap length back)) (λ k. ap length back)) (λ e. refl)
 
 -- with no rows it is refused by line 1
-no-rows : (s fates : List ℕ) (floor : ℕ) → leftBy (refusal 1 0) s fates [] ≡ openLeaves s fates [] floor
+no-rows : (s fates : List ℕ) (floor : ℕ) → leftBy (refusedOpening 1 0) s fates [] ≡ openLeaves s fates [] floor
 no-rows s fates floor =
-    open-refused s fates [] floor (is-false (sizesRight (length s) (length fates) 0) (λ e. omega (arith, sizes-right (length s) (length fates) 0 e .some-files))) (refusal 1 0) refl
+    open-refused s fates [] floor (is-false (sizesRight (length s) (length fates) 0) (λ e. omega (arith, sizes-right (length s) (length fates) 0 e .some-files))) (refusedOpening 1 0) refl
 
 module _ (m : Memory) (s : AllRows (m .rows)) (files floor : ℕ) where
   abbrev q : ℕ

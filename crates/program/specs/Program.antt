@@ -11,7 +11,7 @@ use Rattle.recovery.specs.World.{isFile}
 use Rattle.recovery.specs.Lent.{rowLength}
 use Rattle.calls.specs.Calls.{Call}
 use Rattle.calls.specs.Asked.{asked}
-use Rattle.calls.specs.Effect.{callLeaves}
+use Rattle.calls.specs.Leaves.{callLeaves}
 use Rattle.calls.specs.Cuts.{firstBytes}
 use Rattle.commands.specs.declared.parsing.Command as command
 use Rattle.commands.specs.declared.parsing.Command.{Command}

@@ -11,7 +11,7 @@ use Rattle.recovery.specs.Numbers.{numbersOf, isRefused}
 use Rattle.recovery.specs.World.{sizes}
 use Rattle.recovery.specs.Lent.{Left, rowLength, sizesRight, openLeaves}
 use Rattle.calls.specs.Calls.{Call, begin, write, read, test, decide, rebuild}
-use Rattle.calls.specs.Effect.{callLeaves}
+use Rattle.calls.specs.Leaves.{callLeaves}
 use Rattle.calls.specs.Cuts.{storedOf}
 
 -- a box is on, with all that the last call left it, or off, with its sheet alone

@@ -14,7 +14,7 @@ use Rattle.page.specs.declared.Unpacked.the-variants.{Refused, Blank, Torn, Ope
 use Rattle.page.specs.declared.Sought as sought
 use Rattle.page.specs.declared.Sought.{Sought}
 use Rattle.page.specs.Layout.{pageSize}
-use Rattle.page.specs.Answers.{tested, onImage, imageOf}
+use Rattle.page.specs.Answers.{tested, onImage, imageOfFile}
 use Rattle.recovery.specs.Places.{nth}
 use Rattle.recovery.specs.Log.{Entry, blank, bad, image}
 use Rattle.recovery.specs.Sheet.{pageBytes, entryOf, imageFrom, isOpening, seal, decoded, sealed}
@@ -26,9 +26,9 @@ use Rattle.recovery.proofs.Pages.{test-out, page-at-place, pages-long}
 use Rattle.recovery.proofs.Lookups.{nth-past}
 use Rattle.recovery.proofs.WalkDown.{apart, found-same}
 
-pub seek-out : (s : List ℕ) (p files file : ℕ) → (1 ≤ p → pageSize * p ≤ length s → ⊥) → sought.Sought.Other ≡ imageOf file (tested (pageBytes s p) p files)
-unfolding imageOf
-seek-out s p files file h = ap (imageOf file) (test-out s p files h)
+pub seek-out : (s : List ℕ) (p files file : ℕ) → (1 ≤ p → pageSize * p ≤ length s → ⊥) → sought.Sought.Other ≡ imageOfFile file (tested (pageBytes s p) p files)
+unfolding imageOfFile
+seek-out s p files file h = ap (imageOfFile file) (test-out s p files h)
 
 -- ---- a sealed image by the quick look and the opening
 
@@ -36,8 +36,8 @@ module _ (file : ℕ) (ρ : ℕ → Bool) where
   abbrev with-opening : Unpacked → Sought
   with-opening u = onImage u (λ (p : Page). cond (eqb (p .file) file && ρ (p .action)) (sought.Sought.Image p) sought.Sought.Other) sought.Sought.Other
 
-  none-found : (u : Unpacked) → sought.Sought.Other ≡ imageOf file u → sought.Sought.Other ≡ with-opening u
-  unfolding imageOf
+  none-found : (u : Unpacked) → sought.Sought.Other ≡ imageOfFile file u → sought.Sought.Other ≡ with-opening u
+  unfolding imageOfFile
   none-found Refused e = refl
   none-found Blank e = refl
   none-found Torn e = refl
@@ -51,8 +51,8 @@ module _ (file : ℕ) (ρ : ℕ → Bool) where
       go true f = apart (sym f)
       go false f = refl
 
-  one-found : (u : Unpacked) (x : Page) → sought.Sought.Image x ≡ imageOf file u → cond (ρ (x .action)) (sought.Sought.Image x) sought.Sought.Other ≡ with-opening u
-  unfolding imageOf
+  one-found : (u : Unpacked) (x : Page) → sought.Sought.Image x ≡ imageOfFile file u → cond (ρ (x .action)) (sought.Sought.Image x) sought.Sought.Other ≡ with-opening u
+  unfolding imageOfFile
   one-found Refused x e = apart e
   one-found Blank x e = apart e
   one-found Torn x e = apart e
@@ -67,11 +67,11 @@ module _ (file : ℕ) (ρ : ℕ → Bool) where
       go false f = apart f
 
 module _ (files : ℕ) (s : List ℕ) (file place : ℕ) where
-  pub image-none : sought.Sought.Other ≡ imageOf file (tested (pageBytes s place) place files) → sought.Sought.Other ≡ sealedImage files s file place
+  pub image-none : sought.Sought.Other ≡ imageOfFile file (tested (pageBytes s place) place files) → sought.Sought.Other ≡ sealedImage files s file place
   unfolding sealedImage
   image-none e = none-found file (λ (a : ℕ). isOpening (decoded files s a)) _ e
 
-  module _ (x : Page) (e : sought.Sought.Image x ≡ imageOf file (tested (pageBytes s place) place files)) where
+  module _ (x : Page) (e : sought.Sought.Image x ≡ imageOfFile file (tested (pageBytes s place) place files)) where
     pub image-unsealed : isOpening (decoded files s (x .action)) ≡ false → sought.Sought.Other ≡ sealedImage files s file place
     unfolding sealedImage
     image-unsealed h = rw h at (one-found file (λ (a : ℕ). isOpening (decoded files s a)) _ x e)

@@ -15,4 +15,4 @@ pub mod OpeningLaws
 pub mod LogFates
 pub mod Spots
 pub mod Refused
-pub mod Once
+pub mod NoSecondOutcome

@@ -17,20 +17,20 @@ use Rattle.recovery.specs.Places.{put, tabulate}
 use Rattle.recovery.specs.Log.{Entry, blank, opening, outcome, Fate, unknown, undecided, committed, aborted, verdict, fateStep, fateOf}
 use Rattle.recovery.specs.Sheet.{pageBytes, entryOf, isOpening, seal, decoded, pages}
 use Rattle.recovery.specs.World.{down, fateNumber, fatesOf}
-use Rattle.recovery.specs.OpenSteps.{Told}
+use Rattle.recovery.specs.OpenSteps.{Bounded}
 use Rattle.recovery.proofs.Places.{nth-tabulate, put-tabulate}
 use Rattle.recovery.proofs.Pages.{page-here, length-down, decoded-is, sealed-is}
 
-pub told-at : (s : List ℕ) (p files : ℕ) (u : Unpacked) → u ≡ tested (pageBytes s p) p files → Told p u
-told-at s p files Refused e = tt
-told-at s p files Blank e = tt
-told-at s p files Torn e = tt
-told-at s p files (Opening q) e = tt
-told-at s p files (Image q) e = image-is (pageBytes s p) p files q e .action
-told-at s p files (Outcome q) e =
+pub bounded-at : (s : List ℕ) (p files : ℕ) (u : Unpacked) → u ≡ tested (pageBytes s p) p files → Bounded p u
+bounded-at s p files Refused e = tt
+bounded-at s p files Blank e = tt
+bounded-at s p files Torn e = tt
+bounded-at s p files (Opening q) e = tt
+bounded-at s p files (Image q) e = image-is (pageBytes s p) p files q e .action
+bounded-at s p files (Outcome q) e =
     let h = outcome-is (pageBytes s p) p files q e in
     (h .action .0, h .action .1, h .verdict .0, h .verdict .1)
-told-at s p files Unfit e = tt
+bounded-at s p files Unfit e = tt
 
 -- ---- which places have a fate
 
@@ -98,7 +98,7 @@ module _ (files : ℕ) (s : List ℕ) where
         (λ o. ih a k ∙ opens-more n a (ap isOpening (sym (decoded-is s (suc n) files (Image q) e))))
         (λ o. ih a k ∙ opens-more n a (ap isOpening (sym (decoded-is s (suc n) files (Image q) e))))
     known-step (Outcome q) e a k =
-        let t = told-at s (suc n) files (Outcome q) e in
+        let t = bounded-at s (suc n) files (Outcome q) e in
         let d = decoded-is s (suc n) files (Outcome q) e in
         by-test (λ g. isKnown (fateStep g (suc (length l)) a (fateOf l a)) ≡ opens (suc n) a) (isOpening (decoded files s (q .action)))
         (λ o. known-outcome a (q .action) (eqb (q .small) 1) k (t .0) (t .1) d o)

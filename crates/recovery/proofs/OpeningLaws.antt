@@ -12,7 +12,7 @@ use Rattle.page.specs.Layout.{pageSize}
 use Rattle.recovery.specs.Log.{Entry}
 use Rattle.recovery.specs.World.{Result, refuse, sizes, down, endOf, highestBad, fatesOf, undecidedOf, coldRows, started, unopened, openedAt, opened}
 use Rattle.recovery.specs.Lent.{rowLength, rowsOf, flat, pagesOf, whole, sizesRight, leftBy, leaves, refused, closed, openLeaves}
-use Rattle.recovery.specs.OpenSteps.{Scanned, refusal}
+use Rattle.recovery.specs.OpenSteps.{Scanned, refusedOpening}
 use Rattle.recovery.specs.declared.Answer.the-variants.{Opened}
 use Rattle.recovery.specs.declared.Done.{Done}
 use Rattle.recovery.specs.declared.opening.Scan.{Scan}
@@ -60,14 +60,14 @@ module _ (s fates rows : List ℕ) (floor : ℕ) where
       sym (rows-flat rows (omega arith))
 
   -- line 1
-  pub open-refused : sizesRight (length s) (length fates) (length rows) ≡ false → (r : Done) → r ≡ refusal 1 0 → leftBy r s fates rows ≡ openLeaves s fates rows floor
+  pub open-refused : sizesRight (length s) (length fates) (length rows) ≡ false → (r : Done) → r ≡ refusedOpening 1 0 → leftBy r s fates rows ≡ openLeaves s fates rows floor
   unfolding sizesRight openLeaves
   open-refused e r d = ap (λ (x : Done). leftBy x s fates rows) d ∙ go (whole (length s) (length rows)) refl e
     where
       go : (w : Bool) → whole (length s) (length rows) ≡ w → (w && sizes (length s / pageSize) (length fates) (length rows / rowLength)) ≡ false
-          → leftBy (refusal 1 0) s fates rows ≡ cond w (leaves s (opened sheet fates (rowsOf rows) floor)) (refused 1 0 s fates rows closed)
+          → leftBy (refusedOpening 1 0) s fates rows ≡ cond w (leaves s (opened sheet fates (rowsOf rows) floor)) (refused 1 0 s fates rows closed)
       go false x y = refl
-      go true x y = ap (λ (l : List ℕ). leftBy (refusal 1 0) s fates l) (rows-back x) ∙ opened-by false y
+      go true x y = ap (λ (l : List ℕ). leftBy (refusedOpening 1 0) s fates l) (rows-back x) ∙ opened-by false y
 
   module _ (ok : sizesRight (length s) (length fates) (length rows) ≡ true) where
     k : Sizes (length s) (length fates) (length rows)
@@ -96,11 +96,11 @@ module _ (s fates rows : List ℕ) (floor : ℕ) where
       kept-is = here .kept-is ∙ ap (λ (x : ℕ). fatesOf x (down sheet (endOf sheet x))) long
 
       -- line 2
-      pub open-bad : (sc .bad ≡ 0 → ⊥) → (r : Done) → r ≡ refusal 2 (sc .bad) → leftBy r s fates rows ≡ openLeaves s fates rows floor
+      pub open-bad : (sc .bad ≡ 0 → ⊥) → (r : Done) → r ≡ refusedOpening 2 (sc .bad) → leftBy r s fates rows ≡ openLeaves s fates rows floor
       open-bad z r d =
           ap (λ (x : Done). leftBy x s fates rows) d
-          ∙ ap (λ (x : ℕ). leftBy (refusal 2 x) s fates rows) bad-is
-          ∙ ap (λ (x : List ℕ). leftBy (refusal 2 bad) s fates x) (rows-back (k .whole-is))
+          ∙ ap (λ (x : ℕ). leftBy (refusedOpening 2 x) s fates rows) bad-is
+          ∙ ap (λ (x : List ℕ). leftBy (refusedOpening 2 bad) s fates x) (rows-back (k .whole-is))
           ∙ ap (λ (b : Bool). leaves s (cond b yes no)) (sym (ne-eqb bad 0 (λ e. z (bad-is ∙ e))))
           ∙ opened-is
 

@@ -17,7 +17,7 @@ use Rattle.recovery.specs.OpenSteps.{good, worse, stepped, Scanned}
 use Rattle.recovery.specs.declared.opening.Scan.{Scan}
 use Rattle.recovery.proofs.Places.{tabulate-cong}
 use Rattle.recovery.proofs.OpeningEnds.{Ends, ends-none, ends-blank, ends-worse, ends-good, fate-end}
-use Rattle.recovery.proofs.OpeningFates.{told-at, fate-none, page-is, fates-up, get-fate, keep-opening, keep-outcome, fates-zero}
+use Rattle.recovery.proofs.OpeningFates.{bounded-at, fate-none, page-is, fates-up, get-fate, keep-opening, keep-outcome, fates-zero}
 
 module _ (files N : ℕ) (s : List ℕ) where
   -- what the scan and the kept fates are after n pages
@@ -81,12 +81,12 @@ module _ (files N : ℕ) (s : List ℕ) where
           kept-is = ap (λ (x : List ℕ). set x (suc n - 1) 1) (p .kept-is) ∙ keep-opening N n (down (pages files N s) n) ∙ fates-up N (pages files N s) n opening g;
         }
     passed-step (Image q) e h =
-        let t = told-at s (suc n) files (Image q) e in
+        let t = bounded-at s (suc n) files (Image q) e in
         sealing (q .action) (image (imageFrom (pageBytes s (suc n)) q)) (worse (suc n), k) (good (suc n) sc, k) h (t .0) (t .1) (page-is files s N n (Image q) e h)
         passed-bad
         (passed-image q)
     passed-step (Outcome q) e h =
-        let t = told-at s (suc n) files (Outcome q) e in
+        let t = bounded-at s (suc n) files (Outcome q) e in
         sealing (q .action) (outcome (q .action) (eqb (q .small) 1)) (worse (suc n), k) (good (suc n) sc, set k (q .action - 1) (q .small + 1)) h (t .0) (t .1) (page-is files s N n (Outcome q) e h)
         passed-bad
         (λ g. record {

@@ -11,11 +11,11 @@ use Rattle.page.proofs.Unpacked.{the-type}
 use Rattle.page.specs.declared.Page.{Page}
 use Rattle.page.specs.declared.Unpacked.{Unpacked}
 use Rattle.page.specs.declared.Unpacked.the-variants.{Refused, Blank, Torn, Opening, Image, Outcome, Unfit}
-use Rattle.recovery.specs.OpenSteps.{Told, good, worse, stepped}
+use Rattle.recovery.specs.OpenSteps.{Bounded, good, worse, stepped}
 use Rattle.recovery.specs.declared.opening.Scan.{Scan}
 
-pub told-as : (place : ℕ) (u v : Unpacked) → u ≡ v → Told place u → Told place v
-told-as place u v e t = subst (Told place) e t
+pub bounded-as : (place : ℕ) (u v : Unpacked) → u ≡ v → Bounded place u → Bounded place v
+bounded-as place u v e t = subst (Bounded place) e t
 
 abbrev pub bad-tags : List ℕ
 bad-tags = 0 ∷ 6 ∷ []

@@ -2,13 +2,13 @@
 use Prim.Native.Nat.{ℕ, zero, suc, _*_, _+_, _-_, _/_, _<_, _≤_}
 use mathlib.Core.Path.{_≡_, refl, sym, ap, _∙_}
 use mathlib.Core.List.{List, []}
-use mathlib.Core.Bool.{Bool, true, false, cond, _&&_}
+use mathlib.Core.Bool.{Bool, true, false, cond, false≢true}
 use native.Mathlib.Omega.{arith}
-use borrow.Author.Tests.{ne-eqb, leb-true, leb-false, le-leb, lt-leb}
+use borrow.Author.Tests.{ne-eqb, leb-true, le-leb}
 use lib.Dec.{leb}
 use lib.Seq.{take-all}
 use lib.ListN.{length, take, drop, getD, length-take, length-drop, drop-of-length-le}
-use Rattle.encoding.proofs.Logic.{by-test}
+use Rattle.encoding.proofs.Logic.{by-test, and-true}
 use Rattle.page.specs.declared.Unpacked.{Unpacked}
 use Rattle.page.specs.declared.Unpacked.the-variants.{Refused, Blank, Torn, Opening, Image, Outcome, Unfit}
 use Rattle.page.specs.Layout.{pageSize}
@@ -17,7 +17,7 @@ use Rattle.recovery.specs.Places.{nth}
 use Rattle.recovery.specs.Log.{Entry, blank, torn, bad, opening, image, outcome}
 use Rattle.recovery.specs.Sheet.{pageBytes, entryOf, isOpening, seal, decoded, sealed, pages}
 use Rattle.recovery.specs.World.{down, isBlank}
-use Rattle.recovery.specs.Steps.{partAt}
+use Rattle.recovery.specs.Steps.{hasPlace, partAt}
 use Rattle.recovery.proofs.Places.{length-tabulate, nth-tabulate}
 
 -- the part from 64 × (place − 1), as the code cuts it
@@ -41,29 +41,27 @@ test-out s (suc q) files h =
 
 -- the part of a place, as the code cuts it; it is tested as the page's bytes are
 module _ (s : List ℕ) (p : ℕ) where
-  pub part-none : (1 ≤ p → length s / pageSize < p) → take (0 - 0) (drop 0 s) ≡ partAt s p
-  unfolding partAt
-  part-none h = go (leb 1 p) refl
-    where
-      go : (b : Bool) → leb 1 p ≡ b → [] ≡ cond (b && leb p (length s / pageSize)) (pageBytes s p) []
-      go true e = rw (lt-leb p (length s / pageSize) (h (leb-true 1 p e)))
-      go false e = refl
+  pub place-in : hasPlace s p ≡ true → (1 ≤ p) × (p ≤ length s / pageSize)
+  place-in e = let h = and-true (leb 1 p) (leb p (length s / pageSize)) e in (leb-true 1 p (h .0), leb-true p (length s / pageSize) (h .1))
 
-  pub part-some : (a e : ℕ) → 1 ≤ p → p ≤ length s / pageSize → a ≡ pageSize * (p - 1) → e ≡ a + pageSize → take (e - a) (drop a s) ≡ partAt s p
+  pub place-out : hasPlace s p ≡ false → 1 ≤ p → pageSize * p ≤ length s → ⊥
+  place-out e u v = false≢true (sym (rw (le-leb 1 p u, le-leb p (length s / pageSize) (omega arith)) at e))
+
+  pub part-none : hasPlace s p ≡ false → take (0 - 0) (drop 0 s) ≡ partAt s p
   unfolding partAt
-  part-some a e h k i j = rw (le-leb 1 p h, le-leb p (length s / pageSize) k) (part-is s a e p h i j)
+  part-none h = rw h
+
+  pub part-some : (a e : ℕ) → hasPlace s p ≡ true → a ≡ pageSize * (p - 1) → e ≡ a + pageSize → take (e - a) (drop a s) ≡ partAt s p
+  unfolding partAt
+  part-some a e h i j = rw h (part-is s a e p (place-in h .0) i j)
 
   pub part-tested : (files : ℕ) → tested (partAt s p) p files ≡ tested (pageBytes s p) p files
   unfolding partAt tested inBounds
-  part-tested files = go (leb 1 p) (leb p (length s / pageSize)) refl refl
+  part-tested files = go (hasPlace s p) refl
     where
-      out : (1 ≤ p → p ≤ length s / pageSize → ⊥) → tested [] p files ≡ tested (pageBytes s p) p files
-      out h = test-out s p files (λ u v. h u (omega arith))
-
-      go : (b c : Bool) → leb 1 p ≡ b → leb p (length s / pageSize) ≡ c → tested (cond (b && c) (pageBytes s p) []) p files ≡ tested (pageBytes s p) p files
-      go true true e f = refl
-      go true false e f = out (λ u v. omega (arith, leb-false p (length s / pageSize) f))
-      go false c e f = out (λ u v. omega (arith, leb-false 1 p e))
+      go : (b : Bool) → hasPlace s p ≡ b → tested (cond b (pageBytes s p) []) p files ≡ tested (pageBytes s p) p files
+      go true e = refl
+      go false e = test-out s p files (place-out e)
 
 pub pages-long : (files n : ℕ) (s : List ℕ) → length (pages files n s) ≡ n
 unfolding pages

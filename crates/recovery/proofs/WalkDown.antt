@@ -15,7 +15,7 @@ use Rattle.page.specs.declared.Unpacked.the-variants.{Refused, Blank, Torn, Ope
 use Rattle.page.specs.declared.Sought as sought
 use Rattle.page.specs.declared.Sought.{Sought}
 use Rattle.page.specs.Layout.{pageSize}
-use Rattle.page.specs.Answers.{tested, imageOf}
+use Rattle.page.specs.Answers.{tested, imageOfFile}
 use Rattle.recovery.specs.Places.{nth}
 use Rattle.recovery.specs.Log.{Entry, blank, torn, bad, opening, image, outcome, Fate, unknown, undecided, committed, aborted, Placed, imagesOf, currentOf, tokenOf, placeOf, startOf}
 use Rattle.recovery.specs.Sheet.{pageBytes, entryOf, imageFrom, isOpening, seal, decoded, sealed, pages}
@@ -135,9 +135,9 @@ module _ (files : ℕ) (s fs : List ℕ) (file : ℕ) where
           ap rowTo z ∙ sym (row-above end k)
 
   -- what the quick look found moves the row as its fate says
-  pub of-file : (b : List ℕ) (p : ℕ) (u : Unpacked) (x : Page) (r : Row) (w : ℕ) → sought.Sought.Image x ≡ imageOf file u → w ≡ countedFate files s fs (x .action)
+  pub of-file : (b : List ℕ) (p : ℕ) (u : Unpacked) (x : Page) (r : Row) (w : ℕ) → sought.Sought.Image x ≡ imageOfFile file u → w ≡ countedFate files s fs (x .action)
       → addPage (fateIn fs) file p (seal (decoded files s) (entryOf b u)) r ≡ addImage (fateFrom w) p (x .start) r
-  unfolding imageOf countedFate
+  unfolding imageOfFile countedFate
   of-file b p Refused x r w e h = apart e
   of-file b p Blank x r w e h = apart e
   of-file b p Torn x r w e h = apart e
@@ -159,9 +159,9 @@ module _ (files : ℕ) (s fs : List ℕ) (file : ℕ) where
       go false k f = apart (f k)
 
   -- and any other page leaves it
-  pub other-page : (b : List ℕ) (p : ℕ) (u : Unpacked) (r : Row) → sought.Sought.Other ≡ imageOf file u
+  pub other-page : (b : List ℕ) (p : ℕ) (u : Unpacked) (r : Row) → sought.Sought.Other ≡ imageOfFile file u
       → addPage (fateIn fs) file p (seal (decoded files s) (entryOf b u)) r ≡ r
-  unfolding imageOf
+  unfolding imageOfFile
   other-page b p Refused r e = refl
   other-page b p Blank r e = refl
   other-page b p Torn r e = refl
@@ -179,7 +179,7 @@ module _ (files : ℕ) (s fs : List ℕ) (file : ℕ) where
 
   module _ (p : ℕ) (some : 0 < p) (in-sheet : pageSize * p ≤ length s) where
     abbrev seen : Sought
-    seen = imageOf file (tested (pageBytes s p) p files)
+    seen = imageOfFile file (tested (pageBytes s p) p files)
 
     page-is : (r : Row) → addPage (fateIn fs) file p (sealed files s p) r ≡ addPage (fateIn fs) file p (seal (decoded files s) (entryOf (pageBytes s p) (tested (pageBytes s p) p files))) r
     page-is r = ap (λ (g : Entry). addPage (fateIn fs) file p g r) (sym (sealed-is s p files (tested (pageBytes s p) p files) refl))

@@ -1,5 +1,5 @@
 -- The lift: what is lent, bytes and numbers, as what the definitions work on, and what a call leaves of it. Each public
--- function's contract says that all it leaves is one of these, of what came in.
+-- function's contract says that all it leaves is one of these, of what came in (docs/STORE.md, What the caller lends and keeps).
 use mathlib.Core.List.{List, [], _∷_, _++_}
 use mathlib.Core.Bool.{Bool, cond, _&&_}
 use Prim.Native.Nat.{ℕ, pred, _+_, _*_, _/_, _%_}

@@ -15,14 +15,14 @@ use Rattle.recovery.specs.declared.Done.{Done}
 use Rattle.recovery.specs.declared.opening.Scan.{Scan}
 
 -- what the page test tells of the action and the verdict of a page at a place
-abbrev pub Told : ℕ → Unpacked → Type 0
-Told place Refused = Unit
-Told place Blank = Unit
-Told place Torn = Unit
-Told place (Opening p) = Unit
-Told place (Image p) = (1 ≤ p .action) × (p .action < place)
-Told place (Outcome p) = (1 ≤ p .action) × (p .action < place) × (1 ≤ p .small) × (p .small ≤ 2)
-Told place Unfit = Unit
+abbrev pub Bounded : ℕ → Unpacked → Type 0
+Bounded place Refused = Unit
+Bounded place Blank = Unit
+Bounded place Torn = Unit
+Bounded place (Opening p) = Unit
+Bounded place (Image p) = (1 ≤ p .action) × (p .action < place)
+Bounded place (Outcome p) = (1 ≤ p .action) × (p .action < place) × (1 ≤ p .small) × (p .small ≤ 2)
+Bounded place Unfit = Unit
 
 -- a page that is not blank is the end; a blank one just below it is bad
 unfoldable pub good : ℕ → Scan → Scan
@@ -48,5 +48,5 @@ pub record Scanned (files n : ℕ) (sheet : List ℕ) (s : Scan) (kept : List �
   pub kept-is : kept ≡ fatesOf n (down (pages files n sheet) (endOf (pages files n sheet) n))
 
 -- a refusal's number and place, and three zeros
-abbrev pub refusal : ℕ → ℕ → Done
-refusal number place = record { answer = answers.Answer.Refused number place; state = closed }
+abbrev pub refusedOpening : ℕ → ℕ → Done
+refusedOpening number place = record { answer = answers.Answer.Refused number place; state = closed }

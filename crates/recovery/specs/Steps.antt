@@ -19,9 +19,12 @@ use Rattle.recovery.specs.declared.State.{State}
 use Rattle.recovery.specs.declared.Done.{Done}
 use Rattle.recovery.specs.declared.Answer.the-variants.{Refused}
 
+abbrev pub hasPlace : List ℕ → ℕ → Bool
+hasPlace s place = leb 1 place && leb place (length s / pageSize)
+
 -- the bytes of a page of the sheet, none where it has no such place
 unfoldable pub partAt : List ℕ → ℕ → List ℕ
-partAt s place = cond (leb 1 place && leb place (length s / pageSize)) (pageBytes s place) []
+partAt s place = cond (hasPlace s place) (pageBytes s place) []
 
 -- the lent fate of an action under which its images count, 1 or 2, where the action is the place of an opening; else 0
 unfoldable pub countedFate : ℕ → List ℕ → List ℕ → ℕ → ℕ

@@ -1,4 +1,4 @@
--- What open and rebuild do, over decoded pages, line by line in the order of document 01.
+-- What open and rebuild do, over decoded pages, line by line in the order of document 01 (docs/STORE.md, The calls).
 use mathlib.Core.List.{List, [], _∷_}
 use mathlib.Core.Bool.{Bool, true, false, cond, _&&_, _||_}
 use mathlib.Core.Option.{Option, some, none}

@@ -1,5 +1,5 @@
 // Recovery: what a sheet says, read off its pages alone. Open finds the end, the bad pages and the fates,
-// rebuild a file's row.
+// rebuild a file's row (docs/STORE.md, The calls).
 mod lookup;
 mod numbering;
 mod opening;

@@ -5,19 +5,23 @@ use page::Unpacked;
 ghost use mathlib.Core.Bool.{_||_};
 ghost use mathlib.Core.Path.{_≡_};
 ghost use lib.Dec.{eqb};
-ghost use Rattle.page.specs.Answers.{tested, isBlankPage, imageOf};
+ghost use Rattle.page.specs.Answers.{tested, isBlankPage, imageOfFile};
 ghost use Rattle.recovery.specs.Places.{nth};
 ghost use Rattle.recovery.specs.Sheet.{pageBytes, isOpening, decoded};
-ghost use Rattle.recovery.specs.Steps.{partAt, countedFate, sealedImage};
+ghost use Rattle.recovery.specs.Steps.{hasPlace, partAt, countedFate, sealedImage};
+
+// Whether the sheet has such a place.
+fn has_place(sheet: &[u8], place: u64) -> bool
+    ensures { λ r. ⌜ r ≡ hasPlace (now (sheet .entry)) place ⌝ }
+{
+    (1 <= place) & (place <= (sheet.len() / Page::SIZE) as u64)
+}
 
 // The part of a place: its 64 bytes, none where the sheet has no such place.
 pub fn part_at(sheet: &[u8], place: u64) -> &[u8]
     ensures { λ r. ⌜ now r ≡ partAt (now (sheet .entry)) place ⌝ }
 {
-    if place < 1 {
-        return &sheet[0..0];
-    }
-    if ((sheet.len() / Page::SIZE) as u64) < place {
+    if !has_place(sheet, place) {
         return &sheet[0..0];
     }
     let a = Page::SIZE * (place as usize - 1);
@@ -34,8 +38,12 @@ pub fn page_at(sheet: &[u8], place: u64, files: u64) -> Unpacked
 
 // The quick look at a place; Other where the sheet has no such place.
 pub fn seek_at(sheet: &[u8], place: u64, files: u64, file: u64) -> Sought
-    ensures { λ r. ⌜ r ≡ imageOf file (tested (pageBytes (now (sheet .entry)) place) place files) ⌝ }
+    ensures { λ r. ⌜ r ≡ imageOfFile file (tested (pageBytes (now (sheet .entry)) place) place files) ⌝ }
 {
+    // Asked here too, so that the machine need not choose between the part and an empty one.
+    if !has_place(sheet, place) {
+        return Sought::Other;
+    }
     Page::seek(part_at(sheet, place), place, files, file)
 }
 

@@ -15,7 +15,7 @@ ghost use lib.ListN.{length, replicate};
 ghost use Rattle.page.specs.Layout.{pageSize, mostPlaces};
 ghost use Rattle.recovery.specs.World.{undecidedOf};
 ghost use Rattle.recovery.specs.Lent.{sizesRight, leftBy, openLeaves};
-ghost use Rattle.recovery.specs.OpenSteps.{Told, good, stepped, Scanned, refusal};
+ghost use Rattle.recovery.specs.OpenSteps.{Bounded, good, stepped, Scanned, refusedOpening};
 
 // What the pass has found so far: the end, and the highest bad place up to it, 0 if there is none.
 struct Scan {
@@ -69,7 +69,7 @@ fn extend(scan: Scan, place: u64) -> Scan
 
 // What the page at a place adds. An image or outcome is sealed exactly if a fate of its action is kept by now.
 fn step(found: Unpacked, place: u64, scan: Scan, kept: &mut [u8]) -> Scan
-    requires { ⌜ (1 ≤ place) × (place ≤ length (now kept)) × Told place found ⌝ }
+    requires { ⌜ (1 ≤ place) × (place ≤ length (now kept)) × Bounded place found ⌝ }
     ensures { λ r. ⌜ (r, now (kept .exit)) ≡ stepped found place scan (now (kept .entry)) ⌝ }
 {
     match found {
@@ -127,7 +127,7 @@ fn scan_pages(sheet: &[u8], kept: &mut [u8], files: u64) -> Scan
 
 // A refusal answers three zeros for the state.
 fn refuse(number: u64, place: u64) -> Done
-    ensures { λ r. ⌜ r ≡ refusal number place ⌝ }
+    ensures { λ r. ⌜ r ≡ refusedOpening number place ⌝ }
 {
     Done {
         answer: Answer::Refused(number, place),

@@ -16,7 +16,7 @@ use Rattle.recovery.specs.Lent.{Left}
 use Rattle.recovery.specs.Log.{Entry, opening, image, outcome}
 use Rattle.recovery.specs.Sheet.{pageBytes}
 use Rattle.calls.specs.Calls.{Call, begin, write, read, test, decide, rebuild}
-use Rattle.calls.specs.Effect.{withPage}
+use Rattle.calls.specs.Leaves.{withPage}
 use Rattle.calls.proofs.OnePage.{SameBut, only-one-page}
 use Rattle.calls.specs.Cuts.{storedOf}
 use Rattle.promises.specs.Runs.{Ordered, Box, on, off, Event, calls, opens, cuts, callOn, answerTo, after, numbered, heard, Typed, Allowed, AllAllowed}

@@ -4,7 +4,7 @@ use mathlib.Core.Option.{Option, some, none}
 use Rattle.encoding.proofs.Logic.{clash}
 use Rattle.recovery.specs.declared.Answer.{Answer}
 use Rattle.recovery.specs.Numbers.{numbersOf}
-use Rattle.recovery.proofs.Once.{answer-numbers}
+use Rattle.recovery.proofs.NoSecondOutcome.{answer-numbers}
 use Rattle.promises.specs.Runs.{Box, Event, answerTo, numbered, Hears}
 
 number-is : (z : Option Answer) (x : Answer) → numbered z ≡ some (numbersOf x) → z ≡ some x

@@ -16,7 +16,7 @@ use Rattle.recovery.specs.World.{opened}
 use Rattle.recovery.specs.Numbers.{isRefused}
 use Rattle.recovery.specs.Lent.{Left, rowLength, rowsOf, pagesOf, whole, leaves, refused, closed, openLeaves}
 use Rattle.calls.specs.Calls.{Call}
-use Rattle.calls.specs.Effect.{withPage}
+use Rattle.calls.specs.Leaves.{withPage}
 use Rattle.calls.proofs.OnePage.{SameBut, only-one-page}
 use Rattle.calls.specs.Cuts.{mixed, storedOf}
 use Rattle.promises.specs.Runs.{Ordered, Box, on, off, sheetOf, Event, calls, opens, cuts, callOn, boxOf, after, runs, AllAllowed}

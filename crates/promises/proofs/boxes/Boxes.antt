@@ -27,7 +27,7 @@ use Rattle.recovery.proofs.Pages.{page-at-place, pages-long, test-out}
 use Rattle.recovery.proofs.OpeningLaws.{open-refused}
 use Rattle.recovery.proofs.Spots.{entryIn, entry-down}
 use Rattle.calls.specs.Calls.{Call, call}
-use Rattle.calls.specs.Effect.{grown, lower, callLeaves}
+use Rattle.calls.specs.Leaves.{grown, lower, callLeaves}
 use Rattle.calls.specs.Cuts.{storedOf}
 use Rattle.promises.specs.Runs.{Box, on, off, sheetOf, Event, calls, opens, cuts, callOn, boxOf, after, runs, Typed, Ordered, Allowed, AllAllowed, blankBox, Run}
 use Rattle.promises.proofs.ledger.Ledger.{Ledger, ledgerCall, ledgerOpened}

@@ -21,7 +21,7 @@ use Rattle.recovery.specs.Log.{Entry, blank, torn, bad, opening, image, outcome
 use Rattle.recovery.specs.Sheet.{pageBytes, entryOf, isOpening, decoded, seal, sealed, pages}
 use Rattle.recovery.specs.World.{World, entryAt}
 use Rattle.recovery.proofs.Pages.{page-at-place}
-use Rattle.calls.specs.Effect.{packedEntry, withPage, grown}
+use Rattle.calls.specs.Leaves.{packedEntry, withPage, grown}
 use Rattle.calls.specs.Cuts.{mixed, storedOf}
 use Rattle.recovery.proofs.Spots.{entryIn, entry-top, entry-down}
 use Rattle.promises.proofs.logs.Logs.{Fits}

@@ -18,7 +18,7 @@ use Rattle.recovery.specs.Log.{Image, Entry, blank, torn, bad, opening, image, 
 use Rattle.recovery.specs.Sheet.{pageBytes, entryOf, isOpening, decoded, seal, sealed, pages}
 use Rattle.recovery.proofs.Places.{put-tabulate}
 use Rattle.recovery.proofs.Pages.{page-at-place}
-use Rattle.calls.specs.Effect.{withPage}
+use Rattle.calls.specs.Leaves.{withPage}
 
 -- ---- the bytes
 

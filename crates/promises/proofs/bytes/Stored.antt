@@ -16,7 +16,7 @@ use Rattle.page.proofs.RoundTrip.{length-packed, value-back}
 use Rattle.page.proofs.Obeyed.{opening-rules, image-rules, outcome-rules}
 use Rattle.recovery.specs.Log.{Image, Entry, blank, torn, bad, opening, image, outcome}
 use Rattle.recovery.specs.Sheet.{entryOf}
-use Rattle.calls.specs.Effect.{padded, fieldsAt, valueAt, packedEntry}
+use Rattle.calls.specs.Leaves.{padded, fieldsAt, valueAt, packedEntry}
 use Rattle.calls.proofs.WritePads.{pad-zeros}
 use Rattle.calls.specs.Cuts.{mixed}
 use Rattle.promises.proofs.bytes.Mixed.{mixed-all, any-cut-tested}

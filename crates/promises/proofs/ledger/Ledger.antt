@@ -13,7 +13,7 @@ use Rattle.recovery.specs.declared.Row.{Row}
 use Rattle.recovery.specs.declared.Answer.{Answer}
 use Rattle.recovery.specs.declared.Answer.the-variants.{Refused, Rebuilt, Stored, Nothing, Told}
 use Rattle.inspection.specs.Lawful.{current, token}
-use Rattle.calls.specs.Calls.{Call, begin, write, read, test, decide, rebuild, isKnown, isDecided, valueOf}
+use Rattle.calls.specs.Calls.{Call, begin, write, read, test, decide, rebuild, isKnown, isDecided, versionAnswer}
 use Rattle.promises.proofs.logs.Appends.{owns}
 use Rattle.promises.proofs.logs.Versions.{version}
 
@@ -78,7 +78,7 @@ ledgerWrite m f s a v none =
 -- read: line 9; a version read at a time reaches that far
 abbrev pub foundAnswer : Option Placed → Answer
 foundAnswer none = Nothing
-foundAnswer (some x) = valueOf x
+foundAnswer (some x) = versionAnswer x
 
 abbrev pub within : ℕ → Option Placed → Bool
 within t none = true
@@ -100,7 +100,7 @@ abbrev pub ledgerRead : Ledger → ℕ → ℕ → ℕ → Option Placed → Led
 ledgerRead m f t a none = ledgerVersions m f t
 ledgerRead m f t a (some x) =
     cond (leb (x .image .start) t)
-    (cond (eqb (x .image .action) a) (valueOf x, withEnds m (m .currentend) (tokenRead m f t)) (ledgerRefuse 9 (x .image .action) m))
+    (cond (eqb (x .image .action) a) (versionAnswer x, withEnds m (m .currentend) (tokenRead m f t)) (ledgerRefuse 9 (x .image .action) m))
     (ledgerVersions m f t)
 
 -- commit and abort: line 11; the action's tokens end, and a commit makes them current

@@ -13,7 +13,7 @@ use Rattle.recovery.specs.Log.{opening, image, outcome, Placed, fateOf, placeOf
 use Rattle.recovery.specs.World.{isFile}
 use Rattle.recovery.specs.declared.Answer.the-variants.{Rebuilt}
 use Rattle.inspection.specs.Lawful.{current, token}
-use Rattle.calls.specs.Calls.{begin, write, read, test, decide, rebuild, isDecided, valueOf}
+use Rattle.calls.specs.Calls.{begin, write, read, test, decide, rebuild, isDecided, versionAnswer}
 use Rattle.promises.proofs.ledger.Ledger.{Ledger, LedgerResult, endAt, withEnds, ledgerGrown, ledgerRefuse, ledgerUndecided, ledgerRoom, ledgerKnows, ledgerForAction, ledgerForUndecided, ledgerForFile, ledgerImage, ledgerWrite, tokenRead, ledgerVersions, ledgerRead, currentDecided, tokenDecided, toldFate, ledgerCall}
 
 module _ (P : LedgerResult → Type 0) (m : Ledger) (no : (n p : ℕ) → P (ledgerRefuse n p m)) where
@@ -47,7 +47,7 @@ module _ (P : LedgerResult → Type 0) (m : Ledger) (no : (n p : ℕ) → P (led
 
   -- a read finds a version, or the action's own token
   pub reads : (f t a : ℕ) → P (ledgerVersions m f t)
-      → ((x : Placed) → token (m .log) f ≡ some x → x .image .start ≤ t → x .image .action ≡ a → P (valueOf x, withEnds m (m .currentend) (tokenRead m f t)))
+      → ((x : Placed) → token (m .log) f ≡ some x → x .image .start ≤ t → x .image .action ≡ a → P (versionAnswer x, withEnds m (m .currentend) (tokenRead m f t)))
       → P (ledgerCall m (read f t a))
   reads f t a h k =
       let r = go (token (m .log) f) refl in

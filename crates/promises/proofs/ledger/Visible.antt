@@ -13,7 +13,7 @@ use Rattle.recovery.specs.declared.Answer.the-variants.{Value, Nothing}
 use Rattle.recovery.proofs.LogFates.{undecided-known}
 use Rattle.inspection.specs.Lawful.{token}
 use Rattle.calls.specs.Walk.{nothing}
-use Rattle.calls.specs.Calls.{read, valueOf, call}
+use Rattle.calls.specs.Calls.{read, versionAnswer, call}
 use Rattle.recovery.proofs.Spots.{Spot, Spots, spots}
 use Rattle.promises.proofs.logs.Logs.{known-place}
 use Rattle.promises.proofs.logs.Chains.{chain, token-live}
@@ -69,7 +69,7 @@ module _ (w : World) (m : Ledger) (s : Sim w m) (f t a : ℕ) where
   abbrev Newest : ℕ → Type 0
   Newest st = (y : Placed) → Among y (imagesOf (m .log) f) → fateOf (m .log) (y .image .action) ≡ committed → y .image .start ≤ t → y .image .start ≤ st
 
-  make : (x : Placed) → Spot (m .log) f x → x .image .start ≤ t → Whose w a (x .image) → Newest (x .image .start) → (r : Ledger) → Sees (valueOf x, r)
+  make : (x : Placed) → Spot (m .log) f x → x .image .start ≤ t → Whose w a (x .image) → Newest (x .image .start) → (r : Ledger) → Sees (versionAnswer x, r)
   make x l k o h r = record {
     value = λ p st n e.
         let i : x .place ≡ p = cc in
@@ -102,11 +102,11 @@ module _ (w : World) (m : Ledger) (s : Sim w m) (f t a : ℕ) where
       newest-in : Newest (x .image .start)
       newest-in y i c u = highest (fateOf (m .log)) t x y (imagesOf (m .log) f) (chain (m .log) f (s .lawful)) i c u q
 
-      go : Sees (valueOf x, r)
+      go : Sees (versionAnswer x, r)
       go = make x (spot-among (m .log) f x (imagesOf (m .log) f) (spots (m .log) f) (k .among)) (k .inTime) (kept (fate-eq w m s (x .image .action) ∙ k .kept)) newest-in r
 
   -- and its own
-  sees-own : (x : Placed) → token (m .log) f ≡ some x → x .image .start ≤ t → x .image .action ≡ a → (r : Ledger) → Sees (valueOf x, r)
+  sees-own : (x : Placed) → token (m .log) f ≡ some x → x .image .start ≤ t → x .image .action ≡ a → (r : Ledger) → Sees (versionAnswer x, r)
   sees-own x i q j r = make x (rw i at (token-lies (m .log) f)) q mine newest-in r
     where
       live : fateOf (m .log) (x .image .action) ≡ undecided

@@ -1,6 +1,6 @@
 -- `calls::appending::append`: the page that pack leaves, put back into the sheet. Assumes nothing.
 use Rattle.calls.proofs.Appends.{put-page, pack-left}
-use Rattle.calls.specs.Effect.{withPage}
+use Rattle.calls.specs.Leaves.{withPage}
 use denote.Ref.{now}
 use mathlib.Core.Path.{ap, _∙_}
 use borrow.Author.Needs.{needs}

@@ -1,7 +1,7 @@
 -- `page::Page::seek`: what is passed over at once is no image of this file. Assumes nothing.
 use Rattle.page.proofs.Seek.{unnamed, named-size, this-image}
 use Rattle.page.proofs.Found.{off-image}
-use Rattle.page.specs.Answers.{imageOf}
+use Rattle.page.specs.Answers.{imageOfFile}
 use Rattle.page.specs.declared.Sought.{Sought}
 use Rattle.page.specs.declared.Page.{Page}
 use Rattle.encoding.proofs.Logic.{refused, passed}
@@ -28,11 +28,11 @@ enum-told : tie.Need-enum-told
 enum-told c = search needs
 
 returns-2 : tie.Need-returns-2
-unfolding imageOf
+unfolding imageOfFile
 returns-2 c =
     let a = c .before .before .before .before .before .args in
     off-image (c .before .test .result) (λ (p : Page). cond (eqb (p .file) (a .file)) (Sought.Image p) Sought.Other) Sought.Other (c .match .keys2)
-    ∙ ap (imageOf (a .file)) (c .before .test .ensures)
+    ∙ ap (imageOfFile (a .file)) (c .before .test .ensures)
 
 fields-requires : tie.Need-fields-requires
 fields-requires c κs =

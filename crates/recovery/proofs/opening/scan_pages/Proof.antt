@@ -5,7 +5,7 @@ use lib.ListN.{length}
 use denote.Ref.{now}
 use native.Mathlib.Omega.{arith}
 use Rattle.recovery.proofs.Pages.{test-is}
-use Rattle.recovery.proofs.OpeningFates.{told-at}
+use Rattle.recovery.proofs.OpeningFates.{bounded-at}
 use Rattle.recovery.proofs.OpeningPass.{Passed, passed-none, passed-turn, passed-all}
 use borrow.Author.Needs.{needs}
 use Rattle.recovery.proofs.opening.scan_pages.Statement.{statement}
@@ -47,7 +47,7 @@ step-requires : tie.Need-step-requires Inv-loop μ-loop
 step-requires c κs =
     let a = c .before .before .before .before .before .before .before .args in
     let n = c .before .before .before .before .loop .n in
-    (omega arith, omega arith, told-at (now (a .sheet)) (n + 1) (a .files) _ (c .before .test .ensures ∙ test-is (now (a .sheet)) (64 * n) (64 * n + 64) (n + 1) (a .files) (omega arith) (omega arith) refl))
+    (omega arith, omega arith, bounded-at (now (a .sheet)) (n + 1) (a .files) _ (c .before .test .ensures ∙ test-is (now (a .sheet)) (64 * n) (64 * n + 64) (n + 1) (a .files) (omega arith) (omega arith) refl))
 
 loop-less : tie.Need-loop-less Inv-loop μ-loop
 loop-less c = search needs

@@ -3,7 +3,7 @@ use mathlib.Core.Path.{refl}
 use denote.Ref.{now}
 use native.Mathlib.Omega.{arith}
 use Rattle.page.specs.declared.Unpacked.the-variants.{Blank, Torn}
-use Rattle.recovery.proofs.OpeningSteps.{told-as, step-as, step-good, image-bad, image-good, outcome-bad, outcome-good, step-bad}
+use Rattle.recovery.proofs.OpeningSteps.{bounded-as, step-as, step-good, image-bad, image-good, outcome-bad, outcome-good, step-bad}
 use borrow.Author.Needs.{needs}
 use Rattle.recovery.proofs.opening.step.Statement.{statement}
 use Rattle.recovery.proofs.opening.step.Tie as tie
@@ -33,10 +33,10 @@ enum-known-found-2 : tie.Need-enum-known-found-2
 enum-known-found-2 c = search needs
 
 sub-at : tie.Need-sub-at
-sub-at c = let t = told-as _ _ _ (c .before .before .found2 .given .1) (c .before .before .before .before .before .pre .2) in omega arith
+sub-at c = let t = bounded-as _ _ _ (c .before .before .found2 .given .1) (c .before .before .before .before .before .pre .2) in omega arith
 
 slice-read-if1 : tie.Need-slice-read-if1
-slice-read-if1 c = let t = told-as _ _ _ (c .before .before .before .found2 .given .1) (c .before .before .before .before .before .before .pre .2) in omega arith
+slice-read-if1 c = let t = bounded-as _ _ _ (c .before .before .before .found2 .given .1) (c .before .before .before .before .before .before .pre .2) in omega arith
 
 returns : tie.Need-returns
 returns c =
@@ -50,16 +50,16 @@ enum-known-found-3 : tie.Need-enum-known-found-3
 enum-known-found-3 c = search needs
 
 sub-at-2 : tie.Need-sub-at-2
-sub-at-2 c = let t = told-as _ _ _ (c .before .before .found3 .given .1) (c .before .before .before .before .before .pre .2) in omega arith
+sub-at-2 c = let t = bounded-as _ _ _ (c .before .before .found3 .given .1) (c .before .before .before .before .before .pre .2) in omega arith
 
 add-fate : tie.Need-add-fate
-add-fate c = let t = told-as _ _ _ (c .before .before .before .found3 .given .1) (c .before .before .before .before .before .before .pre .2) in omega arith
+add-fate c = let t = bounded-as _ _ _ (c .before .before .before .found3 .given .1) (c .before .before .before .before .before .before .pre .2) in omega arith
 
 cast-fate : tie.Need-cast-fate
-cast-fate c = let t = told-as _ _ _ (c .before .before .before .found3 .given .1) (c .before .before .before .before .before .before .pre .2) in omega arith
+cast-fate c = let t = bounded-as _ _ _ (c .before .before .before .found3 .given .1) (c .before .before .before .before .before .before .pre .2) in omega arith
 
 slice-read-if2 : tie.Need-slice-read-if2
-slice-read-if2 c = let t = told-as _ _ _ (c .before .before .before .before .found3 .given .1) (c .before .before .before .before .before .before .before .pre .2) in omega arith
+slice-read-if2 c = let t = bounded-as _ _ _ (c .before .before .before .before .found3 .given .1) (c .before .before .before .before .before .before .before .pre .2) in omega arith
 
 returns-2 : tie.Need-returns-2
 returns-2 c =
@@ -67,7 +67,7 @@ returns-2 c =
     outcome-bad (a .place) (a .scan) (now (a .kept)) (a .found) _ (c .before .before .before .before .before .found3 .given .1) (c .if2 .taken)
 
 slice-write-kept-2 : tie.Need-slice-write-kept-2
-slice-write-kept-2 c = let t = told-as _ _ _ (c .before .before .before .before .before .found3 .given .1) (c .before .before .before .before .before .before .before .before .pre .2) in omega arith
+slice-write-kept-2 c = let t = bounded-as _ _ _ (c .before .before .before .before .before .found3 .given .1) (c .before .before .before .before .before .before .before .before .pre .2) in omega arith
 
 extend-requires-4 : tie.Need-extend-requires-4
 extend-requires-4 c κs = search needs

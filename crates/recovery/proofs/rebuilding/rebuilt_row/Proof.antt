@@ -4,7 +4,7 @@ use Rattle.recovery.proofs.Pages.{part-is}
 use Rattle.recovery.specs.Sheet.{pageBytes}
 use Rattle.page.specs.declared.Page.{Page}
 use Rattle.page.specs.declared.Sought as sought
-use Rattle.page.specs.Answers.{tested, imageOf}
+use Rattle.page.specs.Answers.{tested, imageOfFile}
 use Rattle.page.specs.Steps.{named}
 use Rattle.page.proofs.Found.{off-image}
 use Rattle.page.proofs.Seek.{unnamed, named-image}
@@ -38,7 +38,7 @@ tested-at : (c : tie.After-test Inv-loop μ-loop) → c .test .result ≡ tested
 tested-at c = c .test .ensures ∙ ap (λ l. tested l (c .before .before .before .before .before .before .loop .place) (c .before .before .before .before .before .before .before .before .before .before .args .files)) (part-is _ _ _ (c .before .before .before .before .before .before .loop .place) (c .before .before .before .before .before .loop-test .taken) refl refl)
 
 -- an image of the file
-image-at : (c : tie.After-image Inv-loop μ-loop) → sought.Sought.Image (c .image .given .0 .0) ≡ imageOf (c .before .before .before .before .before .before .before .before .before .before .before .before .args .file) (tested (pageBytes (now (c .before .before .before .before .before .before .before .before .before .before .before .before .args .sheet)) (c .before .before .before .before .before .before .before .before .loop .place)) (c .before .before .before .before .before .before .before .before .loop .place) (c .before .before .before .before .before .before .before .before .before .before .before .before .args .files))
+image-at : (c : tie.After-image Inv-loop μ-loop) → sought.Sought.Image (c .image .given .0 .0) ≡ imageOfFile (c .before .before .before .before .before .before .before .before .before .before .before .before .args .file) (tested (pageBytes (now (c .before .before .before .before .before .before .before .before .before .before .before .before .args .sheet)) (c .before .before .before .before .before .before .before .before .loop .place)) (c .before .before .before .before .before .before .before .before .loop .place) (c .before .before .before .before .before .before .before .before .before .before .before .before .args .files))
 image-at c = named-image (pageBytes (now (c .before .before .before .before .before .before .before .before .before .before .before .before .args .sheet)) (c .before .before .before .before .before .before .before .before .loop .place)) (c .before .before .before .before .before .before .before .before .loop .place) (c .before .before .before .before .before .before .before .before .before .before .before .before .args .files) (c .before .before .before .before .before .before .before .before .before .before .before .before .args .file) _ (passed (named-at (c .before .before .before .before .before)) (c .before .before .before .before .if1 .left)) (sym (c .image .given .1) ∙ tested-at (c .before .before))
 
 in-sheet : (c : tie.In-loop Inv-loop μ-loop) → 64 * c .before .loop .place ≤ length (now (c .before .before .before .before .before .args .sheet))
@@ -101,11 +101,11 @@ loop-less-2 : tie.Need-loop-less-2 Inv-loop μ-loop
 loop-less-2 c = search needs
 
 loop-again-2 : tie.Need-loop-again-2 Inv-loop μ-loop
-unfolding imageOf
+unfolding imageOfFile
 loop-again-2 c =
     let l = c .before .before .before .before .before .before .before in
     let a = c .before .before .before .before .before .before .before .before .before .before .before .args in
-    (omega arith, pass (a .files) (now (a .sheet)) (now (a .fates)) (a .file) (l .loop .place) (c .before .before .before .before .before .before .loop-test .taken) (in-sheet (c .before .before .before .before .before .before)) (l .loop .token) (l .loop .tokenend) (off-image (c .before .test .result) (λ (p : Page). cond (eqb (p .file) (a .file)) (sought.Sought.Image p) sought.Sought.Other) sought.Sought.Other (c .match .keys2) ∙ ap (imageOf (a .file)) (tested-at (c .before))) (l .loop .inv .1), l .loop .inv .2)
+    (omega arith, pass (a .files) (now (a .sheet)) (now (a .fates)) (a .file) (l .loop .place) (c .before .before .before .before .before .before .loop-test .taken) (in-sheet (c .before .before .before .before .before .before)) (l .loop .token) (l .loop .tokenend) (off-image (c .before .test .result) (λ (p : Page). cond (eqb (p .file) (a .file)) (sought.Sought.Image p) sought.Sought.Other) sought.Sought.Other (c .match .keys2) ∙ ap (imageOfFile (a .file)) (tested-at (c .before))) (l .loop .inv .1), l .loop .inv .2)
 
 counted-fate-requires : tie.Need-counted-fate-requires Inv-loop μ-loop
 counted-fate-requires c κs = search needs

@@ -5,7 +5,7 @@ use mathlib.Core.List.{List}
 use Rattle.recovery.specs.declared.State.{State}
 use Rattle.recovery.specs.Lent.{Left}
 use Rattle.calls.specs.Calls.{Call}
-use Rattle.calls.specs.Effect.{callLeaves}
+use Rattle.calls.specs.Leaves.{callLeaves}
 
 pub call-once : (s fates rows : List ℕ) (state : State) (k : Call) {l l′ : Left} → l ≡ callLeaves s fates rows state k → l′ ≡ callLeaves s fates rows state k → l ≡ l′
 call-once s fates rows state k e f = e ∙ sym f
