@@ -1,6 +1,6 @@
 -- The check word by weights is the check word. Assumes nothing.
 use Prim.Native.Nat.{ℕ, zero, suc, _+_, _*_, _/_, _%_, _^_, _≤_, _<_}
-use mathlib.Core.Path.{_≡_, sym, ap, _∙_}
+use mathlib.Core.Path.{_≡_, refl, sym, ap, _∙_}
 use mathlib.Core.List.{List, [], _∷_, _++_}
 use native.Mathlib.Omega.{arith}
 use native.Mathlib.Numerals.{add-one}
@@ -8,7 +8,7 @@ use native.Mathlib.Nat.{pow-succ', mul-assoc, mul-comm, mul-left-comm, add-mul, 
 use lib.ListN.{length, take, drop, getD}
 use lib.Seq.{drop-cons, take-all}
 use Rattle.encoding.specs.Bytes.{part, checkFrom, check}
-use Rattle.encoding.specs.WordSteps.{weights, weighed}
+use Rattle.encoding.specs.WordSteps.{weights, weighed, few}
 
 pub check-below : (w : ℕ) (s : List ℕ) → w < 65521 → checkFrom w s < 65521
 check-below w [] h = h
@@ -97,3 +97,40 @@ page-word s l =
     let m : check s % 65521 ≡ (257 ^ 60 + X) % 65521 = rw all at (word-law 60 s 1 0 (omega arith)) in
     ap (λ (k : ℕ). k % 65521) sum ∙ mod-add-mod (257 ^ 60) 65521 X ∙ sym m
     ∙ mod-eq-of-lt (check-small s)
+
+-- ---- few bytes that are not 0
+
+-- n bytes that are 0 add nothing
+passing : ℕ → ℕ → ℕ
+passing zero x = x
+passing (suc n) x = 0 + passing n x
+
+passing-is : (n x : ℕ) → passing n x ≡ x
+unfolding passing
+passing-is zero x = refl
+passing-is (suc n) x = omega (arith, passing-is n x)
+
+-- four bytes by their weights, and the rest
+four : ℕ → ℕ → ℕ → ℕ → ℕ → ℕ → ℕ → ℕ → ℕ → ℕ
+four a b c d x y z t rest = a * x + (b * y + (c * z + (d * t + rest)))
+
+-- the few bytes by their weights, of the first and the four of the number
+summed : ℕ → ℕ → ℕ → ℕ → ℕ → ℕ
+summed f x y z t = 48406 + (48628 * f + passing 7 (four 15964 38049 14425 61498 x y z t (passing 8 0))) + passing 20 0 + passing 16 (four 4654 528 257 1 x y z t 0)
+
+summed-is : (f x y z t : ℕ) → 48406 + 48628 * f + (15964 + 4654) * x + (38049 + 528) * y + (14425 + 257) * z + (61498 + 1) * t ≡ summed f x y z t
+unfolding summed four
+summed-is f x y z t = simp passing-is (omega arith)
+
+weighed-few : (f n : ℕ) → 48406 + weighed (part 0 20 (weights 60)) (few f n) 0 + weighed (part 20 40 (weights 60)) (few f n) 20 + weighed (part 40 60 (weights 60)) (few f n) 40
+    ≡ summed f (n % 256) (n / 256 % 256) (n / 256 / 256 % 256) (n / 256 / 256 / 256 % 256)
+unfolding weights summed passing four few
+weighed-few f n = refl
+
+pub few-word : (f n : ℕ) → (48406 + 48628 * f + (15964 + 4654) * (n % 256) + (38049 + 528) * (n / 256 % 256) + (14425 + 257) * (n / 65536 % 256) + (61498 + 1) * (n / 16777216 % 256)) % 65521
+    ≡ check (few f n)
+unfolding few
+few-word f n =
+    let y : n / 65536 ≡ n / 256 / 256 = omega arith in
+    let z : n / 16777216 ≡ n / 256 / 256 / 256 = omega arith in
+    rw (y, z) (ap (λ (k : ℕ). k % 65521) (summed-is f _ _ _ _ ∙ sym (weighed-few f n)) ∙ page-word (few f n) refl)

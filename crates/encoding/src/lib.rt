@@ -7,7 +7,7 @@ ghost use mathlib.Core.List.{[], _∷_, _++_};
 ghost use lib.ListN.{length, take, drop, getD};
 ghost use lib.Dec.{eqb};
 ghost use Rattle.encoding.specs.Bytes.{part, number, bytes, zeros, check};
-ghost use Rattle.encoding.specs.WordSteps.{weights, weighed};
+ghost use Rattle.encoding.specs.WordSteps.{weights, weighed, few};
 
 fn wide(b: u8) -> u64
     ensures { λ r. ⌜ r ≡ b ⌝ }
@@ -170,6 +170,28 @@ pub fn is_zero_from(s: &[u8], from: u64) -> bool
     is_zero(&s[at..n])
 }
 
+// The weights that the word of few bytes needs too: of byte 0, and of the four bytes from 8 and from 56 on.
+const AT_0: u64 = 48628;
+
+const AT_8: u64 = 15964;
+
+const AT_9: u64 = 38049;
+
+const AT_10: u64 = 14425;
+
+const AT_11: u64 = 61498;
+
+const AT_56: u64 = 4654;
+
+const AT_57: u64 = 528;
+
+const AT_58: u64 = 257;
+
+const AT_59: u64 = 1;
+
+// What the beginning of the word, 1, comes to after 60 bytes.
+const BEGUN: u64 = 48406;
+
 // A byte by its weight.
 fn weigh(s: &[u8], at: usize, w: u64) -> u64
     requires { ⌜ (at < length (now s)) × (w < 65521) ⌝ }
@@ -194,9 +216,9 @@ fn weigh_first(s: &[u8]) -> u64
     ensures { λ r. ⌜ r ≡ weighed (part 0 20 (weights 60)) (now (s .entry)) 0 ⌝ }
     ensures fits { λ r. ⌜ r < 335544320 ⌝ }
 {
-    weigh_four(s, 0, 48628, 15231, 29378, 57732)
+    weigh_four(s, 0, AT_0, 15231, 29378, 57732)
         + weigh_four(s, 4, 59372, 61163, 42304, 40446)
-        + weigh_four(s, 8, 15964, 38049, 14425, 61498)
+        + weigh_four(s, 8, AT_8, AT_9, AT_10, AT_11)
         + weigh_four(s, 12, 62446, 4832, 59931, 19864)
         + weigh_four(s, 16, 62284, 48682, 44295, 34590)
 }
@@ -222,15 +244,15 @@ fn weigh_third(s: &[u8]) -> u64
         + weigh_four(s, 44, 3578, 18370, 44432, 13685)
         + weigh_four(s, 48, 19939, 58970, 63201, 32624)
         + weigh_four(s, 52, 13894, 37786, 33035, 16700)
-        + weigh_four(s, 56, 4654, 528, 257, 1)
+        + weigh_four(s, 56, AT_56, AT_57, AT_58, AT_59)
 }
 
-// The check word of 60 bytes, a page's: one sum and one remainder. 48,406 is what the beginning, 1, comes to.
+// The check word of 60 bytes, a page's: one sum and one remainder.
 fn check_page(s: &[u8]) -> u64
     requires { ⌜ length (now s) ≡ 60 ⌝ }
     ensures { λ r. ⌜ r ≡ check (now (s .entry)) ⌝ }
 {
-    (48406 + weigh_first(s) + weigh_second(s) + weigh_third(s)) % 65521
+    (BEGUN + weigh_first(s) + weigh_second(s) + weigh_third(s)) % 65521
 }
 
 // The check word of a run of any length, byte by byte.
@@ -254,4 +276,16 @@ pub fn check_word(s: &[u8]) -> u64
         return check_page(s);
     }
     check_any(s)
+}
+
+// The check word of 60 bytes that are 0 but for the first and a number, which stands in the four from 8 and in those from 56 on.
+pub fn check_few(first: u8, x: u64) -> u64
+    ensures { λ r. ⌜ r ≡ check (few first x) ⌝ }
+    ensures fits { λ r. ⌜ r < 65521 ⌝ }
+{
+    let a = (AT_8 + AT_56) * (x % 256);
+    let b = (AT_9 + AT_57) * (x / 256 % 256);
+    let c = (AT_10 + AT_58) * (x / 65536 % 256);
+    let d = (AT_11 + AT_59) * (x / 16777216 % 256);
+    (BEGUN + AT_0 * wide(first) + a + b + c + d) % 65521
 }

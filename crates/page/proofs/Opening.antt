@@ -9,11 +9,11 @@ use lib.Dec.{eqb}
 use lib.ListN.{length, replicate}
 use lib.Seq.{take-all}
 use Rattle.encoding.specs.Bytes.{AreBytes, part, bytes, zeros, same, check}
-use Rattle.encoding.specs.WordSteps.{weights, weighed}
+use Rattle.encoding.specs.WordSteps.{few}
 use Rattle.encoding.proofs.Logic.{and-true, and-both, bool-ext}
 use Rattle.encoding.proofs.Numbers.{bytes-join, number-bytes, zeros-are, same-refl, same-true}
 use Rattle.encoding.proofs.Parts.{length-part}
-use Rattle.encoding.proofs.Weighing.{page-word, check-small}
+use Rattle.encoding.proofs.Weighing.{check-small}
 use Rattle.page.specs.declared.Page.{Page}
 use Rattle.page.specs.declared.Unpacked.{Unpacked}
 use Rattle.page.specs.declared.Unpacked.the-variants.{Refused, Blank, Torn, Opening, Image, Outcome, Unfit}
@@ -26,47 +26,11 @@ use Rattle.page.proofs.Quick.{cell-as, on}
 use Rattle.page.proofs.Found.{found, opening-is}
 use Rattle.page.proofs.Obeyed.{opening-rules}
 
--- ---- the check word
+-- ---- the check word: the 60 bytes below it are few
 
--- n bytes that are 0 add nothing
-passing : ℕ → ℕ → ℕ
-passing zero x = x
-passing (suc n) x = 0 + passing n x
-
-passing-is : (n x : ℕ) → passing n x ≡ x
-unfolding passing
-passing-is zero x = refl
-passing-is (suc n) x = omega (arith, passing-is n x)
-
--- four bytes by their weights, and the rest
-four : ℕ → ℕ → ℕ → ℕ → ℕ → ℕ → ℕ → ℕ → ℕ → ℕ
-four a b c d x y z t rest = a * x + (b * y + (c * z + (d * t + rest)))
-
--- the first 60 bytes of an opening by their weights, of the four bytes of its place
-summed : ℕ → ℕ → ℕ → ℕ → ℕ
-summed x y z t = 48406 + (48628 + passing 7 (four 15964 38049 14425 61498 x y z t (passing 8 0))) + passing 20 0 + passing 16 (four 4654 528 257 1 x y z t 0)
-
-summed-is : (x y z t : ℕ) → t ≡ 0 → 48406 + 48628 + (15964 + 4654) * x + (38049 + 528) * y + (14425 + 257) * z ≡ summed x y z t
-unfolding summed four
-summed-is x y z t h = simp passing-is (omega arith)
-
-module _ (place : ℕ) where
-  first-60 : List ℕ
-  first-60 = front (opening place) (replicate valueSize 0) place
-
-  weighed-sum : 48406 + weighed (part 0 20 (weights 60)) first-60 0 + weighed (part 20 40 (weights 60)) first-60 20 + weighed (part 40 60 (weights 60)) first-60 40
-      ≡ summed (place % 256) (place / 256 % 256) (place / 256 / 256 % 256) (place / 256 / 256 / 256 % 256)
-  unfolding first-60 weights front head summed passing four
-  weighed-sum = refl
-
-  pub opening-word : place ≤ mostPlaces
-      → (48406 + 48628 + (15964 + 4654) * (place % 256) + (38049 + 528) * (place / 256 % 256) + (14425 + 257) * (place / 65536)) % 65521
-      ≡ check (front (opening place) (replicate valueSize 0) place)
-  unfolding first-60
-  opening-word h =
-      let high : place / 65536 ≡ place / 256 / 256 % 256 = omega arith in
-      rw high (ap (λ (k : ℕ). k % 65521) (summed-is _ _ _ (place / 256 / 256 / 256 % 256) (omega arith) ∙ sym weighed-sum)
-      ∙ page-word first-60 (length-front (opening place) (replicate valueSize 0) place refl))
+pub few-word : (place : ℕ) → check (few 1 place) ≡ check (front (opening place) (replicate valueSize 0) place)
+unfolding front head few
+few-word place = refl
 
 -- ---- the bytes, eight at a time
 

@@ -1,6 +1,7 @@
 // The page: document 01's table (docs/STORE.md, The page), packing fields into 64 bytes and testing 64 bytes for a page.
 // The layers above know pages only through what these functions promise and the laws of `proofs/`.
 use encoding::byte_at;
+use encoding::check_few;
 use encoding::check_word;
 use encoding::copy;
 use encoding::is_zero;
@@ -359,24 +360,12 @@ impl Page {
         is_zero(part)
     }
 
-    // The check word of the opening at a place: of its 60 bytes only the kind and the place, which stands there twice, are not 0.
-    fn opening_word(place: u64) -> u64
-        requires { ⌜ place ≤ mostPlaces ⌝ }
-        ensures { λ r. ⌜ r ≡ check (front (opening place) (replicate valueSize 0) place) ⌝ }
-        ensures fits { λ r. ⌜ r < 65521 ⌝ }
-    {
-        let low = (15964 + 4654) * (place % 256);
-        let middle = (38049 + 528) * (place / 256 % 256);
-        let high = (14425 + 257) * (place / 65536);
-        (48406 + 48628 + low + middle + high) % 65521
-    }
-
-    // Whether 64 bytes are the opening at a place, eight bytes at a time.
+    // Whether 64 bytes are the opening at a place, eight bytes at a time. Only its kind and its place, which stands there twice, are not 0.
     fn is_packed_opening(part: &[u8], place: u64) -> bool
         requires { ⌜ (length (now part) ≡ pageSize) × (place ≤ mostPlaces) ⌝ }
         ensures { λ r. ⌜ r ≡ same (now (part .entry)) (packed (opening place) (replicate valueSize 0) place) ⌝ }
     {
-        let end = place + 4294967296 * (Page::opening_word(place) + 16777216 * Page::END_MARK);
+        let end = place + 4294967296 * (check_few(1, place) + 16777216 * Page::END_MARK);
         (field(part, Page::KIND, Page::ACTION) == 1)
             & (field(part, Page::ACTION, Page::START) == place)
             & (field(part, Page::START, Page::VALUE) == 0)

@@ -1,12 +1,13 @@
 -- `page::Page::is_packed_opening`: the bytes are the opening's exactly if their numbers are. Assumes nothing.
-use Rattle.page.proofs.Opening.{opening-numbers}
+use Rattle.page.proofs.Opening.{few-word, opening-numbers}
+use mathlib.Core.Path.{_∙_}
 use denote.Ref.{now}
 use borrow.Author.Needs.{needs}
 use Rattle.page.proofs.Page.is_packed_opening.Statement.{statement}
 use Rattle.page.proofs.Page.is_packed_opening.Tie as tie
 
-opening-word-requires : tie.Need-opening-word-requires
-opening-word-requires c κs = search needs
+check-few-requires : tie.Need-check-few-requires
+check-few-requires c κs = search needs
 
 mul-end : tie.Need-mul-end
 mul-end c = search needs
@@ -51,13 +52,13 @@ returns c =
     let pre = start .before .pre in
     opening-numbers (a .place) (pre .1) (now (a .part)) (pre .0) (λ i. start .shared-slice-known .given i .fits)
     (c .before .before .before .before .before .field .ensures) (c .before .before .before .before .field2 .ensures) (c .before .before .before .field3 .ensures)
-    (c .before .is-zero-from .ensures) (c .field4 .ensures) (c .before .before .before .before .before .before .opening-word .ensures .0)
+    (c .before .is-zero-from .ensures) (c .field4 .ensures) (c .before .before .before .before .before .before .check-few .ensures .0 ∙ few-word (a .place))
 
 pub is-packed-opening-spec : {M : Type 1} → statement M
 is-packed-opening-spec =
     tie.close
     (tie.spec
-    opening-word-requires
+    check-few-requires
     mul-end
     add-end
     mul-end-2
