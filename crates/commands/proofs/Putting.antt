@@ -1,8 +1,6 @@
 -- Bytes put one after the other into a run. Assumes nothing.
 use Prim.Native.Nat.{ℕ, _+_, _-_, _≤_, _<_}
-use mathlib.Core.Path.{_≡_, sym, ap, ap₂, subst, _∙_}
-use mathlib.Core.Bool.{_||_}
-use lib.Dec.{ltb}
+use mathlib.Core.Path.{_≡_, sym, ap, ap₂, _∙_}
 use mathlib.Core.List.{List, [], _∷_, _++_, append-assoc}
 use native.Mathlib.Omega.{arith}
 use native.Mathlib.Numerals.{add-one}
@@ -11,10 +9,8 @@ use lib.ListN.{length, take, drop, set, length-append, take-append-drop}
 use lib.Seq.{take-suc-set, drop-set-lt, drop-drop}
 use Rattle.encoding.specs.Bytes.{part}
 use Rattle.encoding.proofs.Parts.{put-part, length-part}
-use Rattle.encoding.proofs.Logic.{by-test}
-use Rattle.commands.specs.declared.printing.Reply.{Reply}
 use Rattle.commands.specs.PrintSteps.{Put}
-use Rattle.commands.specs.Replies.{laid, printed, prints}
+use Rattle.commands.specs.Replies.{laid}
 
 pub one-byte : (at b : ℕ) (out : List ℕ) → at < length out → Put at (b ∷ []) out (set out at b) (at + 1)
 one-byte at b out h = record {
@@ -48,14 +44,3 @@ whole-line line out after end p =
     let e : end ≡ length line = omega (arith, p .ends) in
     ap₂ (λ (n : ℕ) (s : List ℕ). (n, s)) e
     (sym (take-append-drop end after) ∙ ap₂ _++_ (p .before-end) (p .behind ∙ ap (λ (n : ℕ). drop n out) e))
-
--- what `print` answers lies in what it leaves
-pub print-inside : (reply : Reply) (value out after : List ℕ) (n : ℕ) → (n, after) ≡ prints reply value out → n ≤ length after
-unfolding prints
-print-inside reply value out after n e = subst Inside (sym e)
-    (by-test Inside (ltb (length out) 128 || ltb 32 (length value))
-    (λ _. omega arith)
-    (λ _. omega (arith, length-append (printed reply value) (drop (length (printed reply value)) out))))
-  where
-    Inside : ℕ × List ℕ → Type 0
-    Inside p = p .0 ≤ length (p .1)

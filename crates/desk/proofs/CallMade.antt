@@ -1,5 +1,5 @@
 -- A call on a desk that has a state: it is answered, or a waiting cut strikes it and leaves the first bytes of its page. Assumes nothing.
-use Prim.Native.Nat.{ℕ, suc, _+_, _-_, _*_, _≤_}
+use Prim.Native.Nat.{ℕ, suc, _+_, _-_, _*_, _/_, min, _≤_}
 use mathlib.Core.Path.{_≡_, sym, ap, _∙_, subst}
 use mathlib.Core.List.{List, _++_}
 use mathlib.Core.Bool.{true, false, cond, not, false≢true}
@@ -7,7 +7,7 @@ use native.Mathlib.Omega.{arith}
 use lib.ListN.{length, take, drop, length-take, length-drop}
 use lib.Seq.{take-all}
 use lib.Dec.{eqb}
-use borrow.Author.Tests.{eq-eqb, leb-true}
+use borrow.Author.Tests.{eq-eqb, leb-true, le-leb}
 use borrow.Rule.Slice.PartMut.{putMid, same-len-mid}
 use Rattle.encoding.specs.Bytes.{part}
 use Rattle.encoding.proofs.Logic.{and-true}
@@ -17,6 +17,7 @@ use Rattle.recovery.specs.declared.State.{State}
 use Rattle.recovery.specs.declared.Done.{Done}
 use Rattle.recovery.specs.Sheet.{pageBytes}
 use Rattle.recovery.specs.Lent.{Left, leftBy}
+use Rattle.recovery.specs.Steps.{hasPlace, partAt}
 use Rattle.calls.specs.declared.making.Call.{Call}
 use Rattle.calls.specs.Asked.{asked}
 use Rattle.calls.specs.Leaves.{withPage, callLeaves}
@@ -79,19 +80,26 @@ module _ (d : Desk) (s fates rows : List ℕ) (k : Call) (value : List ℕ) (don
     room-left = omega (arith, room, same-but .long)
 
     -- the page that was kept aside
+    part-kept : (place : ℕ) → place ≡ min (d .state .end) (length s / pageSize) + 1 → partAt s place ≡ pageBytes s (suc (d .state .end))
+    unfolding partAt
+    part-kept place q =
+        let z : place ≡ suc (d .state .end) = omega (arith, room) in
+        let has : hasPlace s (suc (d .state .end)) ≡ true = rw (le-leb 1 (suc (d .state .end)) (omega arith), le-leb (suc (d .state .end)) (length s / pageSize) (omega (arith, room))) in
+        rw (z, has)
+
     page-kept : (part zeros old : List ℕ) → part ≡ pageBytes s (suc (d .state .end)) → length zeros ≡ pageSize → old ≡ cond (eqb (length zeros) (length part)) part zeros
         → old ≡ pageBytes s (suc (d .state .end))
     page-kept part zeros old p l q =
         let n : length part ≡ pageSize = ap length p ∙ simp (length-take, length-drop) (omega (arith, room)) in
         q ∙ ap (λ b. cond b part zeros) (eq-eqb (length zeros) (length part) (l ∙ sym n)) ∙ p
 
-    pub lost-as : (t : Turn) (part zeros old s″ : List ℕ) → part ≡ pageBytes s (suc (d .state .end)) → length zeros ≡ pageSize → old ≡ cond (eqb (length zeros) (length part)) part zeros
+    pub lost-as : (t : Turn) (part zeros old s″ : List ℕ) (place : ℕ) → place ≡ min (d .state .end) (length s / pageSize) + 1 → part ≡ partAt s place → length zeros ≡ pageSize → old ≡ cond (eqb (length zeros) (length part)) part zeros
         → t ≡ lostTurn (d .files) → s″ ≡ withPage s′ (d .state .end) (take (d .cut) (pageBytes s′ (suc (d .state .end))) ++ drop (d .cut) old)
         → leftAfter t s″ fates′ rows′ ≡ acted d s fates rows k value
     unfolding acted
-    lost-as t part zeros old s″ p l o q b =
+    lost-as t part zeros old s″ place i p l o q b =
         let z : s″ ≡ lost d s left .sheet =
-        b ∙ ap (λ x. withPage s′ (d .state .end) (take (d .cut) (pageBytes s′ (suc (d .state .end))) ++ drop (d .cut) x)) (page-kept part zeros old p l o)
+        b ∙ ap (λ x. withPage s′ (d .state .end) (take (d .cut) (pageBytes s′ (suc (d .state .end))) ++ drop (d .cut) x)) (page-kept part zeros old (p ∙ part-kept place i) l o)
         ∙ first-stored (d .state .end) s s′ same-but (d .cut) in
         ap (λ u. leftAfter u s″ fates′ rows′) q ∙ ap (λ x. leftAfter (lostTurn (d .files)) x fates′ rows′) z
         ∙ sym (ap (λ b. cond b (lost d s left) (answered d k left)) e) ∙ ap (actedBy d s k) h

@@ -1,6 +1,5 @@
 pub mod CallMade
 pub mod LineSaid
-pub mod CutPages
 pub mod ValueShown
 pub mod Exported
 pub mod BlankSheets

@@ -12,6 +12,7 @@ use page::Page;
 use recovery::Done;
 use recovery::State;
 use recovery::numbers_of;
+use recovery::part_at;
 ghost use mathlib.Core.Path.{_≡_};
 ghost use mathlib.Core.List.{_++_};
 ghost use Prim.Native.Nat.{suc, _+_, _*_, _≤_};
@@ -81,19 +82,6 @@ fn cut_page(sheet: &mut [u8], place: u64, old: &[u8], cut: u64)
     put_back(&mut sheet[a..e], old, cut as usize);
 }
 
-// The bytes of the page above a place, none where the sheet ends.
-fn page_above(sheet: &[u8], place: u64) -> &[u8]
-    ensures { λ r. ⌜ now r ≡ pageBytes (now (sheet .entry)) (suc place) ⌝ }
-{
-    let n = sheet.len();
-    if ((n / Page::SIZE) as u64) < place {
-        return &sheet[n..n];
-    }
-    let a = Page::SIZE * (place as usize);
-    let e = least((a + Page::SIZE) as u64, n as u64) as usize;
-    &sheet[a..e]
-}
-
 // A call. The page that it may append is kept aside, so that what a cut did not store can be put back.
 pub(crate) fn act(
     sheet: &mut [u8],
@@ -107,7 +95,8 @@ pub(crate) fn act(
 {
     let mut old = [0u8; Page::SIZE];
     let state = desk.state;
-    encoding::copy(&mut old, page_above(&sheet[..], state.end));
+    let pages = (sheet.len() / Page::SIZE) as u64;
+    encoding::copy(&mut old, part_at(&sheet[..], least(state.end, pages) + 1));
     let done = make(sheet, fates, rows, state, call, value);
     let left = done.state;
     if !is_struck(desk, left) {

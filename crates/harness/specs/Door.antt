@@ -41,14 +41,14 @@ pub record Given : Type 0 where
 abbrev pub left : List ℕ → List ℕ → List ℕ → List ℕ → Given
 left s fates rows out = record { sheet = s; fates = fates; rows = rows; numbers = out }
 
-abbrev pub toldCount : ℕ
-toldCount = 8
+abbrev pub numberCount : ℕ
+numberCount = 8
 
 -- the answer's five numbers, then end, floor and open count
-abbrev pub told : Answer → State → List ℕ
-told a state = numbersOf a ++ (state .end ∷ state .floor ∷ state .undecided ∷ [])
+abbrev pub eightNumbers : Answer → State → List ℕ
+eightNumbers a state = numbersOf a ++ (state .end ∷ state .floor ∷ state .undecided ∷ [])
 
 -- into a run of eight numbers; with another nothing is done
 unfoldable pub given : List ℕ → List ℕ → List ℕ → List ℕ → Left → Given
 given s fates rows out x =
-    cond (eqb (length out) toldCount) (left (x .sheet) (x .fates) (x .rows) (told (x .answer) (x .state))) (left s fates rows out)
+    cond (eqb (length out) numberCount) (left (x .sheet) (x .fates) (x .rows) (eightNumbers (x .answer) (x .state))) (left s fates rows out)

@@ -9,14 +9,14 @@ use recovery::refuse;
 ghost use mathlib.Core.Path.{_≡_};
 ghost use lib.ListN.{length};
 ghost use Rattle.recovery.specs.Lent.{leftBy, openLeaves, rebuildLeaves};
-ghost use Rattle.harness.specs.Door.{toldCount, told, callOf, made, stateWith, left, given};
+ghost use Rattle.harness.specs.Door.{numberCount, eightNumbers, callOf, made, stateWith, left, given};
 
-// How many numbers are told.
-const TOLD: usize = 8;
+// How many numbers are given.
+const NUMBERS: usize = 8;
 
 fn tell(out: &mut [u64], done: Done)
-    requires { ⌜ length (now out) ≡ toldCount ⌝ }
-    ensures { λ _. ⌜ now (out .exit) ≡ told (done .answer) (done .state) ⌝ }
+    requires { ⌜ length (now out) ≡ numberCount ⌝ }
+    ensures { λ _. ⌜ now (out .exit) ≡ eightNumbers (done .answer) (done .state) ⌝ }
 {
     let answer = done.answer;
     let state = done.state;
@@ -100,7 +100,7 @@ pub extern "C" fn door_call(
 )
     ensures { λ _. ⌜ left (now (sheet .exit)) (now (fates .exit)) (now (rows .exit)) (now (out .exit)) ≡ given (now (sheet .entry)) (now (fates .entry)) (now (rows .entry)) (now (out .entry)) (made (now (sheet .entry)) (now (fates .entry)) (now (rows .entry)) (stateWith end floor undecided) kind (callOf kind file time action) (now (value .entry))) ⌝ }
 {
-    if out.len() != TOLD {
+    if out.len() != NUMBERS {
         return;
     }
     let state = state_with(end, floor, undecided);
@@ -120,7 +120,7 @@ pub extern "C" fn door_open(
 )
     ensures { λ _. ⌜ left (now (sheet .entry)) (now (fates .exit)) (now (rows .exit)) (now (out .exit)) ≡ given (now (sheet .entry)) (now (fates .entry)) (now (rows .entry)) (now (out .entry)) (openLeaves (now (sheet .entry)) (now (fates .entry)) (now (rows .entry)) floor) ⌝ }
 {
-    if out.len() != TOLD {
+    if out.len() != NUMBERS {
         return;
     }
     let done = recovery::open(sheet, fates, rows, floor);
@@ -141,7 +141,7 @@ pub extern "C" fn door_rebuild(
 )
     ensures { λ _. ⌜ left (now (sheet .entry)) (now (fates .entry)) (now (rows .exit)) (now (out .exit)) ≡ given (now (sheet .entry)) (now (fates .entry)) (now (rows .entry)) (now (out .entry)) (rebuildLeaves (now (sheet .entry)) (now (fates .entry)) (now (rows .entry)) (stateWith end floor undecided) file) ⌝ }
 {
-    if out.len() != TOLD {
+    if out.len() != NUMBERS {
         return;
     }
     let state = state_with(end, floor, undecided);

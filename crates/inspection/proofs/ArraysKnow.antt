@@ -1,7 +1,7 @@
 -- The climb's arrays say what the log says: how they start, what they answer, and what a page does to them. Assumes nothing.
 use Prim.Native.Nat.{ℕ, suc, _+_, _*_, _<_, _≤_}
 use mathlib.Core.Path.{_≡_, refl, ap, sym, subst, _∙_}
-use mathlib.Core.List.{List, [], _∷_}
+use mathlib.Core.List.{List, [], _∷_, head?}
 use mathlib.Core.Bool.{Bool, true, false, cond, not, false≢true}
 use mathlib.Core.Option.{Option, some, none}
 use native.Mathlib.Omega.{arith}
@@ -13,10 +13,10 @@ use Rattle.page.specs.declared.Page.{Page}
 use Rattle.page.specs.declared.Unpacked.{Unpacked}
 use Rattle.page.specs.declared.Unpacked.the-variants.{Refused, Blank, Torn, Opening, Image, Outcome, Unfit}
 use Rattle.page.specs.Layout.{mostFiles}
-use Rattle.recovery.specs.Log.{Entry, torn, opening, image, outcome, Fate, unknown, undecided, committed, aborted, Placed, verdict, fateOf, imagesOf, currentStep, tokenStep, currentOf, tokenOf, placeOf, startOf, isUndecided}
+use Rattle.recovery.specs.Log.{Entry, torn, opening, image, outcome, Fate, unknown, undecided, committed, aborted, Placed, verdict, fateOf, imagesOf, versionsStep, tokenStep, versionsOf, currentOf, tokenOf, placeOf, startOf, isUndecided}
 use Rattle.recovery.specs.Sheet.{imageFrom, entryOf, isOpening, seal}
 use Rattle.recovery.specs.World.{fateNumber}
-use Rattle.recovery.proofs.LogFates.{undecided-is, undecided-test, undecided-known, All, rest, current-keeps, decided-free}
+use Rattle.recovery.proofs.LogFates.{undecided-is, undecided-test, undecided-known, All, rest, versions-keep, decided-free}
 use Rattle.inspection.specs.declared.climbing.Slot.{Slot}
 use Rattle.inspection.specs.Lawful.{current, token, isNone, imageFits, fitsBelow, lawful}
 use Rattle.inspection.specs.ClimbSteps.{Arrays, arrays, slotNumbers, LongEnough, Zeroed, slotAt, newestFate, versionIn, imageFitsIn, pageFitsIn, keepImage, keepPage, FileInRange, InRange}
@@ -50,15 +50,15 @@ start-in (some x) = refl
 
 -- the newest image and what lies below it give the version and the token
 version-top : (φ : ℕ → Fate) (xs : List Placed) → cond (eqb (fateNumber (φ (top xs .action))) 2) (top xs) (slotIn (currentOf φ (rest xs))) ≡ slotIn (currentOf φ xs)
-unfolding currentOf
+unfolding versionsOf
 version-top φ [] = by-test (λ (x : Slot). x ≡ nothing) (eqb (fateNumber (φ 0)) 2) (λ e. refl) (λ e. refl)
-version-top φ (x ∷ xs) = go (φ (x .image .action)) (currentOf φ xs)
+version-top φ (x ∷ xs) = go (φ (x .image .action)) (versionsOf φ xs)
   where
-    go : (y : Fate) (o : Option Placed) → cond (eqb (fateNumber y) 2) (slotOf x) (slotIn o) ≡ slotIn (currentStep y x o)
-    go unknown o = refl
-    go undecided o = refl
-    go committed o = refl
-    go aborted o = refl
+    go : (y : Fate) (vs : List Placed) → cond (eqb (fateNumber y) 2) (slotOf x) (slotIn (head? vs)) ≡ slotIn (head? (versionsStep y x vs))
+    go unknown vs = refl
+    go undecided vs = refl
+    go committed vs = refl
+    go aborted vs = refl
 
 token-top : (φ : ℕ → Fate) (xs : List Placed) → fateNumber (φ 0) ≡ 0 → All 2 φ (rest xs) → not (eqb (fateNumber (φ (top xs .action))) 1) ≡ isNone (tokenOf φ xs)
 unfolding tokenOf
@@ -85,7 +85,7 @@ unfolding slotAt
 slot-zero l z f = λ i. record { place = z (3 * f) i; action = z (3 * f + 1) i; start = z (3 * f + 2) i }
 
 pub knows-none : (places : ℕ) (k : Arrays) → Zeroed k places → Knows [] places k
-unfolding fateOf imagesOf currentOf
+unfolding fateOf imagesOf versionsOf
 knows-none places k z = record {
   lawful-is = lawful-none;
   fates-are = z .fates-zero;
@@ -153,7 +153,7 @@ module _ (l : List Entry) (places : ℕ) (k : Arrays) (w : Knows l places k) whe
   below-same : (g : Entry) → fitsBelow g l ≡ true → (f : ℕ) → f ≤ mostFiles → slotAt (k .below) f ≡ slotIn (currentOf (fateOf (g ∷ l)) (rest (imagesOf l f)))
   below-same g h f b =
       w .below-are f b
-      ∙ ap slotIn (sym (current-keeps (fateOf l) (fateOf (g ∷ l)) (fate-keeps g l h (w .lawful-is)) (rest (imagesOf l f)) (good l f (w .lawful-is) .decided)))
+      ∙ ap (λ vs. slotIn (head? vs)) (sym (versions-keep (fateOf l) (fateOf (g ∷ l)) (fate-keeps g l h (w .lawful-is)) (rest (imagesOf l f)) (good l f (w .lawful-is) .decided)))
 
   long-set : (i v : ℕ) → LongEnough (arrays (set (k .fates) i v) (k .newest) (k .below)) places
   long-set i v = record {

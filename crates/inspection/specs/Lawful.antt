@@ -5,9 +5,12 @@ use mathlib.Core.Option.{Option, some, none}
 use Prim.Native.Nat.{ℕ, suc}
 use lib.ListN.{length}
 use lib.Dec.{eqb, ltb}
-use Rattle.recovery.specs.Log.{Image, Entry, blank, torn, bad, opening, image, outcome, Placed, isUndecided, fateOf, imagesOf, currentOf, tokenOf, placeOf, startOf}
+use Rattle.recovery.specs.Log.{Image, Entry, blank, torn, bad, opening, image, outcome, Placed, isUndecided, fateOf, imagesOf, versionsOf, currentOf, tokenOf, placeOf, startOf}
 
--- a file's newest version and its token, by the log's own outcomes
+-- a file's versions, the newest one and the token, by the log's own outcomes
+abbrev pub versions : List Entry → ℕ → List Placed
+versions l f = versionsOf (fateOf l) (imagesOf l f)
+
 abbrev pub current : List Entry → ℕ → Option Placed
 current l f = currentOf (fateOf l) (imagesOf l f)
 

@@ -14,7 +14,7 @@ use Rattle.commands.specs.declared.printing.Reply as reply
 use Rattle.page.specs.Table.{head, front, packed, fieldsOf, lowest, highest, within, between, meetsRules, isPageOf, torn}
 use Rattle.page.specs.Answers.{inBounds, tested}
 use Rattle.recovery.specs.Places.{tabulate}
-use Rattle.recovery.specs.Log.{fateOf, imagesOf, currentOf, tokenOf}
+use Rattle.recovery.specs.Log.{fateOf, imagesOf, versionsOf, tokenOf}
 use Rattle.recovery.specs.Sheet.{decoded, sealed, pages}
 use Rattle.recovery.specs.World.{down, warmRow, rowHolds, lentRight, endOf, highestBad, undecidedOf, coldRows, opened}
 use Rattle.recovery.specs.Lent.{rowsOf, flat, sizesRight, openLeaves}
@@ -63,7 +63,7 @@ abbrev asks : List ℕ
 asks = 114 ∷ 101 ∷ 97 ∷ 100 ∷ 32 ∷ 51 ∷ 32 ∷ 49 ∷ 48 ∷ 32 ∷ 49 ∷ []
 
 shown-short : turned (memoryAfter 8 (replicate 256 0) (replicate 1280 0) short) asks .turn .reply ≡ reply.Reply.Shown 2 10 2
-unfolding words numberOf three isText alone withOne withTwo withThree withText commandOf parsed openName beginName writeName readName testName commitName abortName cutName callReply openReply startedFor openedFor calledFor acted head front packed fieldsOf lowest highest within between meetsRules isPageOf torn inBounds tested tabulate fateOf imagesOf currentOf tokenOf decoded sealed pages down warmRow rowHolds lentRight endOf highestBad undecidedOf coldRows opened rowsOf flat sizesRight openLeaves follow eachRow call packedEntry withPage callLeaves isRefused
+unfolding words numberOf three isText alone withOne withTwo withThree withText commandOf parsed openName beginName writeName readName testName commitName abortName cutName callReply openReply startedFor openedFor calledFor acted head front packed fieldsOf lowest highest within between meetsRules isPageOf torn inBounds tested tabulate fateOf imagesOf versionsOf tokenOf decoded sealed pages down warmRow rowHolds lentRight endOf highestBad undecidedOf coldRows opened rowsOf flat sizesRight openLeaves follow eachRow call packedEntry withPage callLeaves isRefused
 shown-short = refl
 
 short-keeps : AllKeep 8 short

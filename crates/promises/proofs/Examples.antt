@@ -13,7 +13,7 @@ use Rattle.encoding.proofs.Logic.{clash}
 use Rattle.page.specs.Table as table
 use Rattle.page.specs.Table.{head, front, packed, fieldsOf, lowest, highest, within, between, meetsRules, isPageOf}
 use Rattle.page.specs.Answers.{tested, inBounds}
-use Rattle.recovery.specs.Log.{Image, blank, torn, image, fateOf, imagesOf, tokenOf, currentOf}
+use Rattle.recovery.specs.Log.{Image, blank, torn, image, fateOf, imagesOf, tokenOf, versionsOf}
 use Rattle.recovery.specs.Places.{tabulate}
 use Rattle.recovery.specs.Sheet.{pageBytes, sealed, decoded, pages}
 use Rattle.recovery.specs.World.{down, endOf, undecidedOf}
@@ -28,7 +28,6 @@ use Rattle.calls.specs.Calls.{Call, begin, write, read, test, decide, rebuild}
 use Rattle.calls.specs.Cuts.{firstBytes}
 use Rattle.promises.specs.Runs.{Ordered, Box, off, sheetOf, Event, calls, opens, cuts, after, heard, Hears, Run, blankBox}
 use Rattle.promises.specs.Model.{latest, blankModel, modelHeard, modelRuns}
-use Rattle.promises.specs.FromLog.{historyOf}
 use Rattle.promises.specs.Promises.{boxAfter, pageIn, IsPageOf, IsVersion, Shown, ShowsAt, Did, WasWritten, AllShow, NoneShows, Falls, othersHeard}
 use Rattle.promises.proofs.Proved.{promised}
 use Rattle.promises.proofs.Trying.{Step, does, opened, cut, events, eventOf, is-run, has-floors, none-torn, hears-by, blank-above, inNumbers}
@@ -360,10 +359,10 @@ abbrev foreign : List ℕ
 foreign = packed (table.opening 1) (replicate 32 0) 1 ++ packed (table.opening 2) (replicate 32 0) 2
 
 foreign-lawful : inspected foreign 1 ≡ Lowest 0
-unfolding head front packed fieldsOf lowest highest within between meetsRules isPageOf table.torn inBounds tested tabulate fateOf imagesOf currentOf tokenOf decoded sealed pages down endOf lowestUnlawful inspectable inspected
+unfolding head front packed fieldsOf lowest highest within between meetsRules isPageOf table.torn inBounds tested tabulate fateOf imagesOf versionsOf tokenOf decoded sealed pages down endOf lowestUnlawful inspectable inspected
 foreign-lawful = refl
 
 pub any-sheet-met : heard (off foreign) (events 2 1 (opened 0 ∷ does (test 2) ∷ does (decide 1 true) ∷ []))
     ≡ inNumbers (some (Opened 2 2) ∷ some (Told 1) ∷ some (Refused 11 0) ∷ [])
-unfolding head front packed fieldsOf lowest highest within between meetsRules isPageOf table.torn inBounds tested tabulate fateOf imagesOf currentOf tokenOf decoded sealed pages down endOf undecidedOf historyOf modelHeard
+unfolding head front packed fieldsOf lowest highest within between meetsRules isPageOf table.torn inBounds tested tabulate fateOf imagesOf versionsOf tokenOf decoded sealed pages down endOf undecidedOf modelHeard
 any-sheet-met = promised 2 1 .any-sheet foreign (events 2 1 (opened 0 ∷ does (test 2) ∷ does (decide 1 true) ∷ [])) refl refl foreign-lawful (is-run 2 1 (opened 0 ∷ does (test 2) ∷ does (decide 1 true) ∷ []) refl .allowed) ∙ refl

@@ -1,15 +1,14 @@
 -- The object model that a sheet's log is read as, whoever wrote the sheet.
 use Prim.Native.Nat.{ℕ, _/_}
-use mathlib.Core.List.{List, [], _∷_}
-use mathlib.Core.Bool.{cond}
+use mathlib.Core.List.{List, map}
 use mathlib.Core.Option.{Option, some, none}
 use lib.ListN.{length}
-use lib.Dec.{eqb}
 use Rattle.page.specs.Layout.{pageSize}
 use Rattle.recovery.specs.Log as log
-use Rattle.recovery.specs.Log.{Entry, Fate, Placed, fateOf, imagesOf, tokenOf}
-use Rattle.recovery.specs.World.{down, endOf, fateNumber, fatesOf, undecidedOf}
+use Rattle.recovery.specs.Log.{Entry, Fate, Placed, fateOf}
+use Rattle.recovery.specs.World.{down, endOf, fatesOf, undecidedOf}
 use Rattle.recovery.specs.Lent.{pagesOf}
+use Rattle.inspection.specs.Lawful.{versions, token}
 use Rattle.promises.specs.Model.{Version, object, Status, pending, committed, aborted, Model}
 
 abbrev pub statusOf : Fate → Option Status
@@ -25,10 +24,8 @@ abbrev pub versionIn : Option Placed → Option Version
 versionIn none = none
 versionIn (some x) = some (versionOf x)
 
--- the images whose action is committed
-unfoldable pub historyOf : (ℕ → Fate) → List Placed → List Version
-historyOf φ [] = []
-historyOf φ (x ∷ xs) = cond (eqb (fateNumber (φ (x .image .action))) 2) (versionOf x ∷ historyOf φ xs) (historyOf φ xs)
+abbrev pub history : List Entry → ℕ → List Version
+history l f = map versionOf (versions l f)
 
 -- before an opening gives it a floor
 abbrev pub modelOf : ℕ → ℕ → List Entry → Model
@@ -39,7 +36,7 @@ modelOf pages files l = record {
   floor = 0;
   undecided = undecidedOf (fatesOf pages l);
   status = λ a. statusOf (fateOf l a);
-  object = λ f. object (historyOf (fateOf l) (imagesOf l f)) 0 (versionIn (tokenOf (fateOf l) (imagesOf l f))) 0;
+  object = λ f. object (history l f) 0 (versionIn (token l f)) 0;
 }
 
 abbrev pub logIn : ℕ → List ℕ → List Entry

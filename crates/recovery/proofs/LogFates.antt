@@ -7,7 +7,7 @@ use mathlib.Core.Bool.{Bool, true, false, false≢true}
 use mathlib.Core.Option.{none}
 use native.Mathlib.Omega.{arith}
 use lib.Dec.{eqb}
-use Rattle.recovery.specs.Log.{Fate, unknown, undecided, committed, aborted, Placed, verdict, tokenStep, currentOf, tokenOf, isUndecided}
+use Rattle.recovery.specs.Log.{Fate, unknown, undecided, committed, aborted, Placed, verdict, tokenStep, versionsOf, tokenOf, isUndecided}
 use Rattle.recovery.specs.World.{fateNumber}
 
 -- ---- fates
@@ -46,10 +46,10 @@ pub all-keeps : (n : ℕ) (φ ψ : ℕ → Fate) → ((a : ℕ) → n ≤ fateNu
 all-keeps n φ ψ k [] h = tt
 all-keeps n φ ψ k (x ∷ xs) h = (k (x .image .action) (h .0), all-keeps n φ ψ k xs (h .1))
 
-pub current-keeps : (φ ψ : ℕ → Fate) → ((a : ℕ) → 2 ≤ fateNumber (φ a) → ψ a ≡ φ a) → (xs : List Placed) → All 2 φ xs → currentOf ψ xs ≡ currentOf φ xs
-unfolding currentOf
-current-keeps φ ψ k [] h = refl
-current-keeps φ ψ k (x ∷ xs) h = rw (k (x .image .action) (h .0), current-keeps φ ψ k xs (h .1))
+pub versions-keep : (φ ψ : ℕ → Fate) → ((a : ℕ) → 2 ≤ fateNumber (φ a) → ψ a ≡ φ a) → (xs : List Placed) → All 2 φ xs → versionsOf ψ xs ≡ versionsOf φ xs
+unfolding versionsOf
+versions-keep φ ψ k [] h = refl
+versions-keep φ ψ k (x ∷ xs) h = rw (k (x .image .action) (h .0), versions-keep φ ψ k xs (h .1))
 
 -- no token among decided images
 pub decided-free : (φ : ℕ → Fate) (xs : List Placed) → All 2 φ xs → tokenOf φ xs ≡ none

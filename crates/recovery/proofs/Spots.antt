@@ -1,6 +1,6 @@
 -- Where the images of a log lie: the page at a place, a file's images, its current version and its token.
 use mathlib.Core.Path.{_≡_, refl, _∙_}
-use mathlib.Core.List.{List, [], _∷_}
+use mathlib.Core.List.{List, [], _∷_, head?}
 use mathlib.Core.Bool.{cond}
 use mathlib.Core.Option.{Option, some, none}
 use Prim.Native.Nat.{ℕ, zero, suc, _≤_}
@@ -10,7 +10,7 @@ use lib.Dec.{eqb}
 use borrow.Author.Tests.{eqb-true, eqb-false, eq-eqb, ne-eqb}
 use Rattle.encoding.proofs.Logic.{by-test}
 use Rattle.recovery.specs.Places.{nth}
-use Rattle.recovery.specs.Log.{Entry, blank, torn, bad, opening, image, outcome, Fate, unknown, undecided, committed, aborted, Placed, imagesOf, currentStep, tokenStep, currentOf, tokenOf}
+use Rattle.recovery.specs.Log.{Entry, blank, torn, bad, opening, image, outcome, Fate, unknown, undecided, committed, aborted, Placed, imagesOf, versionsStep, tokenStep, versionsOf, currentOf, tokenOf}
 use Rattle.recovery.specs.World.{down}
 use Rattle.recovery.proofs.Pages.{length-down}
 
@@ -77,16 +77,23 @@ abbrev pub Lies : List Entry → ℕ → Option Placed → Type 0
 Lies l f none = Unit {0}
 Lies l f (some x) = Spot l f x
 
-pub current-of-lies : (l : List Entry) (f : ℕ) (φ : ℕ → Fate) (xs : List Placed) → Spots l f xs → Lies l f (currentOf φ xs)
-unfolding currentOf
-current-of-lies l f φ [] h = tt
-current-of-lies l f φ (x ∷ xs) h = go (φ (x .image .action)) (current-of-lies l f φ xs (h .1))
+pub versions-lie : (l : List Entry) (f : ℕ) (φ : ℕ → Fate) (xs : List Placed) → Spots l f xs → Spots l f (versionsOf φ xs)
+unfolding versionsOf
+versions-lie l f φ [] h = tt
+versions-lie l f φ (x ∷ xs) h = go (φ (x .image .action)) (versions-lie l f φ xs (h .1))
   where
-    go : (q : Fate) → Lies l f (currentOf φ xs) → Lies l f (currentStep q x (currentOf φ xs))
+    go : (q : Fate) → Spots l f (versionsOf φ xs) → Spots l f (versionsStep q x (versionsOf φ xs))
     go unknown r = r
     go undecided r = r
-    go committed r = h .0
+    go committed r = (h .0, r)
     go aborted r = r
+
+first-lies : (l : List Entry) (f : ℕ) (xs : List Placed) → Spots l f xs → Lies l f (head? xs)
+first-lies l f [] h = tt
+first-lies l f (x ∷ xs) h = h .0
+
+pub current-of-lies : (l : List Entry) (f : ℕ) (φ : ℕ → Fate) (xs : List Placed) → Spots l f xs → Lies l f (currentOf φ xs)
+current-of-lies l f φ xs h = first-lies l f (versionsOf φ xs) (versions-lie l f φ xs h)
 
 pub token-of-lies : (l : List Entry) (f : ℕ) (φ : ℕ → Fate) (xs : List Placed) → Spots l f xs → Lies l f (tokenOf φ xs)
 unfolding tokenOf

@@ -17,7 +17,7 @@ use Rattle.page.specs.declared.Sought.{Sought}
 use Rattle.page.specs.Layout.{pageSize}
 use Rattle.page.specs.Answers.{tested, imageOfFile}
 use Rattle.recovery.specs.Places.{nth}
-use Rattle.recovery.specs.Log.{Entry, blank, torn, bad, opening, image, outcome, Fate, unknown, undecided, committed, aborted, Placed, imagesOf, currentOf, tokenOf, placeOf, startOf}
+use Rattle.recovery.specs.Log.{Entry, blank, torn, bad, opening, image, outcome, Fate, unknown, undecided, committed, aborted, Placed, imagesOf, versionsOf, currentOf, tokenOf, placeOf, startOf}
 use Rattle.recovery.specs.Sheet.{pageBytes, entryOf, imageFrom, isOpening, seal, decoded, sealed, pages}
 use Rattle.recovery.specs.World.{down, rebuiltRow, fateFrom, fateIn}
 use Rattle.recovery.specs.Lent.{pagesOf}
@@ -42,7 +42,7 @@ addPage φ file p (image i) r = cond (eqb (i .file) file) (addImage (φ (i .acti
 addPage φ file p (outcome a c) r = r
 
 row-cons : (g : Entry) (l : List Entry) (φ : ℕ → Fate) (f : ℕ) → rebuiltRow (g ∷ l) φ f ≡ addPage φ f (suc (length l)) g (rebuiltRow l φ f)
-unfolding imagesOf currentOf tokenOf
+unfolding imagesOf versionsOf tokenOf
 row-cons blank l φ f = refl
 row-cons torn l φ f = refl
 row-cons bad l φ f = refl
@@ -236,7 +236,7 @@ module _ (t v w p st : ℕ) (r : Row) where
 -- the end of the walk
 pub over-end : (files : ℕ) (s fs : List ℕ) (file p t v : ℕ) → p ≤ 0 → (t ≡ 0 → v ≡ 0)
     → record { mark = 1; current = 0; currentend = 0; token = t; tokenend = v } ≡ overlay t v (rowTo files s fs file p)
-unfolding overlay rowFromPages down imagesOf currentOf tokenOf
+unfolding overlay rowFromPages down imagesOf versionsOf tokenOf
 over-end files s fs file (suc p) t v l h = absurd (omega arith)
 over-end files s fs file zero t v l h = go (eqb t 0) refl
   where

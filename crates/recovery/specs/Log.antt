@@ -1,6 +1,6 @@
 -- The log: a sheet's pages decoded, the newest first, and what they say of an action and of a file.
 -- The place of the newest page is the length of the log.
-use mathlib.Core.List.{List, [], _∷_}
+use mathlib.Core.List.{List, [], _∷_, head?}
 use mathlib.Core.Bool.{Bool, true, false, cond}
 use mathlib.Core.Option.{Option, some, none}
 use Prim.Native.Nat.{ℕ, zero, suc}
@@ -68,23 +68,28 @@ unfoldable pub imagesOf : List Entry → ℕ → List Placed
 imagesOf [] f = []
 imagesOf (g ∷ l) f = imagesStep g (suc (length l)) f (imagesOf l f)
 
--- ---- the current version, the newest committed image; and the token, the newest undecided one above it
+-- ---- a file's versions, those of its images whose action is committed, the newest first: its history
 
-abbrev pub currentStep : Fate → Placed → Option Placed → Option Placed
-currentStep unknown x r = r
-currentStep undecided x r = r
-currentStep committed x r = some x
-currentStep aborted x r = r
+abbrev pub versionsStep : Fate → Placed → List Placed → List Placed
+versionsStep unknown x xs = xs
+versionsStep undecided x xs = xs
+versionsStep committed x xs = x ∷ xs
+versionsStep aborted x xs = xs
+
+unfoldable pub versionsOf : (ℕ → Fate) → List Placed → List Placed
+versionsOf φ [] = []
+versionsOf φ (x ∷ xs) = versionsStep (φ (x .image .action)) x (versionsOf φ xs)
+
+-- ---- the current version, the newest one; and the token, the newest undecided image above it
+
+abbrev pub currentOf : (ℕ → Fate) → List Placed → Option Placed
+currentOf φ xs = head? (versionsOf φ xs)
 
 abbrev pub tokenStep : Fate → Placed → Option Placed → Option Placed
 tokenStep unknown x r = r
 tokenStep undecided x r = some x
 tokenStep committed x r = none
 tokenStep aborted x r = r
-
-unfoldable pub currentOf : (ℕ → Fate) → List Placed → Option Placed
-currentOf φ [] = none
-currentOf φ (x ∷ xs) = currentStep (φ (x .image .action)) x (currentOf φ xs)
 
 unfoldable pub tokenOf : (ℕ → Fate) → List Placed → Option Placed
 tokenOf φ [] = none

@@ -44,6 +44,9 @@ rowOf rows file = nth cold (rowsOf rows) file
 unfoldable pub withRowOf : List ℕ → ℕ → Row → List ℕ
 withRowOf rows file r = cond (isFile (length rows / rowLength) file) (putRow rows (pred file) r) rows
 
+abbrev pub rebuiltWith : ℕ → ℕ → ℕ → ℕ → Row
+rebuiltWith current currentend token tokenend = record { mark = 1; current = current; currentend = currentend; token = token; tokenend = tokenend }
+
 -- the row that the pages and the lent fates give
 unfoldable pub rowFromPages : List ℕ → List ℕ → ℕ → ℕ → ℕ → Row
 rowFromPages s fates files file end = rebuiltRow (down (pagesOf s files) end) (fateIn fates) file

@@ -17,7 +17,20 @@ use page::Sought;
 use page::Unpacked;
 ghost use mathlib.Core.Path.{_≡_};
 ghost use Rattle.recovery.specs.Lent.{leftBy, rebuildLeaves};
-ghost use Rattle.recovery.specs.Steps.{rowFromPages, placeKept, rowKept, rowHoldsIn, Warmed};
+ghost use Rattle.recovery.specs.Steps.{rebuiltWith, rowFromPages, placeKept, rowKept, rowHoldsIn, Warmed};
+
+// A rebuilt row, of the places of a version and a token and where they start.
+fn rebuilt(current: u64, currentend: u64, token: u64, tokenend: u64) -> Row
+    ensures { λ r. ⌜ r ≡ rebuiltWith current currentend token tokenend ⌝ }
+{
+    Row {
+        mark: 1,
+        current,
+        currentend,
+        token,
+        tokenend,
+    }
+}
 
 // The row of a file from the pages up to the end, going down: the first committed image is the current one, and the newest
 // undecided image above it the token. A page that is not an image of the file is passed over at once.
@@ -40,13 +53,7 @@ pub fn rebuilt_row(sheet: &[u8], fates: &[u8], end: u64, files: u64, file: u64) 
         };
         let fate = counted_fate(sheet, fates, image.action, files);
         if fate == 2 {
-            return Row {
-                mark: 1,
-                current: at,
-                currentend: image.start,
-                token,
-                tokenend,
-            };
+            return rebuilt(at, image.start, token, tokenend);
         }
         if fate == 1 {
             if token == 0 {
@@ -55,13 +62,7 @@ pub fn rebuilt_row(sheet: &[u8], fates: &[u8], end: u64, files: u64, file: u64) 
             }
         }
     }
-    Row {
-        mark: 1,
-        current: 0,
-        currentend: 0,
-        token,
-        tokenend,
-    }
+    rebuilt(0, 0, token, tokenend)
 }
 
 // Line 7 for a place of a row, by what was found there: it is 0, or a place up to the end with a sealed image of the file.

@@ -1,31 +1,23 @@
 -- Starts fall in every history of the model.
 use Prim.Native.Nat.{ℕ, _<_}
 use mathlib.Core.Path.{_≡_, refl, sym, ap, _∙_, subst}
-use mathlib.Core.List.{List, [], _∷_}
-use mathlib.Core.Bool.{false, cond}
-use lib.Dec.{eqb}
-use Rattle.recovery.specs.Log.{Fate, unknown, undecided, committed, aborted, Placed, currentOf, fateOf, imagesOf}
-use Rattle.recovery.specs.World.{fateNumber}
+use mathlib.Core.List.{List, [], _∷_, map, head?}
+use mathlib.Core.Bool.{false}
+use Rattle.recovery.specs.Log.{Placed, fateOf, imagesOf}
+use Rattle.inspection.specs.Lawful.{versions}
 use Rattle.promises.specs.Runs.{Box, Event, after, runs, AllAllowed, blankBox, Run}
 use Rattle.promises.specs.Model.{since, Model, blankModel, modelAfter, modelRuns}
-use Rattle.promises.proofs.logs.Chains.{Chain, chain}
+use Rattle.promises.proofs.logs.Chains.{Ordered, versions-ordered, chain}
 use Rattle.promises.proofs.logs.Histories.{newest-is}
 use Rattle.promises.proofs.answers.Objects.{since-is}
 use Rattle.promises.proofs.boxes.Boxes.{isOn}
-use Rattle.promises.specs.FromLog.{versionOf, historyOf}
+use Rattle.promises.specs.FromLog.{versionOf}
 use Rattle.promises.specs.Promises.{Falls}
 use Rattle.promises.proofs.answers.Modelled.{Modelled, modelled-next, modelled-blank, power-modelled}
 
-falls-in : (φ : ℕ → Fate) (xs : List Placed) → Chain φ xs → Falls (historyOf φ xs)
-unfolding historyOf
-falls-in φ [] h = tt
-falls-in φ (x ∷ xs) h = go (φ (x .image .action)) (falls-in φ xs (h .2))
-  where
-    go : (y : Fate) → Falls (historyOf φ xs) → Falls (cond (eqb (fateNumber y) 2) (versionOf x ∷ historyOf φ xs) (historyOf φ xs))
-    go unknown r = r
-    go undecided r = r
-    go committed r = (subst (λ n. n < x .image .start) (sym (ap since (newest-is φ xs) ∙ since-is (currentOf φ xs))) (h .0 .later), r)
-    go aborted r = r
+falls-in : (vs : List Placed) → Ordered vs → Falls (map versionOf vs)
+falls-in [] o = tt
+falls-in (x ∷ vs) o = (subst (λ n. n < x .image .start) (sym (ap since (newest-is vs) ∙ since-is (head? vs))) (o .0 .later), falls-in vs (o .1))
 
 module _ (n files : ℕ) where
   -- the model that a run has reached
@@ -43,7 +35,7 @@ module _ (n files : ℕ) where
   falls-at b k file =
       let l = k .reached .ledger in
       subst Falls (sym (k .stands .history file))
-      (falls-in (fateOf (l .log)) (imagesOf (l .log) file) (chain (l .log) file (k .reached .at .holds .lawful)))
+      (falls-in (versions (l .log) file) (versions-ordered (fateOf (l .log)) (imagesOf (l .log) file) (chain (l .log) file (k .reached .at .holds .lawful))))
 
   pub fallen : (es : List Event) (file : ℕ) → Run n files es → Falls (modelRuns false (blankModel n files) es .object file .history)
   fallen es file r =

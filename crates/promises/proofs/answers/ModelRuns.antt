@@ -10,17 +10,16 @@ use lib.Dec.{eqb, leb}
 use borrow.Author.Tests.{eqb-true, eq-eqb, ne-eqb}
 use Rattle.encoding.proofs.Logic.{by-test, bool-ext, and-true}
 use Rattle.page.specs.Layout.{pageSize, kindAt, markAt}
-use Rattle.recovery.specs.Log.{Entry, torn, fateOf, imagesOf, tokenOf}
+use Rattle.recovery.specs.Log.{Entry, torn, fateOf, imagesOf, versionsOf, tokenOf}
 use Rattle.recovery.specs.Log as log
 use Rattle.recovery.specs.World.{sizes, fatesOf, undecidedOf}
 use Rattle.recovery.specs.Lent.{Left, rowLength, sizesRight}
 use Rattle.recovery.proofs.Sizes.{sizes-right}
 use Rattle.recovery.specs.declared.Answer.the-variants.{Refused, Opened}
-use Rattle.inspection.specs.Lawful.{current, token}
+use Rattle.inspection.specs.Lawful.{versions, current, token}
 use Rattle.calls.specs.Calls.{Call, begin, write, read, test, decide, rebuild, call}
 use Rattle.recovery.proofs.Spots.{entry-top}
 use Rattle.promises.specs.Runs.{Box, on, off, Event, calls, opens, cuts, callOn, answerTo, after, numbered, heard, Allowed, AllAllowed}
-use Rattle.promises.specs.FromLog.{historyOf}
 use Rattle.promises.specs.Model.{blankModel, Model, Reply, modelCall, modelOpened, modelCut, stores, isLent, modelAnswer, modelAfter, modelOn, modelHeard}
 use Rattle.promises.specs.Promises.{isRebuild, others, othersHeard}
 use Rattle.promises.proofs.ledger.Ledger.{Ledger, ledgerCall, ledgerOpened}
@@ -28,7 +27,7 @@ use Rattle.promises.proofs.ledger.SimCalls.{sim-call}
 use Rattle.promises.proofs.bytes.Stored.{bytesOf}
 use Rattle.promises.proofs.bytes.Cuts.{partialLog, cutLog, Step, stay, add, moves}
 use Rattle.promises.proofs.logs.Fates.{undecided-low}
-use Rattle.promises.proofs.logs.Histories.{history, newest-is}
+use Rattle.promises.proofs.logs.Histories.{newest-is}
 use Rattle.promises.proofs.answers.Objects.{Stands, Alike, since-is, call-alike}
 use Rattle.promises.proofs.boxes.Boxes.{sizes-are, isOn, isRight, worldIn, Reached, sim, ledger-says, heardAs, was-opened, reached-next}
 
@@ -49,7 +48,7 @@ module _ (l : Ledger) (m : Model) where
     token = s .token;
     ends = λ o. record {
       floor = refl;
-      current = λ f. rw (s .history f, newest-is (fateOf (l .log)) (imagesOf (l .log) f), since-is (current (l .log) f)) (omega arith);
+      current = λ f. rw (s .history f, newest-is (versions (l .log) f), since-is (current (l .log) f)) (omega arith);
       token = λ f. rw (s .token f, since-is (token (l .log) f)) (omega arith);
     };
   }
@@ -97,7 +96,7 @@ module _ (l : Ledger) (m : Model) (s : Stands true l m) (kept : ℕ → Bool) wh
 
 module _ (n files : ℕ) where
   pub blank-stands : Stands false (ledgerOpened n files [] 0) (blankModel n files)
-  unfolding fateOf imagesOf historyOf tokenOf
+  unfolding fateOf imagesOf versionsOf tokenOf
   blank-stands = record {
     pages = refl;
     files = refl;

@@ -1,7 +1,7 @@
 -- The ledger does what the object model does: every call is answered alike, and leaves the same histories, tokens and ends.
 use Prim.Native.Nat.{ℕ, suc, pred, max, _+_, _-_, _≤_}
 use mathlib.Core.Path.{_≡_, refl, sym, ap, _∙_, subst}
-use mathlib.Core.List.{List, _∷_}
+use mathlib.Core.List.{List, _∷_, map}
 use mathlib.Core.Bool.{Bool, true, false, cond, _&&_, false≢true, true≢false}
 use mathlib.Core.Option.{Option, some, none}
 use native.Mathlib.Omega.{arith}
@@ -10,19 +10,19 @@ use lib.Dec.{eqb, leb, ltb}
 use borrow.Author.Tests.{eqb-true, eqb-false, eq-eqb, ne-eqb, leb-true, le-leb, ltb-true, ltb-false, lt-ltb, le-ltb}
 use Rattle.encoding.proofs.Logic.{bool-ext, and-true}
 use Rattle.page.specs.Layout.{valueSize}
-use Rattle.recovery.specs.Log.{Image, Entry, opening, image, outcome, Fate, unknown, undecided, committed, aborted, Placed, fateOf, imagesOf, verdict, placeOf, startOf}
+use Rattle.recovery.specs.Log.{Image, Entry, opening, image, outcome, Fate, unknown, undecided, committed, aborted, Placed, fateOf, verdict, placeOf, startOf}
 use Rattle.recovery.specs.World.{isFile, fateNumber, fatesOf, undecidedOf}
 use Rattle.recovery.specs.declared.Answer.the-variants.{Rebuilt}
-use Rattle.inspection.specs.Lawful.{current, token}
+use Rattle.inspection.specs.Lawful.{versions, current, token}
 use Rattle.calls.specs.Calls.{Call, begin, write, read, test, decide, rebuild, isKnown}
 use Rattle.promises.specs.Model.{Version, Object, object, pending, Model, Reply, latest, newest, placed, since, shows, refuses, changed, withObject, stored, hasRoom, ofFile, ofPending, writing, readHistory, reading, testing, decidedAs, ended, endedBy, modelCall}
-use Rattle.promises.specs.FromLog.{statusOf, versionOf, versionIn}
+use Rattle.promises.specs.FromLog.{statusOf, versionOf, versionIn, history}
 use Rattle.promises.proofs.logs.Logs.{Lawful, known-place}
-use Rattle.promises.proofs.logs.Appends.{opening-token, image-token, owns, outcome-token}
+use Rattle.promises.proofs.logs.Appends.{opening-versions, opening-token, image-versions, image-token, owns, longer, outcome-versions, outcome-token}
 use Rattle.promises.proofs.logs.Fates.{opening-undecided, outcome-undecided}
 use Rattle.promises.proofs.logs.Versions.{version}
 use Rattle.promises.proofs.ledger.Ledger.{Ledger, LedgerResult, endAt, withEnds, ledgerGrown, ledgerRefuse, ledgerUndecided, ledgerRoom, ledgerKnows, ledgerForAction, ledgerForUndecided, ledgerForFile, ledgerImage, ledgerWrite, foundAnswer, within, raised, currentRead, tokenRead, ledgerVersions, ledgerRead, currentDecided, tokenDecided, toldFate, ledgerCall}
-use Rattle.promises.proofs.logs.Histories.{history, newest-is, latest-is, opening-history, image-history, longer, outcome-history}
+use Rattle.promises.proofs.logs.Histories.{newest-is, latest-is}
 
 -- ---- a ledger stands for a model; the ends count only while the box is on
 
@@ -179,7 +179,7 @@ module _ (l : Ledger) (m : Model) (w : Lawful (l .log)) (room : length (l .log) 
       used = ap suc (s .used);
       undecided = ap suc (s .undecided) ∙ sym (opening-undecided (l .pages) (l .log) w (omega (arith, leb-true (ledgerUndecided l + 2) (l .pages - length (l .log)) q)));
       status = λ a. rw (s .used, s .status a) (sym (ap statusOf (fate-opening (l .log) a) ∙ status-cond (eqb a (suc (length (l .log)))) undecided (fateOf (l .log) a)));
-      history = λ f. s .history f ∙ sym (opening-history (l .log) f w);
+      history = λ f. s .history f ∙ ap (map versionOf) (sym (opening-versions (l .log) f w));
       token = λ f. s .token f ∙ ap versionIn (sym (opening-token (l .log) f w));
       ends = λ o. record { floor = e .floor; current = e .current; token = e .token };
     };
@@ -209,7 +209,7 @@ module _ (l : Ledger) (m : Model) (w : Lawful (l .log)) (room : length (l .log) 
         used = ap suc (s .used);
         undecided = s .undecided ∙ ap undecidedOf (sym (fates-image (l .pages) (ledgerImage l f start a v) (l .log)));
         status = λ b. s .status b ∙ ap statusOf (sym (fate-image (ledgerImage l f start a v) (l .log) b));
-        history = λ g. changed-not (λ x. x .history) (m .object) f written (history (l .log)) (s .history) (s .history f) g ∙ sym (image-history (ledgerImage l f start a v) (l .log) g (k .0));
+        history = λ g. changed-not (λ x. x .history) (m .object) f written (history (l .log)) (s .history) (s .history f) g ∙ ap (map versionOf) (sym (image-versions (ledgerImage l f start a v) (l .log) g (k .0)));
         token = λ g.
             changed-at (λ x. x .token) (m .object) f written (λ h. versionIn (token (l .log) h)) (s .token) (some (versionOf given)) (ap some made-is) g
             ∙ sym (ap versionIn (image-token (ledgerImage l f start a v) (l .log) g (k .0)) ∙ version-cond (eqb f g) (some given) (token (l .log) g));
@@ -245,7 +245,7 @@ module _ (l : Ledger) (m : Model) (w : Lawful (l .log)) (room : length (l .log) 
     x = m .object f
 
     newest-since : since (newest (x .history)) ≡ startOf (current (l .log) f)
-    newest-since = ap (λ h. since (newest h)) (s .history f) ∙ ap since (newest-is (fateOf (l .log)) (imagesOf (l .log) f)) ∙ since-is (current (l .log) f)
+    newest-since = ap (λ h. since (newest h)) (s .history f) ∙ ap since (newest-is (versions (l .log) f)) ∙ since-is (current (l .log) f)
 
     -- an object asked for at other times
     read-ends : (c t : ℕ) (ce te : ℕ → ℕ) → ((g : ℕ) → currentEnd (changed (m .object) f (object (x .history) c (x .token) t) g) ≡ ce g)
@@ -274,7 +274,7 @@ module _ (l : Ledger) (m : Model) (w : Lawful (l .log)) (room : length (l .log) 
 
     read-versions : Alike (ledgerVersions l f time) (readHistory m f time x)
     read-versions = record {
-      answer = found-is (version (l .log) f time) ∙ ap shows (sym (latest-is (fateOf (l .log)) time (imagesOf (l .log) f))) ∙ ap (λ vs. shows (latest time vs)) (sym (s .history f));
+      answer = found-is (version (l .log) f time) ∙ ap shows (sym (latest-is time (versions (l .log) f))) ∙ ap (λ vs. shows (latest time vs)) (sym (s .history f));
       after = λ k. read-ends asked (x .tokenasked) (currentRead l f time) (l .tokenend)
           (changed-at currentEnd (m .object) f _ (l .currentend) (e .current) (raised (within time (current (l .log) f)) time (l .currentend f)) raised-is)
           (changed-not tokenEnd (m .object) f _ (l .tokenend) (e .token) (e .token f));
@@ -301,14 +301,14 @@ module _ (l : Ledger) (m : Model) (w : Lawful (l .log)) (room : length (l .log) 
 
     -- what an outcome leaves of an object, by its token
     module _ (x : Object) where
-      left-history : (z : Option Placed) → endedBy a c x (versionIn z) .history ≡ cond (owns a z) (longer c z (x .history)) (x .history)
-      left-history none = refl
-      left-history (some y) = go (eqb (y .image .action) a) c
+      left-history : (vs : List Placed) (z : Option Placed) → x .history ≡ map versionOf vs → endedBy a c x (versionIn z) .history ≡ map versionOf (cond (owns a z) (longer c z vs) vs)
+      left-history vs none q = q
+      left-history vs (some y) q = go (eqb (y .image .action) a) c
         where
-          go : (b c : Bool) → cond b (ended c x (versionOf y)) x .history ≡ cond b (longer c (some y) (x .history)) (x .history)
-          go true true = refl
-          go true false = refl
-          go false c = refl
+          go : (b c : Bool) → cond b (ended c x (versionOf y)) x .history ≡ map versionOf (cond b (longer c (some y) vs) vs)
+          go true true = ap (λ h. versionOf y ∷ h) q
+          go true false = q
+          go false c = q
 
       left-token : (z : Option Placed) → x .token ≡ versionIn z → endedBy a c x (versionIn z) .token ≡ versionIn (cond (owns a z) none z)
       left-token none q = q
@@ -351,8 +351,8 @@ module _ (l : Ledger) (m : Model) (w : Lawful (l .log)) (room : length (l .log) 
         status = λ b. ap (λ x. cond (eqb b a) (some (decidedAs c)) x) (s .status b)
             ∙ sym (ap statusOf (fate-outcome a c (l .log) b) ∙ status-cond (eqb b a) (verdict c) (fateOf (l .log) b) ∙ ap (λ x. cond (eqb b a) x (statusOf (fateOf (l .log) b))) (verdict-status c));
         history = λ f.
-            ap (λ x. x .history) (left-is f) ∙ left-history (m .object f) (token (l .log) f)
-            ∙ ap (λ vs. cond (owns a (token (l .log) f)) (longer c (token (l .log) f) vs) vs) (s .history f) ∙ sym (outcome-history a c (l .log) f (k .0) w);
+            ap (λ x. x .history) (left-is f) ∙ left-history (m .object f) (versions (l .log) f) (token (l .log) f) (s .history f)
+            ∙ ap (map versionOf) (sym (outcome-versions a c (l .log) f (k .0) w));
         token = λ f.
             ap (λ x. x .token) (left-is f) ∙ left-token (m .object f) (token (l .log) f) (s .token f) ∙ ap versionIn (sym (outcome-token a c (l .log) f (k .0) w));
         ends = λ o. record {
@@ -383,6 +383,6 @@ module _ (l : Ledger) (m : Model) (w : Lawful (l .log)) (room : length (l .log) 
           ≡ Rebuilt (placed (newest (m .object f .history))) (currentEnd (m .object f)) (placed (m .object f .token)) (tokenEnd (m .object f))
       rebuilt =
           let p : placed (newest (m .object f .history)) ≡ placeOf (current (l .log) f) =
-          ap (λ h. placed (newest h)) (s .history f) ∙ ap placed (newest-is (fateOf (l .log)) (imagesOf (l .log) f)) ∙ placed-is (current (l .log) f) in
+          ap (λ h. placed (newest h)) (s .history f) ∙ ap placed (newest-is (versions (l .log) f)) ∙ placed-is (current (l .log) f) in
           let q : placed (m .object f .token) ≡ placeOf (token (l .log) f) = ap placed (s .token f) ∙ placed-is (token (l .log) f) in
           λ i. Rebuilt (sym p i) (sym (e .current f) i) (sym q i) (sym (e .token f) i)

@@ -17,7 +17,7 @@ use Rattle.calls.specs.Calls.{Call, begin, write, read, test, decide, rebuild}
 use Rattle.recovery.proofs.Spots.{entry-top}
 use Rattle.promises.proofs.logs.Logs.{Lawful}
 use Rattle.promises.proofs.logs.Appends.{opening-token, torn-token, image-token, owns, outcome-token}
-use Rattle.promises.proofs.logs.Versions.{version, shows, Clear, version-keeps}
+use Rattle.promises.proofs.logs.Versions.{version, Clear, version-keeps}
 use Rattle.promises.proofs.ledger.Ledger.{Ledger, LedgerResult, endAt, ledgerGrown, ledgerRefuse, ledgerImage, within, raised, ledgerVersions, currentDecided, tokenDecided, ledgerCall, ledgerOpened}
 use Rattle.promises.proofs.ledger.LedgerCalls.{begins, writes, reads, tests, decides, rebuilds}
 use Rattle.promises.proofs.ledger.Sim.{Reach}
@@ -40,7 +40,7 @@ pub record Near (m : Ledger) (f t : ℕ) : Type 0 where
 
 step-kept : (l l′ : List Entry) (f t : ℕ) (v : Option Placed) → Step l l′ → Lawful l′ → Kept l f t v → Clear t (token l′ f) → Kept l′ f t v
 step-kept l l′ f t v stay w h c = h
-step-kept l l′ f t v (add g) w h c = record { clear = c; shows = version-keeps g l f t (w .0) (w .1) (h .clear) ∙ h .shows }
+step-kept l l′ f t v (add g) w h c = record { clear = c; shows = version-keeps t g l f (w .0) (w .1) (h .clear) ∙ h .shows }
 
 owned-late : (a t : ℕ) (z : Option Placed) → owns a z ≡ true → Clear t z → t < startOf z
 owned-late a t none e c = absurd (false≢true e)

@@ -1,6 +1,6 @@
 -- A committed action shows all its versions: a read at its start finds each. An undecided one shows them to itself.
 use mathlib.Core.Path.{_≡_, refl, sym, _∙_}
-use mathlib.Core.List.{List, [], _∷_}
+use mathlib.Core.List.{List, [], _∷_, head?}
 use mathlib.Core.Bool.{Bool, true, false, cond}
 use mathlib.Core.Option.{Option, some, none, Option·some-ne-none}
 use Prim.Native.Nat.{ℕ, suc, _≤_, _<_}
@@ -9,16 +9,16 @@ use lib.ListN.{length}
 use lib.Dec.{eqb}
 use borrow.Author.Tests.{eqb-true, eq-eqb, ne-eqb, le-leb, lt-leb}
 use Rattle.encoding.proofs.Logic.{by-test, clash}
-use Rattle.recovery.specs.Log.{Image, Entry, blank, torn, bad, opening, image, outcome, Fate, unknown, undecided, committed, aborted, Placed, fateOf, imagesOf, currentStep, tokenStep, currentOf, tokenOf, startOf}
+use Rattle.recovery.specs.Log.{Image, Entry, blank, torn, bad, opening, image, outcome, Fate, unknown, undecided, committed, aborted, Placed, fateOf, imagesOf, versionsStep, tokenStep, versionsOf, currentOf, tokenOf, startOf}
 use Rattle.recovery.specs.World.{World, entryAt, fateAt, isFile}
 use Rattle.recovery.specs.declared.Answer.the-variants.{Value}
 use Rattle.recovery.proofs.LogFates.{undecided-known, All, decided-free}
-use Rattle.inspection.specs.Lawful.{token}
+use Rattle.inspection.specs.Lawful.{versions, token}
 use Rattle.calls.specs.Calls.{read, call}
 use Rattle.recovery.proofs.Spots.{entryIn}
 use Rattle.promises.proofs.logs.Logs.{Known, Decided, not-undecided, known-place}
-use Rattle.promises.proofs.logs.Chains.{Chain, chain}
-use Rattle.promises.proofs.logs.Versions.{version, Among, first, next, newest, shown}
+use Rattle.promises.proofs.logs.Chains.{Ordered, Chain, versions-ordered, chain}
+use Rattle.promises.proofs.logs.Versions.{version, Among, first, next, among-versions, newest, shown}
 use Rattle.promises.proofs.ledger.Ledger.{Ledger, ledgerCall}
 use Rattle.promises.proofs.ledger.Sim.{Sim, fate-eq, entry-eq}
 use Rattle.promises.proofs.ledger.SimCalls.{sim-call}
@@ -45,15 +45,15 @@ entry-among (g ∷ l) p i e = go (eqb p (suc (length l))) refl e (entry-among l 
 
 -- a token starts after every version, and an undecided image is its file's token
 pub token-later : (φ : ℕ → Fate) (xs : List Placed) (y : Placed) → Chain φ xs → tokenOf φ xs ≡ some y → startOf (currentOf φ xs) < y .image .start
-unfolding tokenOf currentOf
+unfolding tokenOf versionsOf
 token-later φ [] y h e = absurd (Option·some-ne-none _ (sym e))
-token-later φ (x ∷ xs) y h e = go (φ (x .image .action)) (h .0 .sure) e
+token-later φ (x ∷ xs) y h e = go (φ (x .image .action)) (h .0) e
   where
-    go : (q : Fate) → Known q → tokenStep q x (tokenOf φ xs) ≡ some y → startOf (currentStep q x (currentOf φ xs)) < y .image .start
+    go : (q : Fate) → Known q → tokenStep q x (tokenOf φ xs) ≡ some y → startOf (head? (versionsStep q x (versionsOf φ xs))) < y .image .start
     go unknown k r = absurd (omega arith)
-    go undecided k r = let i : x ≡ y = cc in rw (← i) (h .0 .later)
+    go undecided k r = let i : x ≡ y = cc in rw (← i) (h .1 .later)
     go committed k r = absurd (Option·some-ne-none _ (sym r))
-    go aborted k r = absurd (Option·some-ne-none _ (sym r ∙ decided-free φ xs (h .1)))
+    go aborted k r = absurd (Option·some-ne-none _ (sym r ∙ decided-free φ xs (h .2)))
 
 settled-among : (φ : ℕ → Fate) (x : Placed) (xs : List Placed) → All 2 φ xs → Among x xs → Decided (φ (x .image .action))
 settled-among φ x xs h first = h .0
@@ -62,7 +62,7 @@ settled-among φ x xs h (next {y} {xs = ys} m) = settled-among φ x ys (h .1) m
 undecided-token : (φ : ℕ → Fate) (x : Placed) (xs : List Placed) → Chain φ xs → Among x xs → φ (x .image .action) ≡ undecided → tokenOf φ xs ≡ some x
 unfolding tokenOf
 undecided-token φ x xs h first e = rw e
-undecided-token φ x xs h (next {y} {xs = ys} m) e = not-undecided (φ (x .image .action)) (settled-among φ x ys (h .1) m) e
+undecided-token φ x xs h (next {y} {xs = ys} m) e = not-undecided (φ (x .image .action)) (settled-among φ x ys (h .2) m) e
 
 -- a file's images in a world
 module _ (w : World) (m : Ledger) (s : Sim w m) where
@@ -81,14 +81,14 @@ module _ (w : World) (m : Ledger) (s : Sim w m) where
       k : Chain (fateOf (m .log)) (imagesOf (m .log) (i .file))
       k = chain (m .log) (i .file) (s .lawful)
 
-      a : Among x (imagesOf (m .log) (i .file))
-      a = among-at p i h e
+      o : Ordered (versions (m .log) (i .file))
+      o = versions-ordered (fateOf (m .log)) (imagesOf (m .log) (i .file)) k
 
-      d : fateOf (m .log) (i .action) ≡ committed
-      d = sym (fate-eq w m s (i .action)) ∙ c
+      a : Among x (versions (m .log) (i .file))
+      a = among-versions (fateOf (m .log)) x (imagesOf (m .log) (i .file)) (among-at p i h e) (sym (fate-eq w m s (i .action)) ∙ c)
 
       v : version (m .log) (i .file) (i .start) ≡ some x
-      v = shown (fateOf (m .log)) x (imagesOf (m .log) (i .file)) k a d
+      v = shown x (versions (m .log) (i .file)) o a
 
       fl : isFile (m .files) (i .file) ≡ true
       fl = rw (s .files) at f
@@ -101,7 +101,7 @@ module _ (w : World) (m : Ledger) (s : Sim w m) where
         lt-leb (y .image .start) (i .start) (omega (
           arith,
           token-later (fateOf (m .log)) (imagesOf (m .log) (i .file)) y k q,
-          newest (fateOf (m .log)) x (imagesOf (m .log) (i .file)) k a d,
+          newest x (versions (m .log) (i .file)) o a,
         )),
         v,
       )

@@ -1,6 +1,6 @@
 -- Read does what the ledger does: following the links finds the version that the log has.
 use mathlib.Core.Path.{_≡_, refl}
-use mathlib.Core.List.{List, [], _∷_}
+use mathlib.Core.List.{List, [], _∷_, head?}
 use mathlib.Core.Bool.{Bool, true, false}
 use mathlib.Core.Option.{Option, some, none}
 use Prim.Native.Nat.{ℕ, max, _≤_}
@@ -12,11 +12,11 @@ use Rattle.encoding.proofs.Logic.{by-test}
 use Rattle.recovery.specs.Log.{Placed, fateOf, imagesOf, placeOf, startOf}
 use Rattle.recovery.specs.World.{World, entryAt, withRow, isFile}
 use Rattle.recovery.specs.declared.Row.{Row}
-use Rattle.inspection.specs.Lawful.{current, token}
+use Rattle.inspection.specs.Lawful.{versions, current, token}
 use Rattle.calls.specs.Calls.{imageOf, walkFrom, answerWalk, reaches, readCurrent, readToken, onVersions, onToken, onRead}
-use Rattle.recovery.proofs.Spots.{Spots, spots, Lies}
-use Rattle.promises.proofs.logs.Chains.{chain}
-use Rattle.promises.proofs.logs.Versions.{version, version-none}
+use Rattle.recovery.proofs.Spots.{Spots, spots, Lies, versions-lie}
+use Rattle.promises.proofs.logs.Chains.{Ordered, versions-ordered, chain}
+use Rattle.promises.proofs.logs.Versions.{latestOf, version}
 use Rattle.promises.proofs.logs.Links.{walked, AllSeen, walk-finds}
 use Rattle.promises.proofs.ledger.Ledger.{Ledger, endAt, withEnds, foundAnswer, within, raised, currentRead, tokenRead, ledgerVersions, ledgerRead, ledgerRow}
 use Rattle.promises.proofs.ledger.Sim.{Reach, Sim, Agrees, agrees-cond, current-lies, token-lies, lies-at, row-holds, sim-set}
@@ -43,11 +43,12 @@ module _ (w : World) (m : Ledger) (s : Sim w m) where
   all-seen f [] h = tt
   all-seen f (x ∷ xs) h = (record { here = lies-at w m s f x (h .0); mine = h .0 .mine; low = h .0 .low }, all-seen f xs (h .1))
 
-  walk-eq : (f t : ℕ) (z : Option Placed) → current (m .log) f ≡ z → Lies (m .log) f z
-      → walkFrom w f t (placeOf z) (imageOf (entryAt w (placeOf z))) ≡ walked (version (m .log) f t)
-  walk-eq f t none e l = rw (version-none (fateOf (m .log)) t (imagesOf (m .log) f) e)
-  walk-eq f t (some x) e l = rw (lies-at w m s f x l) (walk-finds (entryAt w) f t (fateOf (m .log)) (imagesOf (m .log) f) (chain (m .log) f (s .lawful))
-      (all-seen f (imagesOf (m .log) f) (spots (m .log) f)) x (length (w .sheet)) e (omega (arith, l .high, s .long, s .room)))
+  walk-eq : (f t : ℕ) (vs : List Placed) → Ordered vs → Spots (m .log) f vs
+      → walkFrom w f t (placeOf (head? vs)) (imageOf (entryAt w (placeOf (head? vs)))) ≡ walked (latestOf t vs)
+  unfolding latestOf
+  walk-eq f t [] o l = refl
+  walk-eq f t (x ∷ vs) o l =
+      rw (lies-at w m s f x (l .0)) (walk-finds (entryAt w) f t x vs (length (w .sheet)) o (all-seen f (x ∷ vs) l) (omega (arith, l .0 .high, s .long, s .room)))
 
   reach-eq : (f t : ℕ) (z : Option Placed) → Lies (m .log) f z → reaches t (imageOf (entryAt w (placeOf z))) ≡ within t z
   reach-eq f t none l = refl
@@ -56,7 +57,9 @@ module _ (w : World) (m : Ledger) (s : Sim w m) where
   sim-versions : (f t : ℕ) → isFile (m .files) f ≡ true → Agrees (onVersions w f t (ledgerRow m f)) (ledgerVersions m f t)
   sim-versions f t h =
       let l = current-lies (m .log) f in
-      rw (walk-eq f t (current (m .log) f) refl l, reach-eq f t (current (m .log) f) l) (go (version (m .log) f t))
+      let o = versions-ordered (fateOf (m .log)) (imagesOf (m .log) f) (chain (m .log) f (s .lawful)) in
+      let v = versions-lie (m .log) f (fateOf (m .log)) (imagesOf (m .log) f) (spots (m .log) f) in
+      rw (walk-eq f t (versions (m .log) f) o v, reach-eq f t (current (m .log) f) l) (go (version (m .log) f t))
     where
       e : ℕ
       e = m .currentend f

@@ -20,7 +20,7 @@ use Rattle.inspection.specs.Lawful.{current, token}
 use Rattle.calls.specs.Calls.{begin, hasRoom, append, store, onBegin, imageOf, actionOf, onWrite}
 use Rattle.recovery.proofs.Spots.{Lies}
 use Rattle.promises.proofs.logs.Logs.{ImageFits}
-use Rattle.promises.proofs.logs.Appends.{opening-current, opening-token, image-current, image-token}
+use Rattle.promises.proofs.logs.Appends.{opening-versions, opening-token, image-versions, image-token}
 use Rattle.promises.proofs.logs.Fates.{opening-fates, opening-undecided}
 use Rattle.promises.proofs.ledger.Ledger.{Ledger, endAt, ledgerGrown, ledgerUndecided, ledgerRoom, ledgerImage, ledgerWrite, ledgerRow, ledgerCall}
 use Rattle.promises.proofs.ledger.Sim.{warmOf, Sim, Agrees, agrees-cond, token-lies, room-eq, blank-ok, lies-at, row-holds, sim-append}
@@ -41,9 +41,9 @@ module _ (w : World) (m : Ledger) (s : Sim w m) where
           (rw (s .fates, s .ends) (opening-fates (m .pages) (m .log)))
           (rw (s .undecided) (sym (opening-undecided (m .pages) (m .log) (s .lawful) k)))
           (s .files)
-          (λ f h. rw (opening-current (m .log) f (s .lawful), opening-token (m .log) f (s .lawful)) (s .rows f h))
+          (λ f h. rw (opening-versions (m .log) f (s .lawful), opening-token (m .log) f (s .lawful)) (s .rows f h))
           (record {
-            current-low = λ f. rw (opening-current (m .log) f (s .lawful)) (s .reach .current-low f);
+            current-low = λ f. rw (opening-versions (m .log) f (s .lawful)) (s .reach .current-low f);
             token-low = λ f. rw (opening-token (m .log) f (s .lawful)) (s .reach .token-low f);
           })
 
@@ -70,14 +70,14 @@ module _ (w : World) (m : Ledger) (s : Sim w m) where
       rows-in i g q true e = rw (
         ← eqb-true f g e,
         nth-put-same cold (w .rows) f row (is-file (m .files) f h .0) (rw (s .files) (is-file (m .files) f h .1)),
-        image-current written (m .log) f i,
+        image-versions written (m .log) f i,
         image-token written (m .log) f i,
         eq-eqb f f refl,
         s .ends,
       )
       rows-in i g q false e = rw (
         nth-put-other cold (w .rows) f g row (λ j. eqb-false f g e (sym j)),
-        image-current written (m .log) g i,
+        image-versions written (m .log) g i,
         image-token written (m .log) g i,
         e,
       ) (s .rows g q)
@@ -94,7 +94,7 @@ module _ (w : World) (m : Ledger) (s : Sim w m) where
           sim-append w m s (image written) (w .fates) (put (w .rows) f row) (w .undecided) (m .currentend) (endAt (m .tokenend) f t) i
           (omega (arith, leb-true (ledgerUndecided m + 1) (m .pages - length (m .log)) r))
           (s .fates) (s .undecided) (length-put (w .rows) f row ∙ s .files) (λ g q. rows-in i g q (eqb f g) refl)
-          (record { current-low = λ g. rw (image-current written (m .log) g i) (s .reach .current-low g); token-low = λ g. held-in i g (eqb f g) refl })
+          (record { current-low = λ g. rw (image-versions written (m .log) g i) (s .reach .current-low g); token-low = λ g. held-in i g (eqb f g) refl })
 
       late : Bool
       late = ltb (m .currentend f) t && ltb (w .floor) t

@@ -11,13 +11,13 @@ use Rattle.recovery.specs.Log.{Image, Entry, image, undecided, committed, Place
 use Rattle.recovery.specs.World.{World, entryAt, fateAt}
 use Rattle.recovery.specs.declared.Answer.the-variants.{Value, Nothing}
 use Rattle.recovery.proofs.LogFates.{undecided-known}
-use Rattle.inspection.specs.Lawful.{token}
+use Rattle.inspection.specs.Lawful.{versions, token}
 use Rattle.calls.specs.Walk.{nothing}
 use Rattle.calls.specs.Calls.{read, versionAnswer, call}
 use Rattle.recovery.proofs.Spots.{Spot, Spots, spots}
 use Rattle.promises.proofs.logs.Logs.{known-place}
-use Rattle.promises.proofs.logs.Chains.{chain, token-live}
-use Rattle.promises.proofs.logs.Versions.{version, Among, first, next, newest, Shows, shows, highest, all-later}
+use Rattle.promises.proofs.logs.Chains.{Ordered, versions-ordered, chain, token-live}
+use Rattle.promises.proofs.logs.Versions.{version, Among, first, next, among-versions, versions-among, newest, Shows, shows, highest, all-later}
 use Rattle.promises.proofs.ledger.Ledger.{Ledger, LedgerResult, ledgerRefuse, foundAnswer, ledgerCall}
 use Rattle.promises.proofs.ledger.LedgerCalls.{reads}
 use Rattle.promises.proofs.ledger.Sim.{Sim, token-lies, fate-eq, lies-at}
@@ -65,6 +65,12 @@ module _ (w : World) (m : Ledger) (s : Sim w m) (f t a : ℕ) where
   among : (q : ℕ) (i : Image) → q ≤ w .end → entryAt w q ≡ image i → i .file ≡ f → Among (record { place = q; image = i }) (imagesOf (m .log) f)
   among q i b e g = subst (λ (x : ℕ). Among (record { place = q; image = i }) (imagesOf (m .log) x)) g (among-at w m s q i b e)
 
+  kept-among : (y : Placed) → Among y (imagesOf (m .log) f) → fateOf (m .log) (y .image .action) ≡ committed → Among y (versions (m .log) f)
+  kept-among y i c = among-versions (fateOf (m .log)) y (imagesOf (m .log) f) i c
+
+  ordered : Ordered (versions (m .log) f)
+  ordered = versions-ordered (fateOf (m .log)) (imagesOf (m .log) f) (chain (m .log) f (s .lawful))
+
   -- the newest version by the time
   abbrev Newest : ℕ → Type 0
   Newest st = (y : Placed) → Among y (imagesOf (m .log) f) → fateOf (m .log) (y .image .action) ≡ committed → y .image .start ≤ t → y .image .start ≤ st
@@ -92,18 +98,21 @@ module _ (w : World) (m : Ledger) (s : Sim w m) (f t a : ℕ) where
   sees-versions none q r = record {
     value = λ p st n e. clash cc;
     nothing = λ e o v b d g c.
-        all-later (fateOf (m .log)) t (record { place = o; image = v }) (imagesOf (m .log) f) (among o v b d g) (sym (fate-eq w m s (v .action)) ∙ c) q;
+        all-later t (record { place = o; image = v }) (versions (m .log) f) (kept-among (record { place = o; image = v }) (among o v b d g) (sym (fate-eq w m s (v .action)) ∙ c)) q;
   }
   sees-versions (some x) q r = go
     where
-      k : Shows (fateOf (m .log)) t x (imagesOf (m .log) f)
-      k = shows (fateOf (m .log)) t x (imagesOf (m .log) f) q
+      k : Shows t x (versions (m .log) f)
+      k = shows t x (versions (m .log) f) q
+
+      o : (fateOf (m .log) (x .image .action) ≡ committed) × Among x (imagesOf (m .log) f)
+      o = versions-among (fateOf (m .log)) x (imagesOf (m .log) f) (k .among)
 
       newest-in : Newest (x .image .start)
-      newest-in y i c u = highest (fateOf (m .log)) t x y (imagesOf (m .log) f) (chain (m .log) f (s .lawful)) i c u q
+      newest-in y i c u = highest t x y (versions (m .log) f) ordered (kept-among y i c) u q
 
       go : Sees (versionAnswer x, r)
-      go = make x (spot-among (m .log) f x (imagesOf (m .log) f) (spots (m .log) f) (k .among)) (k .inTime) (kept (fate-eq w m s (x .image .action) ∙ k .kept)) newest-in r
+      go = make x (spot-among (m .log) f x (imagesOf (m .log) f) (spots (m .log) f) (o .1)) (k .inTime) (kept (fate-eq w m s (x .image .action) ∙ o .0)) newest-in r
 
   -- and its own
   sees-own : (x : Placed) → token (m .log) f ≡ some x → x .image .start ≤ t → x .image .action ≡ a → (r : Ledger) → Sees (versionAnswer x, r)
@@ -117,8 +126,7 @@ module _ (w : World) (m : Ledger) (s : Sim w m) (f t a : ℕ) where
 
       newest-in : Newest (x .image .start)
       newest-in y n c u =
-          let k = chain (m .log) f (s .lawful) in
-          omega (arith, newest (fateOf (m .log)) y (imagesOf (m .log) f) k n c, token-later (fateOf (m .log)) (imagesOf (m .log) f) x k i)
+          omega (arith, newest y (versions (m .log) f) ordered (kept-among y n c), token-later (fateOf (m .log)) (imagesOf (m .log) f) x (chain (m .log) f (s .lawful)) i)
 
   sees-read : Sees (ledgerCall m (read f t a))
   sees-read = reads Sees m refuses f t a (sees-versions (version (m .log) f t) refl _) (λ x e j k. sees-own x e j k _)

@@ -1,6 +1,6 @@
--- What each append that fits does to a file's current version and token.
-use mathlib.Core.Path.{_≡_, refl}
-use mathlib.Core.List.{List, [], _∷_}
+-- What each append that fits does to a file's versions and token.
+use mathlib.Core.Path.{_≡_, refl, ap, _∙_}
+use mathlib.Core.List.{List, [], _∷_, head?}
 use mathlib.Core.Bool.{Bool, true, false, cond}
 use mathlib.Core.Option.{Option, some, none}
 use Prim.Native.Nat.{ℕ, suc}
@@ -9,9 +9,9 @@ use lib.ListN.{length}
 use lib.Dec.{eqb}
 use borrow.Author.Tests.{eqb-true, eq-eqb}
 use Rattle.encoding.proofs.Logic.{by-test}
-use Rattle.recovery.specs.Log.{Image, Entry, torn, opening, image, outcome, Fate, unknown, undecided, committed, aborted, Placed, verdict, fateOf, imagesOf, tokenStep, currentOf, tokenOf}
-use Rattle.recovery.proofs.LogFates.{current-keeps, decided-free}
-use Rattle.inspection.specs.Lawful.{current, token}
+use Rattle.recovery.specs.Log.{Image, Entry, torn, opening, image, outcome, Fate, unknown, undecided, committed, aborted, Placed, verdict, fateOf, imagesOf, tokenStep, versionsOf, tokenOf}
+use Rattle.recovery.proofs.LogFates.{versions-keep, decided-free}
+use Rattle.inspection.specs.Lawful.{versions, current, token}
 use Rattle.promises.proofs.logs.Logs.{ImageFits, Lawful, Known, Keeps, not-undecided, not-unknown, fate-above}
 use Rattle.promises.proofs.logs.Chains.{Chain, decided-keeps, token-keeps, chain}
 
@@ -22,15 +22,15 @@ Agree φ ψ = (a : ℕ) → Known (φ a) → ψ a ≡ φ a
 pub agree-keeps : (φ ψ : ℕ → Fate) → Agree φ ψ → Keeps φ ψ
 agree-keeps φ ψ k a d = k a (omega arith)
 
-pub current-agree : (φ ψ : ℕ → Fate) (xs : List Placed) → Agree φ ψ → Chain φ xs → currentOf ψ xs ≡ currentOf φ xs
-unfolding currentOf
-current-agree φ ψ [] k h = refl
-current-agree φ ψ (x ∷ xs) k h = rw (k (x .image .action) (h .0 .sure), current-keeps φ ψ (agree-keeps φ ψ k) xs (h .1))
+versions-agree : (φ ψ : ℕ → Fate) (xs : List Placed) → Agree φ ψ → Chain φ xs → versionsOf ψ xs ≡ versionsOf φ xs
+unfolding versionsOf
+versions-agree φ ψ [] k h = refl
+versions-agree φ ψ (x ∷ xs) k h = rw (k (x .image .action) (h .0), versions-keep φ ψ (agree-keeps φ ψ k) xs (h .2))
 
-pub token-agree : (φ ψ : ℕ → Fate) (xs : List Placed) → Agree φ ψ → Chain φ xs → tokenOf ψ xs ≡ tokenOf φ xs
+token-agree : (φ ψ : ℕ → Fate) (xs : List Placed) → Agree φ ψ → Chain φ xs → tokenOf ψ xs ≡ tokenOf φ xs
 unfolding tokenOf
 token-agree φ ψ [] k h = refl
-token-agree φ ψ (x ∷ xs) k h = rw (k (x .image .action) (h .0 .sure), token-keeps φ ψ (agree-keeps φ ψ k) xs (h .1))
+token-agree φ ψ (x ∷ xs) k h = rw (k (x .image .action) (h .0), token-keeps φ ψ (agree-keeps φ ψ k) xs (h .2))
 
 -- an opening changes no history
 pub opening-agree : (l : List Entry) → Lawful l → Agree (fateOf l) (fateOf (opening ∷ l))
@@ -39,9 +39,9 @@ opening-agree l w a d = by-test (λ (x : Fate). x ≡ fateOf l a) (eqb a (suc (l
     (λ e. not-unknown (fateOf l a) d (fate-above l a w (omega (arith, eqb-true a (suc (length l)) e))))
     (λ e. refl)
 
-pub opening-current : (l : List Entry) (f : ℕ) → Lawful l → current (opening ∷ l) f ≡ current l f
+pub opening-versions : (l : List Entry) (f : ℕ) → Lawful l → versions (opening ∷ l) f ≡ versions l f
 unfolding imagesOf
-opening-current l f w = current-agree (fateOf l) (fateOf (opening ∷ l)) (imagesOf l f) (opening-agree l w) (chain l f w)
+opening-versions l f w = versions-agree (fateOf l) (fateOf (opening ∷ l)) (imagesOf l f) (opening-agree l w) (chain l f w)
 
 pub opening-token : (l : List Entry) (f : ℕ) → Lawful l → token (opening ∷ l) f ≡ token l f
 unfolding imagesOf
@@ -52,9 +52,9 @@ unfolding imagesOf fateOf
 torn-token l f = refl
 
 -- an image becomes its file's token
-pub image-current : (i : Image) (l : List Entry) (f : ℕ) → ImageFits i l → current (image i ∷ l) f ≡ current l f
-unfolding imagesOf fateOf currentOf
-image-current i l f h = by-test (λ xs. currentOf (fateOf l) xs ≡ current l f) (eqb (i .file) f)
+pub image-versions : (i : Image) (l : List Entry) (f : ℕ) → ImageFits i l → versions (image i ∷ l) f ≡ versions l f
+unfolding imagesOf fateOf versionsOf
+image-versions i l f h = by-test (λ xs. versionsOf (fateOf l) xs ≡ versions l f) (eqb (i .file) f)
     (λ e. rw (h .live)) (λ e. refl)
 
 pub image-token : (i : Image) (l : List Entry) (f : ℕ) → ImageFits i l
@@ -85,7 +85,7 @@ unfolding tokenOf
 token-other φ a x xs h e = go (φ (x .image .action))
   where
     r : tokenOf φ xs ≡ none
-    r = decided-free φ xs (h .1)
+    r = decided-free φ xs (h .2)
 
     go : (y : Fate) → owns a (tokenStep y x (tokenOf φ xs)) ≡ false
     go unknown = rw r
@@ -93,25 +93,31 @@ token-other φ a x xs h e = go (φ (x .image .action))
     go committed = refl
     go aborted = rw r
 
-pub turn-current : (a : ℕ) (c : Bool) (φ : ℕ → Fate) (xs : List Placed) → φ a ≡ undecided → Chain φ xs
-    → currentOf (turned a c φ) xs ≡ cond (owns a (tokenOf φ xs)) (cond c (tokenOf φ xs) (currentOf φ xs)) (currentOf φ xs)
-unfolding currentOf tokenOf
-turn-current a c φ [] h w = refl
-turn-current a c φ (x ∷ xs) h w = go (eqb (x .image .action) a) refl c
+-- the versions with an action's token decided
+abbrev pub longer : Bool → Option Placed → List Placed → List Placed
+longer c none vs = vs
+longer true (some x) vs = x ∷ vs
+longer false (some x) vs = vs
+
+turn-versions : (a : ℕ) (c : Bool) (φ : ℕ → Fate) (xs : List Placed) → φ a ≡ undecided → Chain φ xs
+    → versionsOf (turned a c φ) xs ≡ cond (owns a (tokenOf φ xs)) (longer c (tokenOf φ xs) (versionsOf φ xs)) (versionsOf φ xs)
+unfolding versionsOf tokenOf
+turn-versions a c φ [] h w = refl
+turn-versions a c φ (x ∷ xs) h w = go (eqb (x .image .action) a) refl c
   where
     ψ : Bool → ℕ → Fate
     ψ c = turned a c φ
 
-    rest : (c : Bool) → currentOf (ψ c) xs ≡ currentOf φ xs
-    rest c = current-keeps φ (ψ c) (turn-keeps a c φ h) xs (w .1)
+    rest : (c : Bool) → versionsOf (ψ c) xs ≡ versionsOf φ xs
+    rest c = versions-keep φ (ψ c) (turn-keeps a c φ h) xs (w .2)
 
-    go : (t : Bool) → eqb (x .image .action) a ≡ t → (c : Bool) → currentOf (ψ c) (x ∷ xs)
-        ≡ cond (owns a (tokenOf φ (x ∷ xs))) (cond c (tokenOf φ (x ∷ xs)) (currentOf φ (x ∷ xs))) (currentOf φ (x ∷ xs))
-    go true e true = rw (eqb-true (x .image .action) a e, h, eq-eqb a a refl)
+    go : (t : Bool) → eqb (x .image .action) a ≡ t → (c : Bool) → versionsOf (ψ c) (x ∷ xs)
+        ≡ cond (owns a (tokenOf φ (x ∷ xs))) (longer c (tokenOf φ (x ∷ xs)) (versionsOf φ (x ∷ xs))) (versionsOf φ (x ∷ xs))
+    go true e true = rw (eqb-true (x .image .action) a e, h, eq-eqb a a refl, rest true)
     go true e false = rw (eqb-true (x .image .action) a e, h, eq-eqb a a refl) (rest false)
     go false e c = rw (token-other φ a x xs w e) (rw (e, rest c))
 
-pub turn-token : (a : ℕ) (c : Bool) (φ : ℕ → Fate) (xs : List Placed) → φ a ≡ undecided → Chain φ xs
+turn-token : (a : ℕ) (c : Bool) (φ : ℕ → Fate) (xs : List Placed) → φ a ≡ undecided → Chain φ xs
     → tokenOf (turned a c φ) xs ≡ cond (owns a (tokenOf φ xs)) none (tokenOf φ xs)
 unfolding tokenOf
 turn-token a c φ [] h w = refl
@@ -124,19 +130,33 @@ turn-token a c φ (x ∷ xs) h w = go (eqb (x .image .action) a) refl c
     keep c = turn-keeps a c φ h
 
     rest : (c : Bool) → tokenOf (ψ c) xs ≡ tokenOf φ xs
-    rest c = token-keeps φ (ψ c) (keep c) xs (w .1)
+    rest c = token-keeps φ (ψ c) (keep c) xs (w .2)
 
     go : (t : Bool) → eqb (x .image .action) a ≡ t → (c : Bool) → tokenOf (ψ c) (x ∷ xs)
         ≡ cond (owns a (tokenOf φ (x ∷ xs))) none (tokenOf φ (x ∷ xs))
     go true e true = rw (eqb-true (x .image .action) a e, h, eq-eqb a a refl)
     go true e false = rw (eqb-true (x .image .action) a e, h, eq-eqb a a refl)
-        (decided-free (ψ false) xs (decided-keeps φ (ψ false) (keep false) xs (w .1)))
+        (decided-free (ψ false) xs (decided-keeps φ (ψ false) (keep false) xs (w .2)))
     go false e c = rw (token-other φ a x xs w e) (rw (e, rest c))
+
+pub outcome-versions : (a : ℕ) (c : Bool) (l : List Entry) (f : ℕ) → fateOf l a ≡ undecided → Lawful l
+    → versions (outcome a c ∷ l) f ≡ cond (owns a (token l f)) (longer c (token l f) (versions l f)) (versions l f)
+unfolding imagesOf fateOf
+outcome-versions a c l f h w = turn-versions a c (fateOf l) (imagesOf l f) h (chain l f w)
+
+first-longer : (a : ℕ) (c : Bool) (z : Option Placed) (vs : List Placed)
+    → head? (cond (owns a z) (longer c z vs) vs) ≡ cond (owns a z) (cond c z (head? vs)) (head? vs)
+first-longer a c none vs = refl
+first-longer a c (some x) vs = go (eqb (x .image .action) a) c
+  where
+    go : (b c : Bool) → head? (cond b (longer c (some x) vs) vs) ≡ cond b (cond c (some x) (head? vs)) (head? vs)
+    go true true = refl
+    go true false = refl
+    go false c = refl
 
 pub outcome-current : (a : ℕ) (c : Bool) (l : List Entry) (f : ℕ) → fateOf l a ≡ undecided → Lawful l
     → current (outcome a c ∷ l) f ≡ cond (owns a (token l f)) (cond c (token l f) (current l f)) (current l f)
-unfolding imagesOf fateOf
-outcome-current a c l f h w = turn-current a c (fateOf l) (imagesOf l f) h (chain l f w)
+outcome-current a c l f h w = ap head? (outcome-versions a c l f h w) ∙ first-longer a c (token l f) (versions l f)
 
 pub outcome-token : (a : ℕ) (c : Bool) (l : List Entry) (f : ℕ) → fateOf l a ≡ undecided → Lawful l
     → token (outcome a c ∷ l) f ≡ cond (owns a (token l f)) none (token l f)

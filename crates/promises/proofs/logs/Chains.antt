@@ -1,30 +1,45 @@
 -- The images of a file in a lawful log are a chain: all but the newest are decided, and each is linked to the newest version below
 -- it, lies above it and starts later.
 use mathlib.Core.Path.{_≡_, refl, sym}
-use mathlib.Core.List.{List, [], _∷_}
-use mathlib.Core.Option.{some, none, Option·some-ne-none}
+use mathlib.Core.List.{List, [], _∷_, head?}
+use mathlib.Core.Option.{Option, some, none, Option·some-ne-none}
 use Prim.Native.Nat.{ℕ, suc, _≤_, _<_}
 use native.Mathlib.Omega.{arith}
 use lib.ListN.{length}
 use lib.Dec.{eqb}
 use borrow.Author.Tests.{eqb-true}
 use Rattle.encoding.proofs.Logic.{by-test}
-use Rattle.recovery.specs.Log.{Image, Entry, blank, torn, bad, opening, image, outcome, Fate, unknown, undecided, committed, aborted, Placed, fateOf, imagesOf, currentStep, tokenStep, currentOf, tokenOf, placeOf, startOf}
-use Rattle.recovery.proofs.LogFates.{undecided-known, All, current-keeps}
-use Rattle.recovery.proofs.Spots.{Spots, spots}
+use Rattle.recovery.specs.Log.{Image, Entry, blank, torn, bad, opening, image, outcome, Fate, unknown, undecided, committed, aborted, Placed, fateOf, imagesOf, versionsStep, tokenStep, versionsOf, currentOf, tokenOf, placeOf, startOf}
+use Rattle.recovery.proofs.LogFates.{undecided-known, All, versions-keep}
+use Rattle.recovery.proofs.Spots.{Spots, spots, Lies, current-of-lies}
 use Rattle.promises.proofs.logs.Logs.{ImageFits, Fits, Lawful, Known, Decided, Keeps, fate-keeps, fate-knows}
 
--- the images of a file, with the fates that count: all but the newest are decided, each is linked to the newest version
--- below it and starts later
-pub record Above (φ : ℕ → Fate) (x : Placed) (xs : List Placed) : Type 0 where
-  pub sure : Known (φ (x .image .action))
-  pub links : x .image .link ≡ placeOf (currentOf φ xs)
-  pub higher : placeOf (currentOf φ xs) < x .place
-  pub later : startOf (currentOf φ xs) < x .image .start
+-- an image above a file's versions: linked to the newest, above it and starting later
+pub record Above (x : Placed) (vs : List Placed) : Type 0 where
+  pub links : x .image .link ≡ placeOf (head? vs)
+  pub higher : placeOf (head? vs) < x .place
+  pub later : startOf (head? vs) < x .image .start
 
+-- the versions of a file, each above the next
+abbrev pub Ordered : List Placed → Type 0
+Ordered [] = Unit {0}
+Ordered (x ∷ vs) = Above x vs × Ordered vs
+
+-- its images: each is known and above the versions below it, and those below it are decided
 abbrev pub Chain : (ℕ → Fate) → List Placed → Type 0
 Chain φ [] = Unit {0}
-Chain φ (x ∷ xs) = Above φ x xs × All 2 φ xs × Chain φ xs
+Chain φ (x ∷ xs) = Known (φ (x .image .action)) × Above x (versionsOf φ xs) × All 2 φ xs × Chain φ xs
+
+pub versions-ordered : (φ : ℕ → Fate) (xs : List Placed) → Chain φ xs → Ordered (versionsOf φ xs)
+unfolding versionsOf
+versions-ordered φ [] h = tt
+versions-ordered φ (x ∷ xs) h = go (φ (x .image .action)) (versions-ordered φ xs (h .3))
+  where
+    go : (y : Fate) → Ordered (versionsOf φ xs) → Ordered (versionsStep y x (versionsOf φ xs))
+    go unknown r = r
+    go undecided r = r
+    go committed r = (h .1, r)
+    go aborted r = r
 
 module _ (φ ψ : ℕ → Fate) (k : Keeps φ ψ) where
   pub decided-keeps : (xs : List Placed) → All 2 φ xs → All 2 ψ xs
@@ -40,7 +55,7 @@ module _ (φ ψ : ℕ → Fate) (k : Keeps φ ψ) where
 pub free-decided : (φ : ℕ → Fate) (xs : List Placed) → Chain φ xs → tokenOf φ xs ≡ none → All 2 φ xs
 unfolding tokenOf
 free-decided φ [] h e = tt
-free-decided φ (x ∷ xs) h e = (go (φ (x .image .action)) (h .0 .sure) e, h .1)
+free-decided φ (x ∷ xs) h e = (go (φ (x .image .action)) (h .0) e, h .2)
   where
     go : (y : Fate) → Known y → tokenStep y x (tokenOf φ xs) ≡ none → Decided y
     go unknown d q = absurd (omega arith)
@@ -50,27 +65,15 @@ free-decided φ (x ∷ xs) h e = (go (φ (x .image .action)) (h .0 .sure) e, h .
 
 pub chain-keeps : (φ ψ : ℕ → Fate) → Keeps φ ψ → ((a : ℕ) → Known (φ a) → Known (ψ a)) → (xs : List Placed) → Chain φ xs → Chain ψ xs
 chain-keeps φ ψ k n [] h = tt
-chain-keeps φ ψ k n (x ∷ xs) h = (
-  record {
-    sure = n (x .image .action) (h .0 .sure);
-    links = rw (current-keeps φ ψ k xs (h .1)) (h .0 .links);
-    higher = rw (current-keeps φ ψ k xs (h .1)) (h .0 .higher);
-    later = rw (current-keeps φ ψ k xs (h .1)) (h .0 .later);
-  },
-  decided-keeps φ ψ k xs (h .1),
-  chain-keeps φ ψ k n xs (h .2),
-)
+chain-keeps φ ψ k n (x ∷ xs) h =
+    (n (x .image .action) (h .0), rw (versions-keep φ ψ k xs (h .2)) (h .1), decided-keeps φ ψ k xs (h .2), chain-keeps φ ψ k n xs (h .3))
+
+low-place : (l : List Entry) (f : ℕ) (z : Option Placed) → Lies l f z → placeOf z ≤ length l
+low-place l f none h = omega arith
+low-place l f (some x) h = h .high
 
 pub current-high : (φ : ℕ → Fate) (l : List Entry) (f : ℕ) (xs : List Placed) → Spots l f xs → placeOf (currentOf φ xs) ≤ length l
-unfolding currentOf
-current-high φ l f [] h = omega arith
-current-high φ l f (x ∷ xs) h = go (φ (x .image .action)) (current-high φ l f xs (h .1))
-  where
-    go : (y : Fate) → placeOf (currentOf φ xs) ≤ length l → placeOf (currentStep y x (currentOf φ xs)) ≤ length l
-    go unknown e = e
-    go undecided e = e
-    go committed e = h .0 .high
-    go aborted e = e
+current-high φ l f xs h = low-place l f (currentOf φ xs) (current-of-lies l f φ xs h)
 
 chain-same : (g : Entry) (l : List Entry) (f : ℕ) → Fits g l → Lawful l → Chain (fateOf l) (imagesOf l f) → Chain (fateOf (g ∷ l)) (imagesOf l f)
 chain-same g l f h w = chain-keeps (fateOf l) (fateOf (g ∷ l)) (fate-keeps g l h w) (fate-knows g l) (imagesOf l f)
@@ -78,8 +81,8 @@ chain-same g l f h w = chain-keeps (fateOf l) (fateOf (g ∷ l)) (fate-keeps g l
 chain-image : (i : Image) (l : List Entry) (f : ℕ) → ImageFits i l → i .file ≡ f → Chain (fateOf l) (imagesOf l f)
     → Chain (fateOf l) (record { place = suc (length l); image = i } ∷ imagesOf l f)
 chain-image i l f h e r = (
+  undecided-known (h .live),
   record {
-    sure = undecided-known (h .live);
     links = rw (← e) (h .links);
     higher = omega (arith, current-high (fateOf l) l f (imagesOf l f) (spots l f));
     later = rw (← e) (h .later);

@@ -1,7 +1,7 @@
 -- `harness::door::door_call`: what a call leaves, in numbers. Assumes nothing.
 use Rattle.harness.specs.Door.{made}
 use mathlib.Core.Path.{_∙_}
-use Rattle.harness.proofs.Told.{given-none, given-told}
+use Rattle.harness.proofs.EightNumbers.{given-none, given-numbers}
 use denote.Ref.{now}
 use borrow.Author.Needs.{needs}
 use Rattle.harness.proofs.door.door_call.Statement.{statement}
@@ -39,7 +39,7 @@ same-length-4 c = search needs
 returns-2 : tie.Need-returns-2
 returns-2 c =
     let a = c .before .before .before .before .before .before .before .before .before .before .before .before .before .before .before .before .before .before .before .before .before .before .args in
-    given-told (now (a .sheet)) (now (a .fates)) (now (a .rows)) (now (a .out)) _ _ _ _ _ _ (c .before .before .before .before .before .before .before .before .before .before .before .before .before .before .before .before .if1 .left) (c .before .before .before .before .before .before .before .before .before .before .made .ensures ∙ (λ i. made (now (a .sheet)) (now (a .fates)) (now (a .rows)) (c .before .before .before .before .before .before .before .before .before .before .before .before .before .before .before .state-with .ensures i) (a .kind) (c .before .before .before .before .before .before .before .before .before .before .before .before .before .before .call-of .ensures i) (now (a .value)))) (c .before .before .tell .ensures)
+    given-numbers (now (a .sheet)) (now (a .fates)) (now (a .rows)) (now (a .out)) _ _ _ _ _ _ (c .before .before .before .before .before .before .before .before .before .before .before .before .before .before .before .before .if1 .left) (c .before .before .before .before .before .before .before .before .before .before .made .ensures ∙ (λ i. made (now (a .sheet)) (now (a .fates)) (now (a .rows)) (c .before .before .before .before .before .before .before .before .before .before .before .before .before .before .before .state-with .ensures i) (a .kind) (c .before .before .before .before .before .before .before .before .before .before .before .before .before .before .call-of .ensures i) (now (a .value)))) (c .before .before .tell .ensures)
 
 pub door-call-spec : {M : Type 1} → statement M
 door-call-spec =

@@ -1,5 +1,5 @@
 -- `harness::door::door_open`: what open leaves, in numbers. Assumes nothing.
-use Rattle.harness.proofs.Told.{given-none, given-told}
+use Rattle.harness.proofs.EightNumbers.{given-none, given-numbers}
 use denote.Ref.{now}
 use borrow.Author.Needs.{needs}
 use Rattle.harness.proofs.door.door_open.Statement.{statement}
@@ -28,7 +28,7 @@ same-length-3 c = search needs
 returns-2 : tie.Need-returns-2
 returns-2 c =
     let a = c .before .before .before .before .before .before .before .before .before .before .before .before .before .before .before .before .args in
-    given-told (now (a .sheet)) (now (a .fates)) (now (a .rows)) (now (a .out)) _ _ _ _ _ _ (c .before .before .before .before .before .before .before .before .before .before .before .if1 .left) (c .before .before .before .before .before .before .before .before .«open» .ensures) (c .before .before .tell .ensures)
+    given-numbers (now (a .sheet)) (now (a .fates)) (now (a .rows)) (now (a .out)) _ _ _ _ _ _ (c .before .before .before .before .before .before .before .before .before .before .before .if1 .left) (c .before .before .before .before .before .before .before .before .«open» .ensures) (c .before .before .tell .ensures)
 
 pub door-open-spec : {M : Type 1} → statement M
 door-open-spec =

@@ -2,7 +2,7 @@
 use Rattle.recovery.specs.Lent.{rebuildLeaves}
 use mathlib.Core.Path.{ap, _∙_}
 use Rattle.recovery.specs.declared.State.{State}
-use Rattle.harness.proofs.Told.{given-none, given-told}
+use Rattle.harness.proofs.EightNumbers.{given-none, given-numbers}
 use denote.Ref.{now}
 use borrow.Author.Needs.{needs}
 use Rattle.harness.proofs.door.door_rebuild.Statement.{statement}
@@ -31,7 +31,7 @@ same-length-2 c = search needs
 returns-2 : tie.Need-returns-2
 returns-2 c =
     let a = c .before .before .before .before .before .before .before .before .before .before .before .before .before .before .args in
-    given-told (now (a .sheet)) (now (a .fates)) (now (a .rows)) (now (a .out)) _ _ _ _ _ _ (c .before .before .before .before .before .before .before .before .before .if1 .left) (c .before .before .before .before .before .before .rebuild .ensures ∙ ap (λ (st : State). rebuildLeaves (now (a .sheet)) (now (a .fates)) (now (a .rows)) st (a .file)) (c .before .before .before .before .before .before .before .before .state-with .ensures)) (c .before .before .tell .ensures)
+    given-numbers (now (a .sheet)) (now (a .fates)) (now (a .rows)) (now (a .out)) _ _ _ _ _ _ (c .before .before .before .before .before .before .before .before .before .if1 .left) (c .before .before .before .before .before .before .rebuild .ensures ∙ ap (λ (st : State). rebuildLeaves (now (a .sheet)) (now (a .fates)) (now (a .rows)) st (a .file)) (c .before .before .before .before .before .before .before .before .state-with .ensures)) (c .before .before .tell .ensures)
 
 pub door-rebuild-spec : {M : Type 1} → statement M
 door-rebuild-spec =

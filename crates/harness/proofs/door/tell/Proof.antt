@@ -1,5 +1,5 @@
 -- `harness::door::tell`: eight stores. Assumes nothing.
-use Rattle.harness.proofs.Told.{told-is}
+use Rattle.harness.proofs.EightNumbers.{eight-are}
 use native.Mathlib.Omega.{arith}
 use lib.ListN.{length-set}
 use denote.Ref.{now}
@@ -53,7 +53,7 @@ same-length : tie.Need-same-length
 same-length c = simp length-set
 
 returns : tie.Need-returns
-returns c = told-is (now (c .before .before .before .args .out)) _ (c .before .before .before .args .done .answer) (c .before .before .before .args .done .state) (c .before .before .before .pre) (c .numbers-of .ensures)
+returns c = eight-are (now (c .before .before .before .args .out)) _ (c .before .before .before .args .done .answer) (c .before .before .before .args .done .state) (c .before .before .before .pre) (c .numbers-of .ensures)
 
 pub tell-spec : {M : Type 1} → statement M
 tell-spec =

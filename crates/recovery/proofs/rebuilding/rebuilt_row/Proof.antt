@@ -110,12 +110,15 @@ loop-again-2 c =
 counted-fate-requires : tie.Need-counted-fate-requires Inv-loop μ-loop
 counted-fate-requires c κs = search needs
 
+rebuilt-requires : tie.Need-rebuilt-requires Inv-loop μ-loop
+rebuilt-requires c κs = search needs
+
 returns : tie.Need-returns Inv-loop μ-loop
 returns c =
-    let l = c .before .before .before .before .before .before .before .before .before .before .before in
-    let a = c .before .before .before .before .before .before .before .before .before .before .before .before .before .before .before .args in
-    stop (a .files) (now (a .sheet)) (now (a .fates)) (a .file) (l .loop .place) (c .before .before .before .before .before .before .before .before .before .before .loop-test .taken) (in-sheet (c .before .before .before .before .before .before .before .before .before .before)) _ _ (image-at (c .before .before .before)) (c .before .counted-fate .ensures)
-    (l .loop .token) (l .loop .tokenend) (λ r m. over-committed _ _ _ _ _ r m (c .if2 .taken) (l .loop .inv .2)) (l .loop .inv .1)
+    let l = c .before .before .before .before .before .before .before .before .before .before .before .before in
+    let a = c .before .before .before .before .before .before .before .before .before .before .before .before .before .before .before .before .args in
+    c .rebuilt .ensures ∙ stop (a .files) (now (a .sheet)) (now (a .fates)) (a .file) (l .loop .place) (c .before .before .before .before .before .before .before .before .before .before .before .loop-test .taken) (in-sheet (c .before .before .before .before .before .before .before .before .before .before .before)) _ _ (image-at (c .before .before .before .before)) (c .before .before .counted-fate .ensures)
+    (l .loop .token) (l .loop .tokenend) (λ r m. over-committed _ _ _ _ _ r m (c .before .if2 .taken) (l .loop .inv .2)) (l .loop .inv .1)
 
 loop-less-3 : tie.Need-loop-less-3 Inv-loop μ-loop
 loop-less-3 c = search needs
@@ -156,11 +159,14 @@ loop-again-5 c =
       l .loop .inv .2,
     )
 
+rebuilt-requires-2 : tie.Need-rebuilt-requires-2 Inv-loop μ-loop
+rebuilt-requires-2 c κs = search needs
+
 returns-2 : tie.Need-returns-2 Inv-loop μ-loop
 returns-2 c =
-    let l = c .before in
-    let a = c .before .before .before .before .before .args in
-    over-end (a .files) (now (a .sheet)) (now (a .fates)) (a .file) (l .loop .place) (l .loop .token) (l .loop .tokenend) (c .loop-test .left) (l .loop .inv .2) ∙ l .loop .inv .1
+    let l = c .before .before in
+    let a = c .before .before .before .before .before .before .args in
+    c .rebuilt2 .ensures ∙ over-end (a .files) (now (a .sheet)) (now (a .fates)) (a .file) (l .loop .place) (l .loop .token) (l .loop .tokenend) (c .before .loop-test .left) (l .loop .inv .2) ∙ l .loop .inv .1
 
 pub rebuilt-row-spec : {M : Type 1} → statement M
 rebuilt-row-spec =
@@ -187,6 +193,7 @@ rebuilt-row-spec =
     loop-less-2
     loop-again-2
     counted-fate-requires
+    rebuilt-requires
     returns
     loop-less-3
     loop-again-3
@@ -194,4 +201,5 @@ rebuilt-row-spec =
     loop-again-4
     loop-less-5
     loop-again-5
+    rebuilt-requires-2
     returns-2)
