@@ -21,8 +21,7 @@ use Rattle.promises.specs.Runs.{Box, sheetOf, Event, calls, opens, cuts,
 use Rattle.promises.specs.Model.{Model, blankModel, modelHeard, modelRuns}
 use Rattle.promises.specs.Promises.{boxAfter, NoTornOutcome}
 use Rattle.promises.proofs.bytes.Mixed.{first-ordered}
-use Rattle.promises.proofs.boxes.Boxes.{page-above}
-use Rattle.promises.proofs.answers.Modelled.{modelled-blank}
+use Rattle.promises.proofs.boxes.Boxes.{reached-blank, page-above}
 use Rattle.promises.proofs.boxes.Lasting.{head-is, tail-is}
 use Rattle.promises.proofs.answers.Fallen.{ends}
 use Rattle.promises.proofs.Proved.{promised}
@@ -166,10 +165,10 @@ module _ (pages files : ℕ) where
 
   pub blank-above : (es : List Event) → Run pages files es → (p : ℕ) → modelRuns false (blankModel pages files) es .used < p → p ≤ pages → sealed files (sheetOf (boxAfter pages files es)) p ≡ blank
   blank-above es r p low high =
-      let x = ends pages files (blankBox pages) (modelled-blank pages files (r .sized)) es (r .allowed) in
+      let x = ends pages files (blankBox pages) (reached-blank pages files (r .sized)) es (r .allowed) in
       let m = x .with in
-      let used : length (m .reached .ledger .log) ≡ modelRuns false (blankModel pages files) es .used = sym (m .stands .used) ∙ ap (λ (y : Model). y .used) (x .is) in
-      page-above pages files (boxAfter pages files es) (m .reached) p (omega arith) high
+      let used : length (m .log) ≡ modelRuns false (blankModel pages files) es .used = sym (m .at .says .used) ∙ ap (λ (y : Model). y .used) (x .is) in
+      page-above pages files (boxAfter pages files es) m p (omega arith) high
 
 -- answers in numbers
 abbrev pub inNumbers : List (Option Answer) → List (Option (List ℕ))

@@ -1,8 +1,6 @@
--- Each event is answered as the object model answers it; what that says of cuts, fates, values and other sheets.
+-- A run is heard as the object model's; what that says of cuts, fates, values and other sheets.
 pub mod Heard
-pub mod Objects
 pub mod ModelRuns
-pub mod Modelled
 pub mod CutEffects
 pub mod Origins
 pub mod Seen

@@ -1,4 +1,5 @@
--- Each event leads from a box that stands for a ledger to such a box; what is found, kept, shown and answered alike.
+-- Each event is answered as the object model answers it, and leads from a box that stands for a log and a model to such a box; what is
+-- found, kept, shown and answered alike.
 pub mod Boxes
 pub mod Extends
 pub mod Found

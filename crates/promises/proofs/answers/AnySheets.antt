@@ -24,9 +24,7 @@ use Rattle.inspection.proofs.LowestUnlawful.{none-lawful}
 use Rattle.promises.specs.Runs.{off, Event, heard, AllAllowed}
 use Rattle.promises.specs.Model.{modelHeard}
 use Rattle.promises.proofs.logs.Logs.{test-lawful}
-use Rattle.promises.proofs.ledger.Ledger.{ledgerOpened}
-use Rattle.promises.proofs.ledger.Openings.{Holds}
-use Rattle.promises.proofs.answers.Objects.{Stands}
+use Rattle.promises.proofs.worlds.Openings.{Holds}
 use Rattle.promises.proofs.answers.ModelRuns.{heard-alike}
 use Rattle.promises.proofs.boxes.Boxes.{Reached}
 use Rattle.promises.specs.FromLog.{modelOf, logIn}
@@ -92,21 +90,21 @@ module _ (n files : ℕ) (s : List ℕ) (long : length s ≡ pageSize * n) (sz :
   lies = subst (λ m. Holds (pages files m s) m l) n-is holds
 
   reached : Reached n files (off s)
-  reached = record { ledger = ledgerOpened n files l 0; at = record { sized = sz; long = long; pages-are = refl; files-are = refl; holds = lies; stands = tt } }
-
-  stands : Stands false (reached .ledger) (modelOf n files l)
-  unfolding reached
-  stands = record {
-    pages = refl;
-    files = refl;
-    used = refl;
-    undecided = refl;
-    status = λ a. refl;
-    history = λ f. refl;
-    token = λ f. refl;
-    ends = λ o. absurd (false≢true o);
+  reached = record {
+    log = l;
+    model = modelOf n files l;
+    at = record {
+      sized = sz;
+      long = long;
+      pages-are = refl;
+      files-are = refl;
+      holds = lies;
+      says = record { used = refl; undecided = refl; status = λ a. refl; history = λ f. refl; token = λ f. refl };
+      stands = tt;
+    };
   }
 
 pub any-heard : (n files : ℕ) (s : List ℕ) (es : List Event) → sizes n n files ≡ true → length s ≡ pageSize * n → inspected s files ≡ Lowest 0 → AllAllowed n files es
     → heard (off s) es ≡ modelHeard false (modelOf n files (logIn files s)) es
-any-heard n files s es sz long h t = heard-alike n files (off s) (reached n files s long sz h) (modelOf n files (logIn files s)) (stands n files s long sz h) es t
+unfolding reached
+any-heard n files s es sz long h t = heard-alike n files (off s) (reached n files s long sz h) es t

@@ -22,11 +22,12 @@ use Rattle.calls.specs.Cuts.{storedOf}
 use Rattle.promises.specs.Runs.{Ordered, Box, on, off, Event, calls, opens, cuts, callOn, answerTo, after, numbered, heard, Typed, Allowed, AllAllowed}
 use Rattle.promises.specs.Model.{Version, Status, pending, committed, aborted, Model, Reply, Object, reading, testing, refuses, ofPending, stores, modelCall, modelOpened, modelAnswer, modelAfter, modelHeard, isLent}
 use Rattle.promises.specs.Promises.{IsPageOf, Looks}
+use Rattle.promises.proofs.worlds.LogSays.{withObjects}
 use Rattle.promises.proofs.bytes.Mixed.{mixed-all}
 use Rattle.promises.proofs.bytes.ByteCalls.{page-back}
-use Rattle.promises.proofs.boxes.Boxes.{isOn}
+use Rattle.promises.proofs.boxes.Boxes.{isOn, Reached, reached-next, answer-is, power-is}
 use Rattle.promises.proofs.boxes.Found.{some-is, not-heard}
-use Rattle.promises.proofs.answers.Modelled.{Modelled, modelled-next, answer-modelled, power-modelled, heard-modelled}
+use Rattle.promises.proofs.answers.ModelRuns.{heard-alike}
 
 -- ---- all bytes stored: the sheet is that of the answered call
 
@@ -64,9 +65,6 @@ cut-as-answered (off s) k kept floor fates rows o h = refl
 
 abbrev pub usedTo : ℕ → Model → Model
 usedTo u m = record { pages = m .pages; files = m .files; used = u; floor = m .floor; undecided = m .undecided; status = m .status; object = m .object }
-
-abbrev pub withObjects : Model → (ℕ → Object) → Model
-withObjects m h = record { pages = m .pages; files = m .files; used = m .used; floor = m .floor; undecided = m .undecided; status = m .status; object = h }
 
 module _ (u : ℕ) where
   record Same (x y : Reply) : Type 0 where
@@ -151,16 +149,16 @@ cut-used true m k kept h = go (eqb (modelCall m k .1 .used) (m .used) || not (ke
     go true = record { used = m .used; is = refl; low = omega arith; high = omega arith }
     go false = record { used = suc (m .used); is = rw h; low = omega arith; high = omega arith }
 
-module _ (pages files : ℕ) (b : Box) (m : Modelled pages files b) (k : Call) (kept : ℕ → Bool) (t : Allowed pages files (cuts k kept)) (floor : ℕ) (fates rows : List ℕ)
+module _ (pages files : ℕ) (b : Box) (m : Reached pages files b) (k : Call) (kept : ℕ → Bool) (t : Allowed pages files (cuts k kept)) (floor : ℕ) (fates rows : List ℕ)
     (o : Allowed pages files (opens floor fates rows)) (h : kept markAt ≡ false) where
-  abbrev cut-box : Modelled pages files (after b (cuts k kept))
-  cut-box = modelled-next pages files b m (cuts k kept) t
+  abbrev cut-box : Reached pages files (after b (cuts k kept))
+  cut-box = reached-next pages files b m (cuts k kept) t
 
-  abbrev cut-opened : Modelled pages files (after (after b (cuts k kept)) (opens floor fates rows))
-  cut-opened = modelled-next pages files (after b (cuts k kept)) cut-box (opens floor fates rows) o
+  abbrev cut-opened : Reached pages files (after (after b (cuts k kept)) (opens floor fates rows))
+  cut-opened = reached-next pages files (after b (cuts k kept)) cut-box (opens floor fates rows) o
 
-  abbrev uncut-opened : Modelled pages files (after b (opens floor fates rows))
-  uncut-opened = modelled-next pages files b m (opens floor fates rows) o
+  abbrev uncut-opened : Reached pages files (after b (opens floor fates rows))
+  uncut-opened = reached-next pages files b m (opens floor fates rows) o
 
   -- what is heard of a box that was opened, by the model that it had before
   abbrev openedHeard : Model → List Event → List (Option (List ℕ))
@@ -169,8 +167,8 @@ module _ (pages files : ℕ) (b : Box) (m : Modelled pages files b) (k : Call) (
   heard-cut : (es : List Event) → AllAllowed pages files es → (u : ℕ) → modelAfter (isOn b) (m .model) (cuts k kept) ≡ usedTo u (m .model)
       → heard (after (after b (cuts k kept)) (opens floor fates rows)) es ≡ openedHeard (usedTo u (m .model)) es
   heard-cut es al u e =
-      heard-modelled pages files (after (after b (cuts k kept)) (opens floor fates rows)) cut-opened es al
-      ∙ ap (λ c. modelHeard c (cut-opened .model) es) (power-modelled pages files (after b (cuts k kept)) cut-box (opens floor fates rows) o)
+      heard-alike pages files (after (after b (cuts k kept)) (opens floor fates rows)) cut-opened es al
+      ∙ ap (λ c. modelHeard c (cut-opened .model) es) (power-is pages files (after b (cuts k kept)) cut-box (opens floor fates rows) o)
       ∙ ap (λ x. openedHeard x es) e
 
   pub cut-as-unasked : (looks : List Event) → Looks looks → heard (after (after b (cuts k kept)) (opens floor fates rows)) looks ≡ heard (after b (opens floor fates rows)) looks
@@ -178,7 +176,7 @@ module _ (pages files : ℕ) (b : Box) (m : Modelled pages files b) (k : Call) (
       let u = cut-used (isOn b) (m .model) k kept h in
       let al = looks-allowed pages files looks a in
       heard-cut looks al (u .used) (u .is) ∙ go (u .used) (isLent (m .model) fates rows)
-      ∙ sym (heard-modelled pages files (after b (opens floor fates rows)) uncut-opened looks al ∙ ap (λ c. modelHeard c (uncut-opened .model) looks) (power-modelled pages files b m (opens floor fates rows) o))
+      ∙ sym (heard-alike pages files (after b (opens floor fates rows)) uncut-opened looks al ∙ ap (λ c. modelHeard c (uncut-opened .model) looks) (power-is pages files b m (opens floor fates rows) o))
     where
       go : (u : ℕ) (c : Bool) → modelHeard c (cond c (modelOpened (usedTo u (m .model)) floor) (usedTo u (m .model))) looks ≡ modelHeard c (cond c (modelOpened (m .model) floor) (m .model)) looks
       go u true = same-looks u true (modelOpened (m .model) floor) looks a
@@ -189,10 +187,10 @@ module _ (pages files : ℕ) (b : Box) (m : Modelled pages files b) (k : Call) (
       → answerTo (after (after b (cuts k kept)) (opens floor fates rows)) (calls (test action)) ≡ some x → x ≡ Told fate
   cut-same-fate action fate x e l =
       let u = cut-used (isOn b) (m .model) k kept h in
-      let before : modelAnswer (isOn b) (m .model) (calls (test action)) ≡ some (Told fate) = sym (answer-modelled pages files b m (calls (test action)) tt) ∙ e in
+      let before : modelAnswer (isOn b) (m .model) (calls (test action)) ≡ some (Told fate) = sym (answer-is pages files b m (calls (test action)) tt) ∙ e in
       let later : openedAnswer (usedTo (u .used) (m .model)) ≡ some x = sym (
-      answer-modelled pages files (after (after b (cuts k kept)) (opens floor fates rows)) cut-opened (calls (test action)) tt
-      ∙ ap (λ c. modelAnswer c (cut-opened .model) (calls (test action))) (power-modelled pages files (after b (cuts k kept)) cut-box (opens floor fates rows) o)
+      answer-is pages files (after (after b (cuts k kept)) (opens floor fates rows)) cut-opened (calls (test action)) tt
+      ∙ ap (λ c. modelAnswer c (cut-opened .model) (calls (test action))) (power-is pages files (after b (cuts k kept)) cut-box (opens floor fates rows) o)
       ∙ ap openedAnswer (u .is)) ∙ l in
       go (u .used) (isOn b) (isLent (m .model) fates rows) before later
     where
@@ -221,7 +219,7 @@ module _ (pages files : ℕ) (b : Box) (m : Modelled pages files b) (k : Call) (
       → (w′ ≡ w) × (end ≤ end′) × (end′ ≤ suc end)
   cut-same-count end end′ w w′ p q =
       let u = cut-used (isOn b) (m .model) k kept h in
-      let before = opened-is (isLent (m .model) fates rows) (m .model .used) (m .model .undecided) end w (sym (answer-modelled pages files b m (opens floor fates rows) o) ∙ p) in
+      let before = opened-is (isLent (m .model) fates rows) (m .model .used) (m .model .undecided) end w (sym (answer-is pages files b m (opens floor fates rows) o) ∙ p) in
       let later = opened-is (isLent (usedTo (u .used) (m .model)) fates rows) (u .used) (m .model .undecided) end′ w′
-      (sym (answer-modelled pages files (after b (cuts k kept)) cut-box (opens floor fates rows) o ∙ ap (λ x. some (cond (isLent x fates rows) (Opened (x .used) (x .undecided)) (Refused 1 0))) (u .is)) ∙ q) in
+      (sym (answer-is pages files (after b (cuts k kept)) cut-box (opens floor fates rows) o ∙ ap (λ x. some (cond (isLent x fates rows) (Opened (x .used) (x .undecided)) (Refused 1 0))) (u .is)) ∙ q) in
       (sym (later .1) ∙ before .1, omega (arith, u .low), omega (arith, u .high))

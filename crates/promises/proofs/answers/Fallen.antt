@@ -9,11 +9,10 @@ use Rattle.promises.specs.Runs.{Box, Event, after, runs, AllAllowed, bla
 use Rattle.promises.specs.Model.{since, Model, blankModel, modelAfter, modelRuns}
 use Rattle.promises.proofs.logs.Chains.{Ordered, versions-ordered, chain}
 use Rattle.promises.proofs.logs.Histories.{newest-is}
-use Rattle.promises.proofs.answers.Objects.{since-is}
-use Rattle.promises.proofs.boxes.Boxes.{isOn}
+use Rattle.promises.proofs.worlds.LogSays.{since-is}
+use Rattle.promises.proofs.boxes.Boxes.{isOn, Reached, reached-next, reached-blank, power-is}
 use Rattle.promises.specs.FromLog.{versionOf}
 use Rattle.promises.specs.Promises.{Falls}
-use Rattle.promises.proofs.answers.Modelled.{Modelled, modelled-next, modelled-blank, power-modelled}
 
 falls-in : (vs : List Placed) → Ordered vs → Falls (map versionOf vs)
 falls-in [] o = tt
@@ -22,22 +21,20 @@ falls-in (x ∷ vs) o = (subst (λ n. n < x .image .start) (sym (ap since (newes
 module _ (n files : ℕ) where
   -- the model that a run has reached
   pub record Ends (b : Box) (m : Model) : Type 0 where
-    pub with : Modelled n files b
+    pub with : Reached n files b
     pub is : with .model ≡ m
 
-  pub ends : (b : Box) (k : Modelled n files b) (es : List Event) → AllAllowed n files es → Ends (runs b es) (modelRuns (isOn b) (k .model) es)
+  pub ends : (b : Box) (k : Reached n files b) (es : List Event) → AllAllowed n files es → Ends (runs b es) (modelRuns (isOn b) (k .model) es)
   ends b k [] t = record { with = k; is = refl }
   ends b k (e ∷ es) t =
-      let r = ends (after b e) (modelled-next n files b k e (t .0)) es (t .1) in
-      record { with = r .with; is = r .is ∙ ap (λ o. modelRuns o (modelAfter (isOn b) (k .model) e) es) (power-modelled n files b k e (t .0)) }
+      let r = ends (after b e) (reached-next n files b k e (t .0)) es (t .1) in
+      record { with = r .with; is = r .is ∙ ap (λ o. modelRuns o (modelAfter (isOn b) (k .model) e) es) (power-is n files b k e (t .0)) }
 
-  falls-at : (b : Box) (k : Modelled n files b) (file : ℕ) → Falls (k .model .object file .history)
+  falls-at : (b : Box) (k : Reached n files b) (file : ℕ) → Falls (k .model .object file .history)
   falls-at b k file =
-      let l = k .reached .ledger in
-      subst Falls (sym (k .stands .history file))
-      (falls-in (versions (l .log) file) (versions-ordered (fateOf (l .log)) (imagesOf (l .log) file) (chain (l .log) file (k .reached .at .holds .lawful))))
+      subst Falls (sym (k .at .says .history file)) (falls-in (versions (k .log) file) (versions-ordered (fateOf (k .log)) (imagesOf (k .log) file) (chain (k .log) file (k .at .holds .lawful))))
 
   pub fallen : (es : List Event) (file : ℕ) → Run n files es → Falls (modelRuns false (blankModel n files) es .object file .history)
   fallen es file r =
-      let x = ends (blankBox n) (modelled-blank n files (r .sized)) es (r .allowed) in
+      let x = ends (blankBox n) (reached-blank n files (r .sized)) es (r .allowed) in
       subst (λ m. Falls (m .object file .history)) (x .is) (falls-at (runs (blankBox n) es) (x .with) file)

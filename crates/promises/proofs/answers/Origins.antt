@@ -15,17 +15,16 @@ use Rattle.recovery.specs.Log.{Image, Entry, blank, torn, bad, opening, image, 
 use Rattle.recovery.specs.Sheet.{sealed}
 use Rattle.recovery.specs.declared.Answer.the-variants.{Stored}
 use Rattle.recovery.specs.Lent.{Left}
-use Rattle.calls.specs.Calls.{Call, begin, write, read, test, decide, rebuild, call}
+use Rattle.calls.specs.Calls.{Call, call}
 use Rattle.recovery.proofs.Spots.{entryIn, entry-cons, entry-top}
 use Rattle.promises.specs.Runs.{Box, on, off, sheetOf, Event, calls, opens, cuts, answerTo, after, runs, Allowed, AllAllowed, blankBox, Run}
 use Rattle.promises.specs.Promises.{IsPageOf, IsWhole, Did}
-use Rattle.promises.proofs.ledger.Ledger.{Ledger, LedgerResult, ledgerCall}
-use Rattle.promises.proofs.ledger.LedgerCalls.{begins, writes, reads, tests, decides, rebuilds}
+use Rattle.promises.specs.Model.{modelCall}
+use Rattle.promises.proofs.worlds.Sim.{Writes, Step, stay, add}
 use Rattle.promises.proofs.bytes.Stored.{bytesOf}
 use Rattle.promises.proofs.bytes.Cuts.{cutLog, partialLog}
-use Rattle.promises.proofs.ledger.Written.{does}
 use Rattle.promises.proofs.boxes.Found.{writes-page}
-use Rattle.promises.proofs.boxes.Boxes.{Reached, ledger-says, reached-next, reached-blank, page-lies, log-page, page-above}
+use Rattle.promises.proofs.boxes.Boxes.{Reached, agrees, model-says, logAfter, reached-next, reached-blank, page-lies, log-page, page-above}
 use Rattle.promises.proofs.answers.Heard.{hears}
 
 -- ---- a page that is neither blank nor torn nor bad
@@ -63,33 +62,19 @@ lies-cons x l p g h = go (leb p (length l)) refl
 -- ---- the pages of a box are those of its log
 
 module _ (n files : ℕ) (b : Box) (r : Reached n files b) where
-  pub page-lies-in : (p : ℕ) (g : Entry) → Solid g → sealed files (sheetOf b) p ≡ g → Lies (r .ledger .log) p g
+  pub page-lies-in : (p : ℕ) (g : Entry) → Solid g → sealed files (sheetOf b) p ≡ g → Lies (r .log) p g
   page-lies-in p g s e =
       let in-sheet = page-lies n files (sheetOf b) p g (r .at .long) (λ q. s .not-bad (sym q)) e in
-      go (in-sheet .0) (in-sheet .1) (leb p (length (r .ledger .log))) refl
+      go (in-sheet .0) (in-sheet .1) (leb p (length (r .log))) refl
     where
-      go : 1 ≤ p → p ≤ n → (c : Bool) → leb p (length (r .ledger .log)) ≡ c → Lies (r .ledger .log) p g
+      go : 1 ≤ p → p ≤ n → (c : Bool) → leb p (length (r .log)) ≡ c → Lies (r .log) p g
       go low high true q =
-          let k : p ≤ length (r .ledger .log) = leb-true p (length (r .ledger .log)) q in
+          let k : p ≤ length (r .log) = leb-true p (length (r .log)) q in
           record { low = low; high = k; here = sym (log-page n files b r p low k) ∙ e }
-      go low high false q = absurd (s .not-blank (sym e ∙ page-above n files b r p (leb-false p (length (r .ledger .log)) q) high))
+      go low high false q = absurd (s .not-blank (sym e ∙ page-above n files b r p (leb-false p (length (r .log)) q) high))
 
-  pub lies-page : (p : ℕ) (g : Entry) → Lies (r .ledger .log) p g → sealed files (sheetOf b) p ≡ g
+  pub lies-page : (p : ℕ) (g : Entry) → Lies (r .log) p g → sealed files (sheetOf b) p ≡ g
   lies-page p g h = log-page n files b r p (h .low) (h .high) ∙ h .here
-
--- ---- a call of the ledger that appends is answered with the place
-
-module _ (m : Ledger) where
-  abbrev Grew : LedgerResult → Type 0
-  Grew r = (r .1 .log ≡ m .log) ⊎ (r .0 ≡ Stored (suc (length (m .log))))
-
-  grew : (k : Call) → Grew (ledgerCall m k)
-  grew begin = begins Grew m (λ n p. inl refl) (inr refl)
-  grew (write f s a v) = writes Grew m (λ n p. inl refl) f s a v (λ j k. inr refl)
-  grew (read f t a) = reads Grew m (λ n p. inl refl) f t a (inl refl) (λ x e j k. inl refl)
-  grew (test a) = tests Grew m (λ n p. inl refl) a (inl refl)
-  grew (decide a c) = decides Grew m (λ n p. inl refl) a c (inr refl)
-  grew (rebuild f) = rebuilds Grew m (λ n p. inl refl) f (inl refl)
 
 -- ---- what an event adds
 
@@ -102,37 +87,34 @@ pub record Adds (b : Box) (e : Event) (p : ℕ) (g : Entry) : Type 0 where
 module _ (n files : ℕ) where
   module _ (m : Left) (r : Reached n files (on m)) (k : Call) (p : ℕ) (g : Entry) (s : Solid g) where
     abbrev l : List Entry
-    l = r .ledger .log
-
-    answered : ledgerCall (r .ledger) k .0 ≡ Stored (suc (length l)) → answerTo (on m) (calls k) ≡ some (Stored (suc (length l)))
-    answered e = ap some (ledger-says n files m r k ∙ e)
+    l = r .log
 
     -- the page that it wrote
-    new : (e : Event) → IsWhole k e → (q : ledgerCall (r .ledger) k .0 ≡ Stored (suc (length l))) → p ≡ suc (length l) → does (r .ledger) (suc (length l)) k q .page ≡ g → Adds (on m) e p g
-    new e w q a c = record {
+    new : (e : Event) → IsWhole k e → (x : Entry) → Writes (r .model .files) l k x → modelCall (r .model) k .0 ≡ Stored (suc (length l)) → p ≡ suc (length l) → x ≡ g → Adds (on m) e p g
+    new e w x h q a c = record {
       by = k;
       whole = w;
-      stored = answered q ∙ ap (λ x. some (Stored x)) (sym a);
-      page = subst (IsPageOf k) c (writes-page k (does (r .ledger) (suc (length l)) k q .page) (does (r .ledger) (suc (length l)) k q .writes));
+      stored = ap some (model-says n files m r k ∙ q ∙ ap Stored (sym a));
+      page = subst (IsPageOf k) c (writes-page (r .model .files) l k x h);
     }
 
-    from-call : Lies (ledgerCall (r .ledger) k .1 .log) p g → Lies l p g ⊎ Adds (on m) (calls k) p g
-    from-call h = go (grew (r .ledger) k)
+    -- of a log with that page, it is one of the others or that page
+    last : (e : Event) → IsWhole k e → (x : Entry) → Writes (r .model .files) l k x → modelCall (r .model) k .0 ≡ Stored (suc (length l)) → Lies (x ∷ l) p g → Lies l p g ⊎ Adds (on m) e p g
+    last e w x h q y = turn (lies-cons x l p g y)
       where
-        go : Grew (r .ledger) (ledgerCall (r .ledger) k) → Lies l p g ⊎ Adds (on m) (calls k) p g
-        go (inl e) = inl (subst (λ x. Lies x p g) e h)
-        go (inr q) =
-            let d = does (r .ledger) (suc (length l)) k q in
-            turn (lies-cons (d .page) l p g (subst (λ x. Lies x p g) (d .log) h))
-          where
-            turn : Lies l p g ⊎ ((p ≡ suc (length l)) × (does (r .ledger) (suc (length l)) k q .page ≡ g)) → Lies l p g ⊎ Adds (on m) (calls k) p g
-            turn (inl x) = inl x
-            turn (inr x) = inr (new (calls k) refl q (x .0) (x .1))
+        turn : Lies l p g ⊎ ((p ≡ suc (length l)) × (x ≡ g)) → Lies l p g ⊎ Adds (on m) e p g
+        turn (inl y) = inl y
+        turn (inr y) = inr (new e w x h q (y .0) (y .1))
+
+    from-call : {u : List Entry} → Step (r .model .files) k l (modelCall (r .model) k .0) u → Lies u p g → Lies l p g ⊎ Adds (on m) (calls k) p g
+    from-call (stay q) y = inl y
+    from-call (add x h q) y = last (calls k) refl x h q y
 
     -- a cut adds nothing, a torn page, or the whole page
-    from-cut : (kept : ℕ → Bool) → Lies (cutLog l (ledgerCall (r .ledger) k .1 .log) (bytesOf kept)) p g → Lies l p g ⊎ Adds (on m) (cuts k kept) p g
+    from-cut : (kept : ℕ → Bool) {u : List Entry} → Step (r .model .files) k l (modelCall (r .model) k .0) u → Lies (cutLog l u (bytesOf kept)) p g → Lies l p g ⊎ Adds (on m) (cuts k kept) p g
     unfolding cutLog
-    from-cut kept h = go (grew (r .ledger) k) h
+    from-cut kept (stay q) y = inl (rw (eq-eqb (length l) (length l) refl) at y)
+    from-cut kept (add x h q) y = cases (kept kindAt) (kept markAt) refl (rw (ne-eqb (suc (length l)) (length l) (λ e. omega arith), entry-top x l) at y)
       where
         torn-part : Lies (torn ∷ l) p g → Lies l p g
         torn-part q = turn (lies-cons torn l p g q)
@@ -141,30 +123,18 @@ module _ (n files : ℕ) where
             turn (inl y) = y
             turn (inr y) = absurd (s .not-torn (sym (y .1)))
 
-        cases : (q : ledgerCall (r .ledger) k .0 ≡ Stored (suc (length l))) (a b : Bool) → kept markAt ≡ b
-            → Lies (partialLog (cond a (cond b pageSize 1) 0) (does (r .ledger) (suc (length l)) k q .page) l) p g → Lies l p g ⊎ Adds (on m) (cuts k kept) p g
-        cases q false b e y = inl y
-        cases q true false e y = inl (torn-part y)
-        cases q true true e y = turn (lies-cons (does (r .ledger) (suc (length l)) k q .page) l p g y)
-          where
-            turn : Lies l p g ⊎ ((p ≡ suc (length l)) × (does (r .ledger) (suc (length l)) k q .page ≡ g)) → Lies l p g ⊎ Adds (on m) (cuts k kept) p g
-            turn (inl x) = inl x
-            turn (inr x) = inr (new (cuts k kept) (refl, e) q (x .0) (x .1))
-
-        go : Grew (r .ledger) (ledgerCall (r .ledger) k) → Lies (cutLog l (ledgerCall (r .ledger) k .1 .log) (bytesOf kept)) p g → Lies l p g ⊎ Adds (on m) (cuts k kept) p g
-        go (inl e) y = inl (rw (e, eq-eqb (length l) (length l) refl) at y)
-        go (inr q) y =
-            let d = does (r .ledger) (suc (length l)) k q in
-            let z : Lies (partialLog (bytesOf kept) (d .page) l) p g = rw (d .log, ne-eqb (suc (length l)) (length l) (λ e. omega arith), entry-top (d .page) l) at y in
-            cases q (kept kindAt) (kept markAt) refl z
+        cases : (a b : Bool) → kept markAt ≡ b → Lies (partialLog (cond a (cond b pageSize 1) 0) x l) p g → Lies l p g ⊎ Adds (on m) (cuts k kept) p g
+        cases false b e y = inl y
+        cases true false e y = inl (torn-part y)
+        cases true true e y = last (cuts k kept) (refl, e) x h q y
 
   pub from-event : (b : Box) (r : Reached n files b) (e : Event) (t : Allowed n files e) (p : ℕ) (g : Entry) → Solid g
-      → Lies (reached-next n files b r e t .ledger .log) p g → Lies (r .ledger .log) p g ⊎ Adds b e p g
-  from-event (on m) r (calls k) t p g s h = from-call m r k p g s h
+      → Lies (logAfter n files b r e) p g → Lies (r .log) p g ⊎ Adds b e p g
+  from-event (on m) r (calls k) t p g s h = from-call m r k p g s (agrees n files m r k .step) h
   from-event (off u) r (calls k) t p g s h = inl h
   from-event (on m) r (opens floor fates rows) t p g s h = inl h
   from-event (off u) r (opens floor fates rows) t p g s h = inl h
-  from-event (on m) r (cuts k kept) t p g s h = from-cut m r k p g s kept h
+  from-event (on m) r (cuts k kept) t p g s h = from-cut m r k p g s kept (agrees n files m r k .step) h
   from-event (off u) r (cuts k kept) t p g s h = inl h
 
   -- ---- what a run adds
@@ -177,15 +147,15 @@ module _ (n files : ℕ) where
     pub adds : Adds (runs b before) event p g
 
   from-run : (b : Box) (r : Reached n files b) (es : List Event) → AllAllowed n files es → (p : ℕ) (g : Entry) → Solid g
-      → sealed files (sheetOf (runs b es)) p ≡ g → Lies (r .ledger .log) p g ⊎ Added b es p g
+      → sealed files (sheetOf (runs b es)) p ≡ g → Lies (r .log) p g ⊎ Added b es p g
   from-run b r [] al p g s e = inl (page-lies-in n files b r p g s e)
   from-run b r (x ∷ es) al p g s e = go (from-run (after b x) (reached-next n files b r x (al .0)) es (al .1) p g s e)
     where
-      turn : Lies (r .ledger .log) p g ⊎ Adds b x p g → Lies (r .ledger .log) p g ⊎ Added b (x ∷ es) p g
+      turn : Lies (r .log) p g ⊎ Adds b x p g → Lies (r .log) p g ⊎ Added b (x ∷ es) p g
       turn (inl y) = inl y
       turn (inr y) = inr (record { before = []; event = x; rest = es; parts = refl; adds = y })
 
-      go : Lies (reached-next n files b r x (al .0) .ledger .log) p g ⊎ Added (after b x) es p g → Lies (r .ledger .log) p g ⊎ Added b (x ∷ es) p g
+      go : Lies (logAfter n files b r x) p g ⊎ Added (after b x) es p g → Lies (r .log) p g ⊎ Added b (x ∷ es) p g
       go (inl y) = turn (from-event b r x (al .0) p g s y)
       go (inr y) = inr (record { before = x ∷ y .before; event = y .event; rest = y .rest; parts = ap (λ l. x ∷ l) (y .parts); adds = y .adds })
 

@@ -2,76 +2,28 @@
 use Prim.Native.Nat.{ℕ, zero, suc, pred, _+_, _-_, _≤_}
 use mathlib.Core.Path.{_≡_, refl, sym, ap, _∙_}
 use mathlib.Core.List.{List, [], _∷_, _++_}
-use mathlib.Core.Bool.{Bool, true, false, cond, not, _&&_, _||_, true≢false}
-use mathlib.Core.Option.{Option, some, none}
+use mathlib.Core.Bool.{Bool, true, false, cond, not, _||_, true≢false}
+use mathlib.Core.Option.{some, none}
 use mathlib.Core.Logic.{_⊎_, inl, inr}
 use native.Mathlib.Omega.{arith}
 use lib.ListN.{length, getD}
-use lib.Dec.{eqb, leb, ltb}
+use lib.Dec.{eqb}
 use borrow.Author.Tests.{leb-true, le-leb, eqb-false, eq-eqb}
-use Rattle.encoding.proofs.Logic.{by-test}
-use Rattle.page.specs.Layout.{valueSize, kindAt, markAt}
+use Rattle.page.specs.Layout.{kindAt, markAt}
 use Rattle.recovery.specs.Places.{nth}
 use Rattle.recovery.specs.Log.{undecided, fateOf}
 use Rattle.recovery.specs.World.{fateNumber, fatesOf, undecidedOf}
-use Rattle.recovery.specs.declared.Answer.{Answer}
-use Rattle.recovery.specs.declared.Answer.the-variants.{Refused, Stored, Told}
+use Rattle.recovery.specs.declared.Answer.the-variants.{Stored, Told}
 use Rattle.recovery.proofs.Places.{nth-tabulate}
 use Rattle.recovery.proofs.LogFates.{undecided-known}
 use Rattle.calls.specs.Calls.{Call, begin, write, read, test, decide, rebuild}
 use Rattle.promises.specs.Runs.{Box, Event, calls, opens, cuts, answerTo, after, runs, Allowed, AllAllowed, blankBox, Run}
 use Rattle.promises.specs.Promises.{NoTornOutcome}
-use Rattle.promises.specs.Model.{Version, since, newest, Status, pending, committed, aborted, ofPending, testing, Model, Reply, Object, stores, stored, hasRoom, writing, reading, modelCall, modelOpened, modelCut, modelAfter, isLent}
+use Rattle.promises.specs.Model.{Model, Reply, stores, hasRoom, modelCall, modelOpened, modelCut, modelAfter, isLent}
 use Rattle.promises.proofs.logs.Logs.{known-place}
-use Rattle.promises.proofs.boxes.Boxes.{isOn}
-use Rattle.promises.proofs.answers.Modelled.{Modelled, modelled-next, modelled-blank, answer-modelled}
-use Rattle.promises.proofs.answers.CutEffects.{withObjects}
+use Rattle.promises.proofs.worlds.ModelCalls.{begins, writes, reads, tests, decides, rebuilds}
+use Rattle.promises.proofs.boxes.Boxes.{isOn, Reached, reached-next, reached-blank, answer-is}
 use Rattle.promises.proofs.answers.Seen.{told-fate, status-by, undecided-by}
-
--- ---- every call of the model: it changes objects alone, or stores a page where there is room
-
-module _ (P : Reply → Type 0) (m : Model) (idle : (a : Answer) (h : ℕ → Object) → P (a, withObjects m h)) where
-  same : (a : Answer) → P (a, m)
-  same a = idle a (m .object)
-
-  for-action : (z : Option Status) (x : Reply) → P x → P (ofPending m z x)
-  for-action none x h = same (Refused 5 0)
-  for-action (some pending) x h = h
-  for-action (some committed) x h = same (Refused 6 0)
-  for-action (some aborted) x h = same (Refused 6 0)
-
-  on-begin : (hasRoom m (m .undecided + 2) ≡ true → (φ : ℕ → Option Status) → P (stored m (suc (m .undecided)) φ (m .object))) → P (modelCall m begin)
-  on-begin h = by-test P (hasRoom m (m .undecided + 2)) (λ e. h e _) (λ e. same (Refused 11 0))
-
-  on-write : (f s a : ℕ) (v : List ℕ) → (hasRoom m (m .undecided + 1) ≡ true → (h : ℕ → Object) → P (stored m (m .undecided) (m .status) h)) → P (modelCall m (write f s a v))
-  on-write f s a v h =
-      by-test P (leb 1 f && leb f (m .files)) (λ e. by-test P (leb (length v) valueSize) (λ e. for-action (m .status a) _ (go (m .object f .token))) (λ e. same (Refused 4 0))) (λ e. same (Refused 3 0))
-    where
-      go : (z : Option Version) → P (writing m f s a v (m .object f) z)
-      go (some x) = same (Refused 8 (x .action))
-      go none = by-test P (ltb (since (newest (m .object f .history))) s && ltb (m .object f .asked) s && ltb (m .floor) s) (λ e. by-test P (hasRoom m (m .undecided + 1)) (λ e. h e _) (λ e. same (Refused 11 0))) (λ e. same (Refused 10 0))
-
-  on-read : (f t a : ℕ) → P (modelCall m (read f t a))
-  on-read f t a = by-test P (leb 1 f && leb f (m .files)) (λ e. by-test P (eqb a 0) (λ e. go (m .object f .token)) (λ e. for-action (m .status a) _ (go (m .object f .token)))) (λ e. same (Refused 3 0))
-    where
-      go : (z : Option Version) → P (reading m f t a (m .object f) z)
-      go none = idle _ _
-      go (some x) = by-test P (leb (x .start) t) (λ e. by-test P (eqb (x .action) a) (λ e. idle _ _) (λ e. same (Refused 9 (x .action)))) (λ e. idle _ _)
-
-  on-test : (a : ℕ) → P (modelCall m (test a))
-  on-test a = go (m .status a)
-    where
-      go : (z : Option Status) → P (testing m z)
-      go none = same (Refused 5 0)
-      go (some pending) = same (Told 1)
-      go (some committed) = same (Told 2)
-      go (some aborted) = same (Told 3)
-
-  on-decide : (a : ℕ) (c : Bool) → (hasRoom m 1 ≡ true → (φ : ℕ → Option Status) (h : ℕ → Object) → P (stored m (pred (m .undecided)) φ h)) → P (modelCall m (decide a c))
-  on-decide a c h = for-action (m .status a) _ (by-test P (hasRoom m 1) (λ e. h e _ _) (λ e. same (Refused 11 0)))
-
-  on-rebuild : (f : ℕ) → P (modelCall m (rebuild f))
-  on-rebuild f = by-test P (leb 1 f && leb f (m .files)) (λ e. same _) (λ e. same (Refused 3 0))
 
 -- ---- a page is left for each undecided action
 
@@ -94,24 +46,24 @@ module _ (m : Model) (h : Left-for m) where
   Keeps r = Left-for (r .1)
 
   call-keeps : (k : Call) → Left-for (modelCall m k .1)
-  call-keeps begin = on-begin Keeps m (λ a o. h) (λ e φ. omega (arith, room-is m (m .undecided + 2) (omega arith) e))
-  call-keeps (write f s a v) = on-write Keeps m (λ a o. h) f s a v (λ e o. omega (arith, room-is m (m .undecided + 1) (omega arith) e))
-  call-keeps (read f t a) = on-read Keeps m (λ a o. h) f t a
-  call-keeps (test a) = on-test Keeps m (λ a o. h) a
-  call-keeps (decide a c) = on-decide Keeps m (λ a o. h) a c (λ e φ o. fewer (m .undecided) (room-is m 1 (omega arith) e) h)
-  call-keeps (rebuild f) = on-rebuild Keeps m (λ a o. h) f
+  call-keeps begin = begins Keeps m (λ n p. h) (λ e. omega (arith, room-is m (m .undecided + 2) (omega arith) e))
+  call-keeps (write f s a v) = writes Keeps m (λ n p. h) f s a v (λ j k e. omega (arith, room-is m (m .undecided + 1) (omega arith) e))
+  call-keeps (read f t a) = reads Keeps m (λ n p. h) f t a h (λ x e j k. h)
+  call-keeps (test a) = tests Keeps m (λ n p. h) a (λ n. h)
+  call-keeps (decide a c) = decides Keeps m (λ n p. h) a c (λ e. fewer (m .undecided) (room-is m 1 (omega arith) e) h)
+  call-keeps (rebuild f) = rebuilds Keeps m (λ n p. h) f (λ x. h)
 
   -- a torn page: none was appended, or there was room for it and the outcomes
   abbrev Tears : Reply → Type 0
   Tears r = (r .1 .used ≡ m .used) ⊎ (m .undecided + suc (m .used) ≤ m .pages)
 
   call-tears : (k : Call) (kept : ℕ → Bool) → WholeOutcome k kept → kept kindAt ≡ true → kept markAt ≡ false → Tears (modelCall m k)
-  call-tears begin kept w p q = on-begin Tears m (λ a o. inl refl) (λ e φ. inr (omega (arith, room-is m (m .undecided + 2) (omega arith) e)))
-  call-tears (write f s a v) kept w p q = on-write Tears m (λ a o. inl refl) f s a v (λ e o. inr (omega (arith, room-is m (m .undecided + 1) (omega arith) e)))
-  call-tears (read f t a) kept w p q = on-read Tears m (λ a o. inl refl) f t a
-  call-tears (test a) kept w p q = on-test Tears m (λ a o. inl refl) a
+  call-tears begin kept w p q = begins Tears m (λ n p. inl refl) (λ e. inr (omega (arith, room-is m (m .undecided + 2) (omega arith) e)))
+  call-tears (write f s a v) kept w p q = writes Tears m (λ n p. inl refl) f s a v (λ j k e. inr (omega (arith, room-is m (m .undecided + 1) (omega arith) e)))
+  call-tears (read f t a) kept w p q = reads Tears m (λ n p. inl refl) f t a (inl refl) (λ x e j k. inl refl)
+  call-tears (test a) kept w p q = tests Tears m (λ n p. inl refl) a (λ n. inl refl)
   call-tears (decide a c) kept w p q = absurd (true≢false (sym p ∙ w a c refl ∙ q))
-  call-tears (rebuild f) kept w p q = on-rebuild Tears m (λ a o. inl refl) f
+  call-tears (rebuild f) kept w p q = rebuilds Tears m (λ n p. inl refl) f (λ x. inl refl)
 
   cut-keeps : (k : Call) (kept : ℕ → Bool) → WholeOutcome k kept → Left-for (modelCut m k kept)
   cut-keeps k kept w = go (kept kindAt) (kept markAt) (eqb (modelCall m k .1 .used) (m .used)) refl refl refl
@@ -135,11 +87,11 @@ module _ (m : Model) (h : Left-for m) where
 
 module _ (n files : ℕ) where
   record Kept (b : Box) : Type 0 where
-    pub with : Modelled n files b
+    pub with : Reached n files b
     pub left : Left-for (with .model)
 
   kept-next : (b : Box) → Kept b → (e : Event) → Allowed n files e → NoTornOutcome (e ∷ []) → Kept (after b e)
-  kept-next b k e t w = record { with = modelled-next n files b (k .with) e t; left = go (isOn b) e w }
+  kept-next b k e t w = record { with = reached-next n files b (k .with) e t; left = go (isOn b) e w }
     where
       go : (o : Bool) (e : Event) → NoTornOutcome (e ∷ []) → Left-for (modelAfter o (k .with .model) e)
       go true (calls c) w = call-keeps (k .with .model) (k .left) c
@@ -177,23 +129,21 @@ module _ (n files : ℕ) where
   counted-at l zero e = absurd (omega arith)
   counted-at l (suc i) e = counted l i e
 
-  some-open : (b : Box) (m : Modelled n files b) (a : ℕ) → fateOf (m .reached .ledger .log) a ≡ undecided → 1 ≤ m .model .undecided
+  some-open : (b : Box) (m : Reached n files b) (a : ℕ) → fateOf (m .log) a ≡ undecided → 1 ≤ m .model .undecided
   some-open b m a u =
-      let l = m .reached .ledger in
-      let o = m .reached .at .holds in
-      let p = known-place (l .log) a (o .lawful) (undecided-known u) in
-      let c = counted-at (fatesOf (l .pages) (l .log)) a (nth-tabulate (λ x. fateNumber (fateOf (l .log) x)) (l .pages) a 0 (p .0) (omega (arith, p .1, o .room)) ∙ ap fateNumber u) in
-      omega (arith, m .stands .undecided, c)
+      let p = known-place (m .log) a (m .at .holds .lawful) (undecided-known u) in
+      let c = counted-at (fatesOf (m .model .pages) (m .log)) a (nth-tabulate (λ x. fateNumber (fateOf (m .log) x)) (m .model .pages) a 0 (p .0) (omega (arith, p .1, m .at .holds .room, m .at .pages-are)) ∙ ap fateNumber u) in
+      omega (arith, m .at .says .undecided, c)
 
-  decides : (b : Box) → Kept b → (action : ℕ) (c : Bool) → answerTo b (calls (test action)) ≡ some (Told 1) → (place : ℕ) × (answerTo b (calls (decide action c)) ≡ some (Stored place))
-  decides b k action c e =
+  can-decide : (b : Box) → Kept b → (action : ℕ) (c : Bool) → answerTo b (calls (test action)) ≡ some (Told 1) → (place : ℕ) × (answerTo b (calls (decide action c)) ≡ some (Stored place))
+  can-decide b k action c e =
       let m = k .with in
       let t = told-fate n files b m action 1 e in
-      let u : fateOf (m .reached .ledger .log) action ≡ undecided = undecided-by (fateOf (m .reached .ledger .log) action) (t .2) in
+      let u : fateOf (m .log) action ≡ undecided = undecided-by (fateOf (m .log) action) (t .2) in
       let room : 1 ≤ m .model .pages - m .model .used = omega (arith, some-open b m action u, k .left) in
-      (suc (m .model .used), answer-modelled n files b m (calls (decide action c)) tt ∙ rw (t .0, status-by n files b m action undecided u, le-leb 1 (m .model .pages - m .model .used) room))
+      (suc (m .model .used), answer-is n files b m (calls (decide action c)) tt ∙ rw (t .0, status-by n files b m action undecided u, le-leb 1 (m .model .pages - m .model .used) room))
 
   pub run-reserved : (es : List Event) → Run n files es → NoTornOutcome es → (action : ℕ) (c : Bool) → answerTo (runs (blankBox n) es) (calls (test action)) ≡ some (Told 1)
       → (place : ℕ) × (answerTo (runs (blankBox n) es) (calls (decide action c)) ≡ some (Stored place))
   run-reserved es r w action c e =
-      decides (runs (blankBox n) es) (kept-on (blankBox n) (record { with = modelled-blank n files (r .sized); left = omega arith }) es (r .allowed) w) action c e
+      can-decide (runs (blankBox n) es) (kept-on (blankBox n) (record { with = reached-blank n files (r .sized); left = omega arith }) es (r .allowed) w) action c e

@@ -31,12 +31,11 @@ use Rattle.promises.specs.FromLog.{statusOf}
 use Rattle.promises.specs.Promises.{IsPageOf, Did, AllShow, NoneShows, WasWritten}
 use Rattle.promises.proofs.logs.Logs.{Lawful, Known}
 use Rattle.promises.proofs.bytes.Replaced.{unsealed, bad-image}
-use Rattle.promises.proofs.boxes.Boxes.{isOn, bounds}
+use Rattle.promises.proofs.boxes.Boxes.{isOn, bounds, Reached, reached, answer-is}
 use Rattle.promises.proofs.boxes.Found.{some-is, not-heard}
 use Rattle.promises.proofs.boxes.BoxShown.{box-all, box-shows}
 use Rattle.recovery.proofs.LogFates.{undecided-known}
 use Rattle.promises.proofs.answers.Heard.{answered, hears}
-use Rattle.promises.proofs.answers.Modelled.{Modelled, modelled, answer-modelled}
 use Rattle.promises.proofs.answers.Origins.{Lies, Solid, solid-opening, solid-image, solid-outcome, lies-page, origin, did}
 
 -- ---- the page that tells a fate
@@ -139,10 +138,10 @@ call-image (rebuild f) i h = absurd h
 
 -- ---- what a test tells
 
-module _ (n files : ℕ) (b : Box) (m : Modelled n files b) where
+module _ (n files : ℕ) (b : Box) (m : Reached n files b) where
   pub told-fate : (a fate : ℕ) → answerTo b (calls (test a)) ≡ some (Told fate)
-      → (isOn b ≡ true) × Known (fateOf (m .reached .ledger .log) a) × (fateNumber (fateOf (m .reached .ledger .log) a) ≡ fate)
-  told-fate a fate e = go (isOn b) (sym (answer-modelled n files b m (calls (test a)) tt) ∙ e)
+      → (isOn b ≡ true) × Known (fateOf (m .log) a) × (fateNumber (fateOf (m .log) a) ≡ fate)
+  told-fate a fate e = go (isOn b) (sym (answer-is n files b m (calls (test a)) tt) ∙ e)
     where
       by-fate : (x : Fate) → testing (m .model) (statusOf x) .0 ≡ Told fate → Known x × (fateNumber x ≡ fate)
       by-fate unknown q = clash cc
@@ -150,13 +149,13 @@ module _ (n files : ℕ) (b : Box) (m : Modelled n files b) where
       by-fate committed q = (omega arith, cc)
       by-fate aborted q = (omega arith, cc)
 
-      go : (c : Bool) → modelAnswer c (m .model) (calls (test a)) ≡ some (Told fate) → (c ≡ true) × Known (fateOf (m .reached .ledger .log) a) × (fateNumber (fateOf (m .reached .ledger .log) a) ≡ fate)
-      go true q = let r = by-fate (fateOf (m .reached .ledger .log) a) (ap (λ s. testing (m .model) s .0) (sym (m .stands .status a)) ∙ some-is q) in (refl, r .0, r .1)
+      go : (c : Bool) → modelAnswer c (m .model) (calls (test a)) ≡ some (Told fate) → (c ≡ true) × Known (fateOf (m .log) a) × (fateNumber (fateOf (m .log) a) ≡ fate)
+      go true q = let r = by-fate (fateOf (m .log) a) (ap (λ s. testing (m .model) s .0) (sym (m .at .says .status a)) ∙ some-is q) in (refl, r .0, r .1)
       go false q = not-heard q
 
   -- an action's status, by its fate
-  pub status-by : (a : ℕ) (x : Fate) → fateOf (m .reached .ledger .log) a ≡ x → m .model .status a ≡ statusOf x
-  status-by a x e = m .stands .status a ∙ ap statusOf e
+  pub status-by : (a : ℕ) (x : Fate) → fateOf (m .log) a ≡ x → m .model .status a ≡ statusOf x
+  status-by a x e = m .at .says .status a ∙ ap statusOf e
 
 -- ---- the bytes of a value
 
@@ -210,25 +209,25 @@ module _ (n files : ℕ) (es : List Event) (r : Run n files es) where
   abbrev box : Box
   box = runs (blankBox n) es
 
-  abbrev m : Modelled n files box
-  m = modelled n files es r
+  abbrev m : Reached n files box
+  m = reached n files es r
 
-  lawful : Lawful (m .reached .ledger .log)
-  lawful = m .reached .at .holds .lawful
+  lawful : Lawful (m .log)
+  lawful = m .at .holds .lawful
 
   -- the run did the call whose page lies in the log
-  done : (p : ℕ) (g : Entry) (k : Call) → Solid g → ((c : Call) → IsPageOf c g → c ≡ k) → Lies (m .reached .ledger .log) p g → Did n files es k p
+  done : (p : ℕ) (g : Entry) (k : Call) → Solid g → ((c : Call) → IsPageOf c g → c ≡ k) → Lies (m .log) p g → Did n files es k p
   done p g k s only h =
-      let a = origin n files es r p g s (lies-page n files box (m .reached) p g h) in
+      let a = origin n files es r p g s (lies-page n files box m p g h) in
       subst (λ c. Did n files es c p) (only (a .adds .by) (a .adds .page)) (did n files es p g a)
 
   pub run-begun-only : (action fate : ℕ) → answerTo box (calls (test action)) ≡ some (Told fate) → Did n files es begin action
   run-begun-only action fate e =
-      done action opening begin solid-opening call-opening (opening-in (m .reached .ledger .log) action lawful (told-fate n files box m action fate e .1))
+      done action opening begin solid-opening call-opening (opening-in (m .log) action lawful (told-fate n files box m action fate e .1))
 
   pub run-decided-only : (action : ℕ) (c : Bool) → answerTo box (calls (test action)) ≡ some (Told (cond c 2 3)) → (place : ℕ) × Did n files es (decide action c) place
   run-decided-only action c e =
-      let o = outcome-in (m .reached .ledger .log) action c (verdict-is c (fateOf (m .reached .ledger .log) action) (told-fate n files box m action (cond c 2 3) e .2 ∙ told-number c)) in
+      let o = outcome-in (m .log) action c (verdict-is c (fateOf (m .log) action) (told-fate n files box m action (cond c 2 3) e .2 ∙ told-number c)) in
       (o .0, done (o .0) (outcome action c) (decide action c) (solid-outcome action c) (λ k h. call-outcome k action c h) (o .1))
 
   -- ---- an undecided action can be decided
@@ -242,50 +241,50 @@ module _ (n files : ℕ) (es : List Event) (r : Run n files es) where
   top-blank (image i ∷ l) w h e = let q = sym (entry-top (image i) l) ∙ e in clash cc
   top-blank (outcome a c ∷ l) w h e = let q = sym (entry-top (outcome a c) l) ∙ e in clash cc
 
-  room-left : sealed files (sheetOf box) n ≡ blank → length (m .reached .ledger .log) < n
-  room-left e = go (leb n (length (m .reached .ledger .log))) refl
+  room-left : sealed files (sheetOf box) n ≡ blank → length (m .log) < n
+  room-left e = go (leb n (length (m .log))) refl
     where
-      o : length (m .reached .ledger .log) ≤ n
-      o = omega (arith, m .reached .at .holds .room)
+      o : length (m .log) ≤ n
+      o = omega (arith, m .at .holds .room)
 
-      go : (b : Bool) → leb n (length (m .reached .ledger .log)) ≡ b → length (m .reached .ledger .log) < n
-      go false q = leb-false n (length (m .reached .ledger .log)) q
+      go : (b : Bool) → leb n (length (m .log)) ≡ b → length (m .log) < n
+      go false q = leb-false n (length (m .log)) q
       go true q =
-          let full : length (m .reached .ledger .log) ≡ n = omega (arith, leb-true n (length (m .reached .ledger .log)) q, o) in
+          let full : length (m .log) ≡ n = omega (arith, leb-true n (length (m .log)) q, o) in
           let some : 1 ≤ n = bounds n files (r .sized) .some-pages in
-          let here : sealed files (sheetOf box) n ≡ entryIn (m .reached .ledger .log) n = lies-page n files box (m .reached) n (entryIn (m .reached .ledger .log) n) (record { low = some; high = omega arith; here = refl }) in
-          absurd (top-blank (m .reached .ledger .log) lawful (omega arith) (ap (entryIn (m .reached .ledger .log)) full ∙ sym here ∙ e))
+          let here : sealed files (sheetOf box) n ≡ entryIn (m .log) n = lies-page n files box m n (entryIn (m .log) n) (record { low = some; high = omega arith; here = refl }) in
+          absurd (top-blank (m .log) lawful (omega arith) (ap (entryIn (m .log)) full ∙ sym here ∙ e))
 
   pub run-can-be-decided : (action : ℕ) (c : Bool) → answerTo box (calls (test action)) ≡ some (Told 1) → sealed files (sheetOf box) n ≡ blank
       → (place : ℕ) × (answerTo box (calls (decide action c)) ≡ some (Stored place))
   run-can-be-decided action c e q =
       let t = told-fate n files box m action 1 e in
-      let u = status-by n files box m action undecided (undecided-by (fateOf (m .reached .ledger .log) action) (t .2)) in
-      let room : 1 ≤ m .model .pages - m .model .used = omega (arith, room-left q, m .stands .pages, m .stands .used, m .reached .at .pages-are) in
-      (suc (m .model .used), answer-modelled n files box m (calls (decide action c)) tt ∙ rw (t .0, u, le-leb 1 (m .model .pages - m .model .used) room))
+      let u = status-by n files box m action undecided (undecided-by (fateOf (m .log) action) (t .2)) in
+      let room : 1 ≤ m .model .pages - m .model .used = omega (arith, room-left q, m .at .pages-are, m .at .says .used) in
+      (suc (m .model .used), answer-is n files box m (calls (decide action c)) tt ∙ rw (t .0, u, le-leb 1 (m .model .pages - m .model .used) room))
 
   -- ---- whole or not at all
 
   told-two : isOn box ≡ true → (action : ℕ) → m .model .status action ≡ some model.committed → answerTo box (calls (test action)) ≡ some (Told 2)
-  told-two o action e = answer-modelled n files box m (calls (test action)) tt ∙ rw (o, e)
+  told-two o action e = answer-is n files box m (calls (test action)) tt ∙ rw (o, e)
 
   all-show : (action : ℕ) → answerTo box (calls (test action)) ≡ some (Told 2) → AllShow n files box action
   all-show action h place i here mine = hears box (calls (read (i .file) (i .start) 0)) (Value place (i .start) (length (i .value)))
-      (box-all n files box (m .reached) place i here (subst (λ x. answerTo box (calls (test x)) ≡ some (Told 2)) (sym mine) h))
+      (box-all n files box m place i here (subst (λ x. answerTo box (calls (test x)) ≡ some (Told 2)) (sym mine) h))
 
   none-shows : (action : ℕ) → (answerTo box (calls (test action)) ≡ some (Told 2) → ⊥) → NoneShows n files box action
   none-shows action h file time reader place start size i other here mine e =
-      let v = box-shows n files box (m .reached) file time reader place start size (answered box (calls (read file time reader)) (Value place start size) e) in
+      let v = box-shows n files box m file time reader place start size (answered box (calls (read file time reader)) (Value place start size) e) in
       let a : v .seen .action ≡ action = ap (λ (x : Image). x .action) (image-same (sym (v .here) ∙ here)) ∙ mine in
       h (subst (λ x. answerTo box (calls (test x)) ≡ some (Told 2)) a (answered box (calls (test (v .seen .action))) (Told 2) (v .whose (λ q. other (sym q ∙ a)) .2)))
 
-  not-two : (action : ℕ) (x : Fate) → fateOf (m .reached .ledger .log) action ≡ x → (fateNumber x ≡ 2 → ⊥) → NoneShows n files box action
+  not-two : (action : ℕ) (x : Fate) → fateOf (m .log) action ≡ x → (fateNumber x ≡ 2 → ⊥) → NoneShows n files box action
   not-two action x e h = none-shows action (λ q. h (ap fateNumber (sym e) ∙ told-fate n files box m action 2 q .2))
 
   pub run-whole-or-none : (action : ℕ) → AllShow n files box action ⊎ NoneShows n files box action
-  run-whole-or-none action = go (isOn box) refl (fateOf (m .reached .ledger .log) action) refl
+  run-whole-or-none action = go (isOn box) refl (fateOf (m .log) action) refl
     where
-      go : (c : Bool) → isOn box ≡ c → (x : Fate) → fateOf (m .reached .ledger .log) action ≡ x → AllShow n files box action ⊎ NoneShows n files box action
+      go : (c : Bool) → isOn box ≡ c → (x : Fate) → fateOf (m .log) action ≡ x → AllShow n files box action ⊎ NoneShows n files box action
       go c o unknown e = inr (not-two action unknown e (λ q. omega arith))
       go c o undecided e = inr (not-two action undecided e (λ q. omega arith))
       go c o aborted e = inr (not-two action aborted e (λ q. omega arith))
@@ -296,7 +295,7 @@ module _ (n files : ℕ) (es : List Event) (r : Run n files es) where
 
   pub run-was-written : (file time reader place start size : ℕ) → answerTo box (calls (read file time reader)) ≡ some (Value place start size) → WasWritten n files es file reader place start size
   run-was-written file time reader place start size e =
-      let v = box-shows n files box (m .reached) file time reader place start size e in
+      let v = box-shows n files box m file time reader place start size e in
       let i = v .seen in
       let a = origin n files es r place (image i) (solid-image i) (v .here) in
       let d : Did n files es (write (i .file) (i .start) (i .action) (i .value)) place =

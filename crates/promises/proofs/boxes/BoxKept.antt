@@ -87,7 +87,7 @@ open-box s fates rows floor = by-test (λ (b : Box). sheetOf b ≡ s) (isRefused
 -- ---- a run
 
 module _ (n files : ℕ) where
-  event-same : (b : Box) (r : Reached n files b) (e : Event) → SameTo (length (r .ledger .log)) (sheetOf b) (sheetOf (after b e))
+  event-same : (b : Box) (r : Reached n files b) (e : Event) → SameTo (length (r .log)) (sheetOf b) (sheetOf (after b e))
   event-same (on m) r (calls k) = subst (λ q. SameTo q (m .sheet) (callOn m k .sheet)) (end-is n files m r) (call-same m k)
   event-same (off s) r (calls k) = record { long = refl; bytes = λ i h. refl }
   event-same b r (opens floor fates rows) =
@@ -98,12 +98,12 @@ module _ (n files : ℕ) where
       (cut-same m k kept (omega (arith, end-is n files m r, r .at .holds .room, r .at .long)))
   event-same (off s) r (cuts k kept) = record { long = refl; bytes = λ j h. refl }
 
-  run-kept : (b : Box) (r : Reached n files b) (es : List Event) → AllAllowed n files es → (p : ℕ) → p ≤ length (r .ledger .log) → pageBytes (sheetOf (runs b es)) p ≡ pageBytes (sheetOf b) p
+  run-kept : (b : Box) (r : Reached n files b) (es : List Event) → AllAllowed n files es → (p : ℕ) → p ≤ length (r .log) → pageBytes (sheetOf (runs b es)) p ≡ pageBytes (sheetOf b) p
   run-kept b r [] al p h = refl
   run-kept b r (e ∷ es) al p h =
-      let g = event-extends n files b r e (al .0) (r .ledger .log) (ext-refl (r .ledger .log)) in
+      let g = event-extends n files b r e (al .0) (r .log) (ext-refl (r .log)) in
       run-kept (after b e) (reached-next n files b r e (al .0)) es (al .1) p (omega (arith, g .longer))
-      ∙ same-page (length (r .ledger .log)) (sheetOf b) (sheetOf (after b e)) (event-same b r e) p h
+      ∙ same-page (length (r .log)) (sheetOf b) (sheetOf (after b e)) (event-same b r e) p h
 
   no-page : (s : List ℕ) (p : ℕ) → length s ≡ pageSize * n → n < p → pageBytes s p ≡ []
   no-page s zero l h = absurd (omega arith)
@@ -112,14 +112,14 @@ module _ (n files : ℕ) where
   pub box-kept : (b : Box) → Reached n files b → (es : List Event) → AllAllowed n files es → (p : ℕ) → (sealed files (sheetOf b) p ≡ blank → ⊥)
       → pageBytes (sheetOf (runs b es)) p ≡ pageBytes (sheetOf b) p
   box-kept b r es al zero h = refl
-  box-kept b r es al (suc q) h = go (leb (suc q) n) refl (leb (suc q) (length (r .ledger .log))) refl
+  box-kept b r es al (suc q) h = go (leb (suc q) n) refl (leb (suc q) (length (r .log))) refl
     where
-      go : (x : Bool) → leb (suc q) n ≡ x → (y : Bool) → leb (suc q) (length (r .ledger .log)) ≡ y → pageBytes (sheetOf (runs b es)) (suc q) ≡ pageBytes (sheetOf b) (suc q)
+      go : (x : Bool) → leb (suc q) n ≡ x → (y : Bool) → leb (suc q) (length (r .log)) ≡ y → pageBytes (sheetOf (runs b es)) (suc q) ≡ pageBytes (sheetOf b) (suc q)
       go false e y f =
           no-page (sheetOf (runs b es)) (suc q) (reached-on n files b r es al .at .long) (leb-false (suc q) n e)
           ∙ sym (no-page (sheetOf b) (suc q) (r .at .long) (leb-false (suc q) n e))
-      go true e true f = run-kept b r es al (suc q) (leb-true (suc q) (length (r .ledger .log)) f)
-      go true e false f = absurd (h (page-above n files b r (suc q) (leb-false (suc q) (length (r .ledger .log)) f) (leb-true (suc q) n e)))
+      go true e true f = run-kept b r es al (suc q) (leb-true (suc q) (length (r .log)) f)
+      go true e false f = absurd (h (page-above n files b r (suc q) (leb-false (suc q) (length (r .log)) f) (leb-true (suc q) n e)))
 
   pub box-lost : (b : Box) (k : Call) (kept : ℕ → Bool) → Ordered kept → kept kindAt ≡ false → sheetOf (after b (cuts k kept)) ≡ sheetOf b
   box-lost (on m) k kept o e = cut-none m k kept o e

@@ -1,37 +1,43 @@
 -- Whole or not at all, of a box that a run has reached: a committed action shows all its versions, any other none outside itself.
 use Prim.Native.Nat.{ℕ, zero, suc, _≤_, _<_}
 use mathlib.Core.Path.{_≡_, refl, sym, ap, _∙_, subst}
+use mathlib.Core.List.{List}
 use mathlib.Core.Bool.{Bool, true, false}
 use mathlib.Core.Option.{some, none}
 use native.Mathlib.Omega.{arith}
 use lib.ListN.{length}
 use lib.Dec.{leb}
 use borrow.Author.Tests.{leb-true, leb-false, le-leb}
-use Rattle.encoding.proofs.Logic.{by-test, clash}
-use Rattle.recovery.specs.Log.{Image, blank, image, Fate, unknown, undecided, committed, aborted, fateOf}
+use Rattle.encoding.proofs.Logic.{clash}
+use Rattle.recovery.specs.Log.{Image, Entry, blank, image, Fate, unknown, undecided, committed, aborted, fateOf}
 use Rattle.recovery.specs.Sheet.{decoded, sealed}
 use Rattle.recovery.specs.World.{World, entryAt, fateAt, fateNumber, isFile}
 use Rattle.recovery.specs.declared.Answer.{Answer}
-use Rattle.recovery.specs.declared.Answer.the-variants.{Refused, Value, Nothing, Told}
+use Rattle.recovery.specs.declared.Answer.the-variants.{Value, Nothing, Told}
 use Rattle.recovery.specs.Lent.{Left}
 use Rattle.calls.specs.Calls.{read, test, call}
 use Rattle.promises.specs.Runs.{Box, on, off, sheetOf, calls, callOn, answerTo}
 use Rattle.promises.specs.Promises.{IsVersion, Shown}
-use Rattle.promises.proofs.ledger.Ledger.{Ledger, LedgerResult, ledgerKnows, toldFate}
-use Rattle.promises.proofs.ledger.Sim.{Sim, fate-eq}
-use Rattle.promises.proofs.ledger.SimCalls.{sim-call}
-use Rattle.promises.proofs.ledger.Shown.{committed-shown, own-shown}
-use Rattle.promises.proofs.ledger.Visible.{Whose, kept, own, read-shows, read-none}
+use Rattle.promises.specs.Model.{Model, testing}
+use Rattle.promises.specs.FromLog.{statusOf}
+use Rattle.promises.proofs.worlds.Sim.{Sim, fate-eq}
+use Rattle.promises.proofs.worlds.SimCalls.{sim-call}
+use Rattle.promises.proofs.worlds.Shown.{committed-shown, own-shown}
+use Rattle.promises.proofs.worlds.Visible.{Whose, kept, own, read-shows, read-none}
 use Rattle.promises.proofs.bytes.Replaced.{unsealed, bad-image, lies-below, Below}
 use Rattle.promises.proofs.boxes.Boxes.{worldIn, Reached, sim, world-says, end-is, page-in, page-lies}
 use Rattle.promises.proofs.answers.Heard.{answered, hears}
 use Rattle.promises.proofs.boxes.Found.{some-is, not-heard, test-tells}
 
 -- what a test tells is the fate
-told-number : (w : World) (l : Ledger) (s : Sim w l) (a y : ℕ) → call w (test a) .0 ≡ Told y → fateNumber (fateOf (l .log) a) ≡ y
-told-number w l s a y e = by-test (λ (r : LedgerResult). r .0 ≡ Told y → fateNumber (fateOf (l .log) a) ≡ y) (ledgerKnows l a)
-    {x = (toldFate (fateOf (l .log) a), l)} {y = (Refused 5 0, l)} (λ t h. cc) (λ t h. clash cc)
-    (sym (sim-call w l s (test a) .answer) ∙ e)
+told-number : (w : World) (l : List Entry) (m : Model) (s : Sim w l m) (a y : ℕ) → call w (test a) .0 ≡ Told y → fateNumber (fateOf l a) ≡ y
+told-number w l m s a y e = go (fateOf l a) (ap (λ z. testing m z .0) (sym (s .says .status a)) ∙ sym (sim-call w l m s (test a) .answer) ∙ e)
+  where
+    go : (x : Fate) → testing m (statusOf x) .0 ≡ Told y → fateNumber x ≡ y
+    go unknown q = clash cc
+    go undecided q = cc
+    go committed q = cc
+    go aborted q = cc
 
 committed-is : (x : Fate) → fateNumber x ≡ 2 → x ≡ committed
 committed-is unknown e = absurd (omega arith)
@@ -78,19 +84,19 @@ module _ (n files : ℕ) where
     -- its fate, by the test of its action
     fate-is : (y : ℕ) → callOn m (test (i .action)) .answer ≡ Told y → fateNumber (fateAt w (i .action)) ≡ y
     fate-is y t =
-        ap fateNumber (fate-eq w (r .ledger) (sim n files m r) (i .action))
-        ∙ told-number w (r .ledger) (sim n files m r) (i .action) y (sym (world-says n files m r (test (i .action))) ∙ t)
+        ap fateNumber (fate-eq w (r .log) (r .model) (sim n files m r) (i .action))
+        ∙ told-number w (r .log) (r .model) (sim n files m r) (i .action) y (sym (world-says n files m r (test (i .action))) ∙ t)
 
     all-on : callOn m (test (i .action)) .answer ≡ Told 2 → callOn m (read (i .file) (i .start) 0) .answer ≡ Value place (i .start) (length (i .value))
     all-on t =
         world-says n files m r (read (i .file) (i .start) 0)
-        ∙ committed-shown w (r .ledger) (sim n files m r) place i in-log entry-is file-is (committed-is (fateAt w (i .action)) (fate-is 2 t))
+        ∙ committed-shown w (r .log) (r .model) (sim n files m r) place i in-log entry-is file-is (committed-is (fateAt w (i .action)) (fate-is 2 t))
 
     own-on : callOn m (test (i .action)) .answer ≡ Told 1 → (time : ℕ) → i .start ≤ time
         → callOn m (read (i .file) time (i .action)) .answer ≡ Value place (i .start) (length (i .value))
     own-on t time h =
         world-says n files m r (read (i .file) time (i .action))
-        ∙ own-shown w (r .ledger) (sim n files m r) place i time in-log entry-is file-is (undecided-is (fateAt w (i .action)) (fate-is 1 t)) h
+        ∙ own-shown w (r .log) (r .model) (sim n files m r) place i time in-log entry-is file-is (undecided-is (fateAt w (i .action)) (fate-is 1 t)) h
 
   module _ (b : Box) (r : Reached n files b) (place : ℕ) (i : Image) (e : sealed files (sheetOf b) place ≡ image i) where
     pub box-all : answerTo b (calls (test (i .action))) ≡ some (Told 2) → answerTo b (calls (read (i .file) (i .start) 0)) ≡ some (Value place (i .start) (length (i .value)))
@@ -126,8 +132,8 @@ module _ (n files : ℕ) where
 
     committed-told : (i : Image) → Whose (worldIn n files m) a i → (i .action ≡ a → ⊥) → callOn m (test (i .action)) .answer ≡ Told 2
     committed-told i (kept c) o =
-        let d : fateOf (r .ledger .log) (i .action) ≡ committed = sym (fate-eq (worldIn n files m) (r .ledger) (sim n files m r) (i .action)) ∙ c in
-        test-tells n files m r (i .action) (rw d (omega arith)) ∙ ap toldFate d
+        let d : fateOf (r .log) (i .action) ≡ committed = sym (fate-eq (worldIn n files m) (r .log) (r .model) (sim n files m r) (i .action)) ∙ c in
+        test-tells n files m r (i .action) (rw d (omega arith)) ∙ ap (λ x. Told (fateNumber x)) d
     committed-told i (own h q) o = absurd (o q)
 
     said : (x : Answer) → callOn m (read f t a) .answer ≡ x → call (worldIn n files m) (read f t a) .0 ≡ x
@@ -135,7 +141,7 @@ module _ (n files : ℕ) where
 
     shows-on : (p s l : ℕ) → callOn m (read f t a) .answer ≡ Value p s l → Shown n files (on m) f t a p s l
     shows-on p s l e =
-        let v = read-shows (worldIn n files m) (r .ledger) (sim n files m r) f t a p s l (said (Value p s l) e) in
+        let v = read-shows (worldIn n files m) (r .log) (r .model) (sim n files m r) f t a p s l (said (Value p s l) e) in
         let inside : (1 ≤ p) × (p ≤ n) = place-in p (v .seen) (v .here) in
         let here : sealed files (m .sheet) p ≡ image (v .seen) = sym (page-in n files (m .sheet) p (inside .0) (inside .1)) ∙ v .here in
         record { seen = v .seen; here = here; is = (v .file, v .start, v .len, v .inTime, numbers m r p (v .seen) here .1); whose = λ o. (here, v .file, hears (on m) (calls (test (v .seen .action))) (Told 2) (ap some (committed-told (v .seen) (v .whose) o))) }
@@ -147,10 +153,10 @@ module _ (n files : ℕ) where
 
       highest-on : (p s l : ℕ) → callOn m (read f t a) .answer ≡ Value p s l → i .start ≤ t → i .start ≤ s
       highest-on p s l e k =
-          read-shows (worldIn n files m) (r .ledger) (sim n files m r) f t a p s l (said (Value p s l) e) .latest q i (in-log m r q i (v .0)) (entry-is m r q i (v .0)) (v .1) fate k
+          read-shows (worldIn n files m) (r .log) (r .model) (sim n files m r) f t a p s l (said (Value p s l) e) .latest q i (in-log m r q i (v .0)) (entry-is m r q i (v .0)) (v .1) fate k
 
       later-on : callOn m (read f t a) .answer ≡ Nothing → t < i .start
-      later-on e = read-none (worldIn n files m) (r .ledger) (sim n files m r) f t a (said Nothing e) q i (in-log m r q i (v .0)) (entry-is m r q i (v .0)) (v .1) fate
+      later-on e = read-none (worldIn n files m) (r .log) (r .model) (sim n files m r) f t a (said Nothing e) q i (in-log m r q i (v .0)) (entry-is m r q i (v .0)) (v .1) fate
 
   pub box-shows : (b : Box) → Reached n files b → (f t a p s l : ℕ) → answerTo b (calls (read f t a)) ≡ some (Value p s l) → Shown n files b f t a p s l
   box-shows (on m) r f t a p s l e = shows-on m r f t a p s l (some-is e)

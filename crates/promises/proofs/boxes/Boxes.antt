@@ -1,23 +1,25 @@
--- Boxes that a run reaches. Each stands for a ledger: its bytes decode to the ledger's log, and while it is on its fates and rows say
--- what the ledger says. One event, of a call, an opening or a cut, leads from such a box to such a box.
+-- Boxes that a run reaches. Each stands for a log and a state of the object model: its bytes decode to the log, the log says what the
+-- model has, and while the box is on its fates and rows say so too. One event, of a call, an opening or a cut, is answered as the model
+-- answers it, and leads from such a box to such a box.
 use Prim.Native.Nat.{ℕ, zero, suc, _-_, _*_, _/_, _%_, _≤_, _<_}
 use mathlib.Core.Path.{_≡_, refl, sym, ap, _∙_, subst}
 use mathlib.Core.List.{List, [], _∷_, _++_}
-use mathlib.Core.Bool.{Bool, true, false, cond}
+use mathlib.Core.Bool.{Bool, true, false, cond, not, _&&_}
+use mathlib.Core.Option.{some}
 use native.Mathlib.Omega.{arith}
 use lib.ListN.{length, take, replicate, length-replicate, List·getD-eq-default}
 use lib.Dec.{eqb, leb}
-use borrow.Author.Tests.{leb-true, leb-false}
-use Rattle.encoding.proofs.Logic.{and-true, by-test}
+use borrow.Author.Tests.{eqb-true, eq-eqb, ne-eqb, leb-true, leb-false}
+use Rattle.encoding.proofs.Logic.{and-true, by-test, bool-ext}
 use Rattle.page.specs.declared.Unpacked.the-variants.{Blank}
-use Rattle.page.specs.Layout.{pageSize, mostPlaces, mostFiles}
+use Rattle.page.specs.Layout.{pageSize, mostPlaces, mostFiles, kindAt, markAt}
 use Rattle.page.specs.Answers.{inBounds, tested}
 use Rattle.page.proofs.Rules.{are-in-bounds}
 use Rattle.recovery.specs.Places.{nth, put}
-use Rattle.recovery.specs.Log.{Entry, blank, bad}
+use Rattle.recovery.specs.Log.{Entry, blank, bad, fateOf, imagesOf, versionsOf, tokenOf}
 use Rattle.recovery.specs.Sheet.{pageBytes, entryOf, decoded, seal, sealed, pages}
 use Rattle.recovery.specs.Numbers.{isRefused}
-use Rattle.recovery.specs.World.{World, Result, entryAt, sizes, down, endOf, highestBad, fatesOf, undecidedOf, opened}
+use Rattle.recovery.specs.World.{World, Result, entryAt, sizes, down, endOf, highestBad, opened}
 use Rattle.recovery.specs.Lent.{Left, rowLength, rowsOf, whole, sizesRight, leaves, closed, openLeaves}
 use Rattle.recovery.specs.declared.Answer.{Answer}
 use Rattle.recovery.specs.declared.Answer.the-variants.{Refused, Opened}
@@ -25,17 +27,20 @@ use Rattle.recovery.proofs.FlatRows.{rows-long, flat-long, flat-rows}
 use Rattle.recovery.proofs.Sizes.{sizes-right}
 use Rattle.recovery.proofs.Pages.{page-at-place, pages-long, test-out}
 use Rattle.recovery.proofs.OpeningLaws.{open-refused}
-use Rattle.recovery.proofs.Spots.{entryIn, entry-down}
+use Rattle.recovery.proofs.Spots.{entryIn, entry-top, entry-down}
 use Rattle.calls.specs.Calls.{Call, call}
 use Rattle.calls.specs.Leaves.{grown, lower, callLeaves}
 use Rattle.calls.specs.Cuts.{storedOf}
-use Rattle.promises.specs.Runs.{Box, on, off, sheetOf, Event, calls, opens, cuts, callOn, boxOf, after, runs, Typed, Ordered, Allowed, AllAllowed, blankBox, Run}
-use Rattle.promises.proofs.ledger.Ledger.{Ledger, ledgerCall, ledgerOpened}
-use Rattle.promises.proofs.ledger.Sim.{Sim}
-use Rattle.promises.proofs.ledger.SimCalls.{sim-call}
+use Rattle.promises.specs.Runs.{Box, on, off, sheetOf, Event, calls, opens, cuts, callOn, boxOf, answerTo, after, runs, Typed, Ordered, Allowed, AllAllowed, blankBox, Run}
+use Rattle.promises.specs.Model.{Model, blankModel, stores, modelCall, modelOpened, modelCut, isLent, modelAnswer, modelAfter, modelOn}
+use Rattle.promises.proofs.logs.Fates.{undecided-low}
+use Rattle.promises.proofs.worlds.LogSays.{Says, torn-says}
+use Rattle.promises.proofs.worlds.ModelCalls.{call-sized, cut-sized}
+use Rattle.promises.proofs.worlds.Sim.{Sim, Step, stay, add, Agrees}
+use Rattle.promises.proofs.worlds.SimCalls.{sim-call}
+use Rattle.promises.proofs.worlds.Openings.{Holds, sim-holds, sim-open}
 use Rattle.promises.proofs.bytes.Stored.{bytesOf, partial}
-use Rattle.promises.proofs.ledger.Openings.{Holds, sim-holds, sim-open}
-use Rattle.promises.proofs.bytes.Cuts.{cutSheet, cutLog, moves, cut-holds}
+use Rattle.promises.proofs.bytes.Cuts.{cutSheet, partialLog, cutLog, cut-holds}
 use Rattle.promises.proofs.bytes.Appended.{FitStep, fit}
 use Rattle.promises.proofs.bytes.ByteCalls.{drop-zeros, call-pages, call-long, cut-pages, cut-long}
 
@@ -68,45 +73,38 @@ abbrev pub isOn : Box → Bool
 isOn (on m) = true
 isOn (off s) = false
 
--- ---- the ledger along an event
-
 -- line 1 lets an opening pass
 abbrev pub isRight : ℕ → List ℕ → List ℕ → Bool
 isRight n fates rows = sizesRight (pageSize * n) (length fates) (length rows)
 
-abbrev pub ledgerAfter : ℕ → Box → Ledger → Event → Ledger
-ledgerAfter n (on m) l (calls k) = ledgerCall l k .1
-ledgerAfter n (off s) l (calls k) = l
-ledgerAfter n b l (opens floor fates rows) = ledgerOpened (l .pages) (l .files) (l .log) (cond (isRight n fates rows) floor 0)
-ledgerAfter n (on m) l (cuts k kept) = ledgerOpened (l .pages) (l .files) (cutLog (l .log) (ledgerCall l k .1 .log) (bytesOf kept)) 0
-ledgerAfter n (off s) l (cuts k kept) = l
-
--- ---- a box and its ledger
+-- ---- a box, its log and its model
 
 module _ (n files : ℕ) where
   abbrev pub worldIn : Left → World
   worldIn m = record { sheet = pages files n (m .sheet); fates = m .fates; rows = rowsOf (m .rows); end = m .state .end; floor = m .state .floor; undecided = m .state .undecided }
 
   -- a box that is off has its sheet alone
-  abbrev pub Stands : Box → Ledger → Type 0
-  Stands (on m) l = Sim (worldIn m) l × (length (m .rows) ≡ rowLength * files)
-  Stands (off s) l = Unit {0}
+  abbrev pub Stands : Box → List Entry → Model → Type 0
+  Stands (on m) l x = Sim (worldIn m) l x × (length (m .rows) ≡ rowLength * files)
+  Stands (off s) l x = Unit {0}
 
-  pub record At (b : Box) (l : Ledger) : Type 0 where
+  pub record At (b : Box) (l : List Entry) (x : Model) : Type 0 where
     pub sized : sizes n n files ≡ true
     pub long : length (sheetOf b) ≡ pageSize * n
-    pub pages-are : l .pages ≡ n
-    pub files-are : l .files ≡ files
-    pub holds : Holds (pages files n (sheetOf b)) n (l .log)
-    pub stands : Stands b l
+    pub pages-are : x .pages ≡ n
+    pub files-are : x .files ≡ files
+    pub holds : Holds (pages files n (sheetOf b)) n l
+    pub says : Says l x
+    pub stands : Stands b l x
 
   pub record Reached (b : Box) : Type 0 where
-    pub ledger : Ledger
-    pub at : At b ledger
+    pub log : List Entry
+    pub model : Model
+    pub at : At b log model
 
   -- a box that is on, in its parts
   module _ (m : Left) (r : Reached (on m)) where
-    pub sim : Sim (worldIn m) (r .ledger)
+    pub sim : Sim (worldIn m) (r .log) (r .model)
     sim = r .at .stands .0
 
     whole-is : whole (length (m .sheet)) (length (m .rows)) ≡ true
@@ -122,20 +120,26 @@ module _ (n files : ℕ) where
         let b : length (m .rows) / rowLength ≡ files = omega (arith, r .at .stands .1) in
         rw (whole-is, a, b)
 
-    -- what it answers, its world and its ledger answer
+    -- a call of it, of its world and of its model
+    abbrev pub agrees : (k : Call) → Agrees (r .model .files) k (r .log) (call (worldIn m) k) (modelCall (r .model) k)
+    agrees k = sim-call (worldIn m) (r .log) (r .model) sim k
+
     pub world-says : (k : Call) → callOn m k .answer ≡ call (worldIn m) k .0
     world-says k = ap (λ x. x .answer) (call-is k)
 
-    pub ledger-says : (k : Call) → callOn m k .answer ≡ ledgerCall (r .ledger) k .0
-    ledger-says k = world-says k ∙ sim-call (worldIn m) (r .ledger) sim k .answer
+    pub model-says : (k : Call) → callOn m k .answer ≡ modelCall (r .model) k .0
+    model-says k = world-says k ∙ agrees k .answer
 
-    pub end-is : m .state .end ≡ length (r .ledger .log)
+    pub end-is : m .state .end ≡ length (r .log)
     end-is = sim .ends
 
   -- a call, and one that is cut
   module _ (m : Left) (r : Reached (on m)) (k : Call) (t : Typed k) where
-    abbrev l : Ledger
-    l = r .ledger
+    abbrev l : List Entry
+    l = r .log
+
+    abbrev l′ : List Entry
+    l′ = agrees m r k .log
 
     abbrev w′ : World
     w′ = call (worldIn m) k .1
@@ -143,21 +147,21 @@ module _ (n files : ℕ) where
     z : Bounds n files
     z = bounds n files (r .at .sized)
 
-    after-call : Sim w′ (ledgerCall l k .1)
-    after-call = sim-call (worldIn m) l (sim m r) k .after
+    after-call : Sim w′ l′ (modelCall (r .model) k .1)
+    after-call = agrees m r k .after
 
-    held-after : Holds (w′ .sheet) n (ledgerCall l k .1 .log)
-    held-after = subst (λ u. Holds (w′ .sheet) u (ledgerCall l k .1 .log)) (moves l k .pages ∙ r .at .pages-are) (sim-holds w′ (ledgerCall l k .1) after-call)
+    held-after : Holds (w′ .sheet) n l′
+    held-after = subst (λ u. Holds (w′ .sheet) u l′) (call-sized (r .model) k .pages ∙ r .at .pages-are) (sim-holds w′ l′ (modelCall (r .model) k .1) after-call)
 
-    fits : FitStep files (l .log) (ledgerCall l k .1 .log)
-    fits = subst (λ u. FitStep u (l .log) (ledgerCall l k .1 .log)) (r .at .files-are) (fit l k t)
+    fits : FitStep files l l′
+    fits = subst (λ u. FitStep u l l′) (r .at .files-are) (fit (agrees m r k .step) t)
 
-    sheet-is : callOn m k .sheet ≡ grown (m .sheet) (length (l .log)) w′
+    sheet-is : callOn m k .sheet ≡ grown (m .sheet) (length l) w′
     sheet-is = ap (λ x. x .sheet) (call-is m r k) ∙ ap (λ e. grown (m .sheet) e w′) (end-is m r)
 
     pages-after : pages files n (callOn m k .sheet) ≡ w′ .sheet
     pages-after = ap (pages files n) sheet-is
-        ∙ call-pages files n (m .sheet) (l .log) (r .at .holds) (r .at .long) (z .most-pages) (z .some-files) (z .most-files) fits w′ held-after (after-call .ends)
+        ∙ call-pages files n (m .sheet) l (r .at .holds) (r .at .long) (z .most-pages) (z .some-files) (z .most-files) fits w′ held-after (after-call .ends)
 
     world-after : worldIn (callOn m k) ≡ w′
     world-after = λ i. record {
@@ -169,38 +173,56 @@ module _ (n files : ℕ) where
       undecided = call-is m r k i .state .undecided;
     }
 
-    called : At (on (callOn m k)) (ledgerCall l k .1)
+    called : At (on (callOn m k)) l′ (modelCall (r .model) k .1)
     called = record {
       sized = r .at .sized;
-      long = ap length sheet-is ∙ call-long files n (m .sheet) (l .log) (r .at .holds) (r .at .long) (z .most-pages) (z .some-files) (z .most-files) fits w′ held-after (after-call .ends);
-      pages-are = moves l k .pages ∙ r .at .pages-are;
-      files-are = moves l k .files ∙ r .at .files-are;
-      holds = subst (λ u. Holds u n (ledgerCall l k .1 .log)) (sym pages-after) held-after;
+      long = ap length sheet-is ∙ call-long files n (m .sheet) l (r .at .holds) (r .at .long) (z .most-pages) (z .some-files) (z .most-files) fits w′ held-after (after-call .ends);
+      pages-are = call-sized (r .model) k .pages ∙ r .at .pages-are;
+      files-are = call-sized (r .model) k .files ∙ r .at .files-are;
+      holds = subst (λ u. Holds u n l′) (sym pages-after) held-after;
+      says = after-call .says;
       stands = (
-        subst (λ w. Sim w (ledgerCall l k .1)) (sym world-after) after-call,
-        ap (λ x. length (x .rows)) (call-is m r k) ∙ flat-long (w′ .rows) ∙ ap (λ x. rowLength * x) (after-call .files ∙ moves l k .files ∙ r .at .files-are),
+        subst (λ w. Sim w l′ (modelCall (r .model) k .1)) (sym world-after) after-call,
+        ap (λ x. length (x .rows)) (call-is m r k) ∙ flat-long (w′ .rows) ∙ ap (λ x. rowLength * x) (after-call .files ∙ call-sized (r .model) k .files ∙ r .at .files-are),
       );
     }
 
-    was-cut : (kept : ℕ → Bool) → Ordered kept → At (after (on m) (cuts k kept)) (ledgerAfter n (on m) l (cuts k kept))
+    -- the model takes a cut as the log does
+    cut-says : (kept : ℕ → Bool) {u : List Entry} → Step (r .model .files) k l (modelCall (r .model) k .0) u → Says u (modelCall (r .model) k .1) → Says (cutLog l u (bytesOf kept)) (modelCut (r .model) k kept)
+    unfolding cutLog
+    cut-says kept (stay q) h = rw (eq-eqb (modelCall (r .model) k .1 .used) (r .model .used) (h .used ∙ sym (r .at .says .used)), eq-eqb (length l) (length l) refl) (r .at .says)
+    cut-says kept (add g q e) h =
+        rw (
+          ne-eqb (modelCall (r .model) k .1 .used) (r .model .used) (λ q. omega (arith, h .used, r .at .says .used)),
+          ne-eqb (suc (length l)) (length l) (λ q. omega arith),
+          entry-top g l,
+        ) (go (kept kindAt) (kept markAt))
+      where
+        go : (a b : Bool) → Says (partialLog (cond a (cond b pageSize 1) 0) g l) (cond (not a) (r .model) (cond b (modelCall (r .model) k .1) (stores (r .model) (r .model .undecided) (r .model .status) (r .model .object))))
+        go false b = r .at .says
+        go true false = torn-says l (r .model) (r .at .says)
+        go true true = h
+
+    was-cut : (kept : ℕ → Bool) → Ordered kept → At (after (on m) (cuts k kept)) (cutLog l l′ (bytesOf kept)) (modelCut (r .model) k kept)
     unfolding cutSheet
     was-cut kept o = record {
       sized = r .at .sized;
-      long = ap length bytes-are ∙ cut-long files n (m .sheet) (l .log) (r .at .holds) (r .at .long) (z .most-pages) (z .some-files) (z .most-files) fits w′ held-after (after-call .ends) kept o;
-      pages-are = r .at .pages-are;
-      files-are = r .at .files-are;
-      holds = subst (λ u. Holds u n (cutLog (l .log) (ledgerCall l k .1 .log) (bytesOf kept))) (sym pages-cut)
-          (subst (λ u. Holds (cutSheet (worldIn m) k (bytesOf kept)) u (cutLog (l .log) (ledgerCall l k .1 .log) (bytesOf kept))) (r .at .pages-are) (cut-holds (worldIn m) l k (bytesOf kept) (sim m r)));
+      long = ap length bytes-are ∙ cut-long files n (m .sheet) l (r .at .holds) (r .at .long) (z .most-pages) (z .some-files) (z .most-files) fits w′ held-after (after-call .ends) kept o;
+      pages-are = cut-sized (r .model) k kept .pages ∙ r .at .pages-are;
+      files-are = cut-sized (r .model) k kept .files ∙ r .at .files-are;
+      holds = subst (λ u. Holds u n (cutLog l l′ (bytesOf kept))) (sym pages-cut)
+          (subst (λ u. Holds (cutSheet (worldIn m) k (bytesOf kept)) u (cutLog l l′ (bytesOf kept))) (r .at .pages-are) (cut-holds (worldIn m) l (r .model) (sim m r) k (bytesOf kept)));
+      says = cut-says kept (agrees m r k .step) (after-call .says);
       stands = tt;
     }
       where
-        bytes-are : storedOf kept (m .state .end) (callOn m k .sheet) (m .sheet) ≡ storedOf kept (length (l .log)) (grown (m .sheet) (length (l .log)) w′) (m .sheet)
-        bytes-are = ap (λ t. storedOf kept (m .state .end) t (m .sheet)) sheet-is ∙ ap (λ e. storedOf kept e (grown (m .sheet) (length (l .log)) w′) (m .sheet)) (end-is m r)
+        bytes-are : storedOf kept (m .state .end) (callOn m k .sheet) (m .sheet) ≡ storedOf kept (length l) (grown (m .sheet) (length l) w′) (m .sheet)
+        bytes-are = ap (λ t. storedOf kept (m .state .end) t (m .sheet)) sheet-is ∙ ap (λ e. storedOf kept e (grown (m .sheet) (length l) w′) (m .sheet)) (end-is m r)
 
         pages-cut : pages files n (storedOf kept (m .state .end) (callOn m k .sheet) (m .sheet))
             ≡ cond (eqb (w′ .end) (m .state .end)) (pages files n (m .sheet)) (put (pages files n (m .sheet)) (suc (m .state .end)) (partial (bytesOf kept) (entryAt w′ (suc (m .state .end)))))
         pages-cut = ap (pages files n) bytes-are
-            ∙ cut-pages files n (m .sheet) (l .log) (r .at .holds) (r .at .long) (z .most-pages) (z .some-files) (z .most-files) fits w′ held-after (after-call .ends) kept o
+            ∙ cut-pages files n (m .sheet) l (r .at .holds) (r .at .long) (z .most-pages) (z .some-files) (z .most-files) fits w′ held-after (after-call .ends) kept o
             ∙ ap (λ e. cond (eqb (w′ .end) e) (pages files n (m .sheet)) (put (pages files n (m .sheet)) (suc e) (partial (bytesOf kept) (entryAt w′ (suc e))))) (sym (end-is m r))
 
   -- ---- an opening: refused by line 1, or else accepted
@@ -209,21 +231,21 @@ module _ (n files : ℕ) where
     abbrev s : List ℕ
     s = sheetOf b
 
-    abbrev pub opening : Bool → Ledger
-    opening c = ledgerOpened (r .ledger .pages) (r .ledger .files) (r .ledger .log) (cond c floor 0)
+    abbrev pub opening : Bool → Model
+    opening c = cond c (modelOpened (r .model) floor) (r .model)
 
     abbrev pub heardAs : Bool → Answer
-    heardAs c = cond c (Opened (length (r .ledger .log)) (undecidedOf (fatesOf n (r .ledger .log)))) (Refused 1 0)
+    heardAs c = cond c (Opened (r .model .used) (r .model .undecided)) (Refused 1 0)
 
     pub record Opens (c : Bool) (x : Left) : Type 0 where
-      pub at : At (boxOf x) (opening c)
+      pub at : At (boxOf x) (r .log) (opening c)
       pub power : isOn (boxOf x) ≡ c
       pub answer : x .answer ≡ heardAs c
 
     refuses : isRight n fates rows ≡ false → Opens false (openLeaves s fates rows floor)
     unfolding isRefused
     refuses e = subst (Opens false) (open-refused s fates rows floor (rw (r .at .long) e) (record { answer = Refused 1 0; state = closed }) refl) (record {
-      at = record { sized = r .at .sized; long = r .at .long; pages-are = r .at .pages-are; files-are = r .at .files-are; holds = r .at .holds; stands = tt };
+      at = record { sized = r .at .sized; long = r .at .long; pages-are = r .at .pages-are; files-are = r .at .files-are; holds = r .at .holds; says = r .at .says; stands = tt };
       power = refl;
       answer = refl;
     })
@@ -241,21 +263,21 @@ module _ (n files : ℕ) where
         let ns : length s / pageSize ≡ n = omega (arith, r .at .long) in
         let fs : length rows / rowLength ≡ files = omega arith in
         let w : whole (length s) (length rows) ≡ true = rw (r .at .long) (k .whole-is) in
-        let rl : length (rowsOf rows) ≡ files = rows-long rows ∙ fs in
         let o = opened (pages files n s) fates (rowsOf rows) floor in
-        let q = sim-open (pages files n s) n files (r .ledger .log) (r .at .holds) (r .at .sized) fates (rowsOf rows) floor (k .fates-are ∙ (omega arith)) rl in
+        let h : Holds (pages files n s) (r .model .pages) (r .log) = rw (r .at .pages-are) (r .at .holds) in
+        let q = sim-open (pages files n s) (r .log) (r .model) h (r .at .says) (rw (r .at .pages-are, r .at .files-are) (r .at .sized)) floor fates (rowsOf rows) (k .fates-are ∙ (omega (arith, r .at .pages-are))) (rows-long rows ∙ fs ∙ sym (r .at .files-are)) in
         let left : leaves s o ≡ openLeaves s fates rows floor = rw (w, ns, fs) in
         let on-is : boxOf (leaves s o) ≡ on (leaves s o) = ap (λ x. cond (isRefused x) (off s) (on (leaves s o))) (q .answer) in
         let here : worldIn (leaves s o) ≡ o .1 = λ i. record { sheet = sym open-sheet i; fates = o .1 .fates; rows = flat-rows (o .1 .rows) i; end = o .1 .end; floor = o .1 .floor; undecided = o .1 .undecided } in
-        let same : ledgerOpened n files (r .ledger .log) floor ≡ opening true = λ i. ledgerOpened (sym (r .at .pages-are) i) (sym (r .at .files-are) i) (r .ledger .log) floor in
         subst (Opens true) left (record {
-          at = subst (λ c. At c (opening true)) (sym on-is) (record {
+          at = subst (λ c. At c (r .log) (opening true)) (sym on-is) (record {
             sized = r .at .sized;
             long = r .at .long;
             pages-are = r .at .pages-are;
             files-are = r .at .files-are;
             holds = r .at .holds;
-            stands = (subst (Sim (worldIn (leaves s o))) same (subst (λ u. Sim u (ledgerOpened n files (r .ledger .log) floor)) (sym here) (q .after)), flat-long (o .1 .rows) ∙ ap (λ x. rowLength * x) (q .after .files));
+            says = q .after .says;
+            stands = (subst (λ u. Sim u (r .log) (opening true)) (sym here) (q .after), flat-long (o .1 .rows) ∙ ap (λ x. rowLength * x) (q .after .files ∙ r .at .files-are));
           });
           power = ap isOn on-is;
           answer = q .answer;
@@ -268,22 +290,62 @@ module _ (n files : ℕ) where
         go true e = accepts e
         go false e = refuses e
 
+    -- line 1 lets an opening pass exactly if it is lent what the model asks for
+    right-is : isLent (r .model) fates rows ≡ isRight n fates rows
+    right-is = rw (r .at .pages-are, r .at .files-are) (bool-ext (eqb (length fates) n && eqb (length rows) (rowLength * files)) (isRight n fates rows)
+        (λ q. let p = and-true (eqb (length fates) n) (eqb (length rows) (rowLength * files)) q in sizes-are n files fates rows (r .at .sized) (eqb-true (length fates) n (p .0)) (eqb-true (length rows) (rowLength * files) (p .1)))
+        (λ q. rw (eq-eqb (length fates) n (sizes-right (pageSize * n) (length fates) (length rows) q .fates-are ∙ (omega arith)), eq-eqb (length rows) (rowLength * files) (al q))))
+
+    opened-at : At (boxOf (openLeaves s fates rows floor)) (r .log) (opening (isLent (r .model) fates rows))
+    opened-at = subst (λ c. At (boxOf (openLeaves s fates rows floor)) (r .log) (opening c)) (sym right-is) (was-opened .at)
+
+    opened-answer : openLeaves s fates rows floor .answer ≡ heardAs (isLent (r .model) fates rows)
+    opened-answer = was-opened .answer ∙ ap heardAs (sym right-is)
+
+    opened-power : isOn (boxOf (openLeaves s fates rows floor)) ≡ isLent (r .model) fates rows
+    opened-power = was-opened .power ∙ sym right-is
+
   -- ---- events and runs
 
-  pub at-next : (b : Box) (r : Reached b) (e : Event) → Allowed n files e → At (after b e) (ledgerAfter n b (r .ledger) e)
+  abbrev pub logAfter : (b : Box) → Reached b → Event → List Entry
+  logAfter (on m) r (calls k) = agrees m r k .log
+  logAfter (off s) r (calls k) = r .log
+  logAfter (on m) r (opens floor fates rows) = r .log
+  logAfter (off s) r (opens floor fates rows) = r .log
+  logAfter (on m) r (cuts k kept) = cutLog (r .log) (agrees m r k .log) (bytesOf kept)
+  logAfter (off s) r (cuts k kept) = r .log
+
+  pub at-next : (b : Box) (r : Reached b) (e : Event) → Allowed n files e → At (after b e) (logAfter b r e) (modelAfter (isOn b) (r .model) e)
   at-next (on m) r (calls k) t = called m r k t
   at-next (off s) r (calls k) t = r .at
-  at-next (on m) r (opens floor fates rows) t = was-opened (on m) r floor fates rows t .at
-  at-next (off s) r (opens floor fates rows) t = was-opened (off s) r floor fates rows t .at
+  at-next (on m) r (opens floor fates rows) t = opened-at (on m) r floor fates rows t
+  at-next (off s) r (opens floor fates rows) t = opened-at (off s) r floor fates rows t
   at-next (on m) r (cuts k kept) t = was-cut m r k (t .0) kept (t .1)
   at-next (off s) r (cuts k kept) t = r .at
 
   abbrev pub reached-next : (b : Box) (r : Reached b) (e : Event) → Allowed n files e → Reached (after b e)
-  reached-next b r e t = record { ledger = ledgerAfter n b (r .ledger) e; at = at-next b r e t }
+  reached-next b r e t = record { log = logAfter b r e; model = modelAfter (isOn b) (r .model) e; at = at-next b r e t }
 
   abbrev pub reached-on : (b : Box) → Reached b → (es : List Event) → AllAllowed n files es → Reached (runs b es)
   reached-on b r [] t = r
   reached-on b r (e ∷ es) t = reached-on (after b e) (reached-next b r e (t .0)) es (t .1)
+
+  -- each event is answered as the model answers it, and turns the box on or off as the model
+  pub answer-is : (b : Box) (r : Reached b) (e : Event) → Allowed n files e → answerTo b e ≡ modelAnswer (isOn b) (r .model) e
+  answer-is (on m) r (calls k) t = ap some (model-says m r k)
+  answer-is (off s) r (calls k) t = refl
+  answer-is (on m) r (opens floor fates rows) t = ap some (opened-answer (on m) r floor fates rows t)
+  answer-is (off s) r (opens floor fates rows) t = ap some (opened-answer (off s) r floor fates rows t)
+  answer-is (on m) r (cuts k kept) t = refl
+  answer-is (off s) r (cuts k kept) t = refl
+
+  pub power-is : (b : Box) (r : Reached b) (e : Event) → Allowed n files e → isOn (after b e) ≡ modelOn (isOn b) (r .model) e
+  power-is (on m) r (calls k) t = refl
+  power-is (off s) r (calls k) t = refl
+  power-is (on m) r (opens floor fates rows) t = opened-power (on m) r floor fates rows t
+  power-is (off s) r (opens floor fates rows) t = opened-power (off s) r floor fates rows t
+  power-is (on m) r (cuts k kept) t = refl
+  power-is (off s) r (cuts k kept) t = refl
 
 -- ---- lists of events
 
@@ -327,19 +389,20 @@ module _ (n files : ℕ) where
     zero-clean (suc q) h false e =
         List·getD-eq-default (pages files n (replicate (pageSize * n) 0)) blank (omega (arith, pages-long files n (replicate (pageSize * n) 0), leb-false (suc q) n e))
 
-    pub blank-at : At n files (blankBox n) (ledgerOpened n files [] 0)
-    unfolding down
+    pub blank-at : At n files (blankBox n) [] (blankModel n files)
+    unfolding down fateOf imagesOf versionsOf tokenOf
     blank-at = record {
       sized = sz;
       long = length-replicate (pageSize * n) 0;
       pages-are = refl;
       files-are = refl;
       holds = record { long = pages-long files n (replicate (pageSize * n) 0); lawful = tt; room = omega arith; log = refl; clean = λ p h. zero-clean p h (leb p n) refl };
+      says = record { used = refl; undecided = omega (arith, undecided-low n [] tt (omega arith)); status = λ a. refl; history = λ f. refl; token = λ f. refl };
       stands = tt;
     }
 
     abbrev pub reached-blank : Reached n files (blankBox n)
-    reached-blank = record { ledger = ledgerOpened n files [] 0; at = blank-at }
+    reached-blank = record { log = []; model = blankModel n files; at = blank-at }
 
   pub reached : (es : List Event) → Run n files es → Reached n files (runs (blankBox n) es)
   reached es r = reached-on n files (blankBox n) (reached-blank (r .sized)) es (r .allowed)
@@ -360,11 +423,11 @@ module _ (n files : ℕ) where
       go false k = absurd (h (ap (λ u. seal (decoded files s) (entryOf (pageBytes s (suc q)) u)) (test-out s (suc q) files (λ a b. omega (arith, leb-false (suc q) n k))) ∙ e))
 
   -- a page of the log is the box's
-  pub log-page : (b : Box) (r : Reached n files b) (p : ℕ) → 1 ≤ p → p ≤ length (r .ledger .log) → sealed files (sheetOf b) p ≡ entryIn (r .ledger .log) p
+  pub log-page : (b : Box) (r : Reached n files b) (p : ℕ) → 1 ≤ p → p ≤ length (r .log) → sealed files (sheetOf b) p ≡ entryIn (r .log) p
   log-page b r p low high =
       let o = r .at .holds in
-      sym (page-in (sheetOf b) p low (omega (arith, o .room))) ∙ sym (entry-down (pages files n (sheetOf b)) (length (r .ledger .log)) p high) ∙ ap (λ l. entryIn l p) (o .log)
+      sym (page-in (sheetOf b) p low (omega (arith, o .room))) ∙ sym (entry-down (pages files n (sheetOf b)) (length (r .log)) p high) ∙ ap (λ l. entryIn l p) (o .log)
 
   -- above it all is blank
-  pub page-above : (b : Box) (r : Reached n files b) (p : ℕ) → length (r .ledger .log) < p → p ≤ n → sealed files (sheetOf b) p ≡ blank
+  pub page-above : (b : Box) (r : Reached n files b) (p : ℕ) → length (r .log) < p → p ≤ n → sealed files (sheetOf b) p ≡ blank
   page-above b r p low high = sym (page-in (sheetOf b) p (omega arith) high) ∙ r .at .holds .clean p low

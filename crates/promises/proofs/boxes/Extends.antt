@@ -12,12 +12,13 @@ use Rattle.recovery.specs.Log.{Entry, blank, torn, fateOf}
 use Rattle.recovery.specs.Sheet.{sealed}
 use Rattle.recovery.proofs.Spots.{entryIn, entry-cons, entry-top}
 use Rattle.promises.proofs.logs.Logs.{Fits, Lawful, Known, Keeps, fate-keeps, fate-knows}
-use Rattle.promises.proofs.ledger.Ledger.{ledgerCall}
-use Rattle.promises.proofs.ledger.SimCalls.{sim-call}
-use Rattle.promises.proofs.bytes.Cuts.{cutLog, Step, stay, add, moves}
+use Rattle.calls.specs.Calls.{Call}
+use Rattle.recovery.specs.declared.Answer.{Answer}
+use Rattle.promises.proofs.worlds.Sim.{Step, stay, add}
+use Rattle.promises.proofs.bytes.Cuts.{cutLog}
 use Rattle.promises.specs.Runs.{Box, on, off, sheetOf, Event, calls, opens, cuts, after, runs, Allowed, AllAllowed}
 use Rattle.promises.proofs.bytes.Stored.{bytesOf}
-use Rattle.promises.proofs.boxes.Boxes.{worldIn, Reached, sim, at-next, reached-next, reached-on, log-page}
+use Rattle.promises.proofs.boxes.Boxes.{Reached, agrees, logAfter, reached-next, reached-on, log-page}
 
 -- a log that goes on from another: the same pages, what was decided decided so, what was known known
 pub record Extends (l l′ : List Entry) : Type 0 where
@@ -37,14 +38,14 @@ ext-add g l l′ f w h = record {
   known = λ a d. fate-knows g l′ a (h .known a d);
 }
 
-ext-step : (l k k′ : List Entry) → Step k k′ → Lawful k′ → Extends l k → Extends l k′
-ext-step l k k′ stay w h = h
-ext-step l k k′ (add g) w h = ext-add g l k (w .0) (w .1) h
+ext-step : {files : ℕ} {c : Call} {x : Answer} (l k k′ : List Entry) → Step files c k x k′ → Lawful k′ → Extends l k → Extends l k′
+ext-step l k k′ (stay q) w h = h
+ext-step l k k′ (add g q e) w h = ext-add g l k (w .0) (w .1) h
 
-ext-cut : (l k k′ : List Entry) (n : ℕ) → Step k k′ → Lawful k′ → Extends l k → Extends l (cutLog k k′ n)
+ext-cut : {files : ℕ} {c : Call} {x : Answer} (l k k′ : List Entry) (n : ℕ) → Step files c k x k′ → Lawful k′ → Extends l k → Extends l (cutLog k k′ n)
 unfolding cutLog
-ext-cut l k k′ n stay w h = rw (eq-eqb (length k) (length k) refl) h
-ext-cut l k k′ n (add g) w h = rw (ne-eqb (suc (length k)) (length k) (λ e. omega arith), entry-top g k) (go (eqb n 0) (ltb n pageSize))
+ext-cut l k k′ n (stay q) w h = rw (eq-eqb (length k) (length k) refl) h
+ext-cut l k k′ n (add g q e) w h = rw (ne-eqb (suc (length k)) (length k) (λ e. omega arith), entry-top g k) (go (eqb n 0) (ltb n pageSize))
   where
     go : (x y : Bool) → Extends l (cond x k (cond x blank (cond y torn g) ∷ k))
     go true y = h
@@ -54,23 +55,21 @@ ext-cut l k k′ n (add g) w h = rw (ne-eqb (suc (length k)) (length k) (λ e. o
 -- ---- an event and a run only add to the log
 
 module _ (n files : ℕ) where
-  pub event-extends : (b : Box) (r : Reached n files b) (e : Event) (t : Allowed n files e) (l : List Entry) → Extends l (r .ledger .log) → Extends l (reached-next n files b r e t .ledger .log)
-  event-extends (on m) r (calls k) t l h =
-      ext-step l (r .ledger .log) (ledgerCall (r .ledger) k .1 .log) (moves (r .ledger) k .steps) (at-next n files (on m) r (calls k) t .holds .lawful) h
+  pub event-extends : (b : Box) (r : Reached n files b) (e : Event) (t : Allowed n files e) (l : List Entry) → Extends l (r .log) → Extends l (logAfter n files b r e)
+  event-extends (on m) r (calls k) t l h = let a = agrees n files m r k in ext-step l (r .log) (a .log) (a .step) (a .after .lawful) h
   event-extends (off s) r (calls k) t l h = h
   event-extends (on m) r (opens floor fates rows) t l h = h
   event-extends (off s) r (opens floor fates rows) t l h = h
-  event-extends (on m) r (cuts k kept) t l h =
-      ext-cut l (r .ledger .log) (ledgerCall (r .ledger) k .1 .log) (bytesOf kept) (moves (r .ledger) k .steps) (sim-call (worldIn n files m) (r .ledger) (sim n files m r) k .after .lawful) h
+  event-extends (on m) r (cuts k kept) t l h = let a = agrees n files m r k in ext-cut l (r .log) (a .log) (bytesOf kept) (a .step) (a .after .lawful) h
   event-extends (off s) r (cuts k kept) t l h = h
 
-  pub extends : (b : Box) (r : Reached n files b) (es : List Event) (t : AllAllowed n files es) (l : List Entry) → Extends l (r .ledger .log) → Extends l (reached-on n files b r es t .ledger .log)
+  pub extends : (b : Box) (r : Reached n files b) (es : List Event) (t : AllAllowed n files es) (l : List Entry) → Extends l (r .log) → Extends l (reached-on n files b r es t .log)
   extends b r [] t l h = h
   extends b r (e ∷ es) t l h = extends (after b e) (reached-next n files b r e (t .0)) es (t .1) l (event-extends b r e (t .0) l h)
 
   -- a page of the log stays through any run
-  pub stays : (b : Box) (r : Reached n files b) (es : List Event) → AllAllowed n files es → (p : ℕ) (g : Entry) → 1 ≤ p → p ≤ length (r .ledger .log) → entryIn (r .ledger .log) p ≡ g
+  pub stays : (b : Box) (r : Reached n files b) (es : List Event) → AllAllowed n files es → (p : ℕ) (g : Entry) → 1 ≤ p → p ≤ length (r .log) → entryIn (r .log) p ≡ g
       → sealed files (sheetOf (runs b es)) p ≡ g
   stays b r es t p g low high e =
-      let x = extends b r es t (r .ledger .log) (ext-refl (r .ledger .log)) in
+      let x = extends b r es t (r .log) (ext-refl (r .log)) in
       log-page n files (runs b es) (reached-on n files b r es t) p low (omega (arith, x .longer)) ∙ x .pages p high ∙ e

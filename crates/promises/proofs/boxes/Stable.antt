@@ -1,102 +1,101 @@
 -- A read outside any action, once answered without a refusal, is answered alike again; and nothing is written that starts by its time.
-use mathlib.Core.Path.{_≡_, refl, ap, sym, _∙_}
+use mathlib.Core.Path.{_≡_, refl, sym, ap, _∙_, subst}
 use mathlib.Core.List.{List}
-use mathlib.Core.Bool.{Bool, true, false, true≢false}
+use mathlib.Core.Bool.{Bool, true, false, cond, _&&_, true≢false}
 use mathlib.Core.Option.{Option, some, none}
 use Prim.Native.Nat.{ℕ, max, _≤_, _<_}
 use native.Mathlib.Omega.{arith}
 use lib.Dec.{eqb, leb}
-use borrow.Author.Tests.{eqb-true, leb-false, lt-leb}
+use borrow.Author.Tests.{eqb-true, eq-eqb, leb-false, lt-leb}
 use Rattle.encoding.proofs.Logic.{clash}
-use Rattle.recovery.specs.Log.{undecided, Placed, fateOf, imagesOf, startOf}
-use Rattle.recovery.specs.World.{isFile}
+use Rattle.recovery.specs.Log.{Entry, undecided, Placed, fateOf, imagesOf}
 use Rattle.recovery.specs.Lent.{Left}
+use Rattle.recovery.specs.Numbers.{isRefused}
 use Rattle.recovery.specs.declared.Answer.{Answer}
 use Rattle.recovery.specs.declared.Answer.the-variants.{Stored}
 use Rattle.recovery.proofs.LogFates.{undecided-known}
-use Rattle.inspection.specs.Lawful.{current, token}
+use Rattle.inspection.specs.Lawful.{token}
 use Rattle.calls.specs.Calls.{write, read}
-use Rattle.recovery.specs.Numbers.{isRefused}
+use Rattle.promises.specs.Runs.{Box, on, off, Event, calls, callOn, answerTo, after, runs, AllAllowed}
+use Rattle.promises.specs.Model.{Version, Model, Reply, newest, since, latest, shows, readHistory, reading, modelCall}
+use Rattle.promises.specs.FromLog.{versionIn}
 use Rattle.promises.proofs.logs.Logs.{Lawful, not-unknown, fate-zero}
 use Rattle.promises.proofs.logs.Chains.{token-live}
-use Rattle.promises.proofs.logs.Versions.{version, Clear}
-use Rattle.promises.proofs.ledger.Ledger.{Ledger, LedgerResult, endAt, foundAnswer, within, raised, ledgerVersions, ledgerRead, ledgerCall}
-use Rattle.promises.proofs.ledger.LedgerCalls.{writes}
-use Rattle.promises.proofs.ledger.Sim.{Reach}
-use Rattle.promises.proofs.ledger.SimReads.{end-at-same}
-use Rattle.promises.specs.Runs.{Box, on, off, Event, calls, callOn, answerTo, after, runs, AllAllowed}
-use Rattle.promises.proofs.boxes.Boxes.{isOn, Reached, sim, ledger-says, reached-next, reached-on}
+use Rattle.promises.proofs.worlds.LogSays.{currentEnd, Says}
+use Rattle.promises.proofs.worlds.ModelCalls.{writes}
+use Rattle.promises.proofs.boxes.Boxes.{isOn, Reached, model-says, reached-next, reached-on}
 use Rattle.promises.proofs.boxes.Found.{some-is, not-heard}
-use Rattle.promises.proofs.boxes.Lasting.{Kept, Near, Lasts, FloorsFrom, lasts}
+use Rattle.promises.proofs.boxes.Lasting.{Clear, Kept, Lasts, FloorsFrom, lasts}
 
 -- the first read
-pub record ToldAt (m : Ledger) (f t : ℕ) : Type 0 where
-  pub file : isFile (m .files) f ≡ true
-  pub says : ledgerCall m (read f t 0) .0 ≡ foundAnswer (version (m .log) f t)
-  pub lasting : Lasts true (ledgerCall m (read f t 0) .1) f t (version (m .log) f t)
+pub record ToldAt (m : Model) (f t : ℕ) : Type 0 where
+  pub file : (leb 1 f && leb f (m .files)) ≡ true
+  pub says : modelCall m (read f t 0) .0 ≡ shows (latest t (m .object f .history))
+  pub lasting : Lasts true (modelCall m (read f t 0) .1) f t (latest t (m .object f .history))
 
-module _ (m : Ledger) (f t : ℕ) (w : Lawful (m .log)) (r : Reach (m .log) (m .currentend) (m .tokenend)) where
-  told-versions : isFile (m .files) f ≡ true → Clear t (token (m .log) f) → ledgerRead m f t 0 (token (m .log) f) ≡ ledgerVersions m f t
-      → ToldAt m f t
-  told-versions e c q = record {
+module _ (l : List Entry) (m : Model) (w : Lawful l) (s : Says l m) (f t : ℕ) where
+  told-history : (leb 1 f && leb f (m .files)) ≡ true → Clear t (m .object f .token) → reading m f t 0 (m .object f) (m .object f .token) ≡ readHistory m f t (m .object f) → ToldAt m f t
+  told-history e c q = record {
     file = e;
     says = rw (e, q);
-    lasting = rw (e, q)
-        (record { clear = c; shows = refl }, record { clear = c; high = high (current (m .log) f) (r .current-low f) });
+    lasting = rw (e, q, eq-eqb f f refl) (record { clear = c; shows = refl }, high (leb (since (newest (m .object f .history))) t) refl);
   }
     where
-      up : (b : Bool) (s : ℕ) → leb s t ≡ b → s ≤ m .currentend f → t ≤ max (raised b t (m .currentend f)) (m .floor)
-      up true s q h = omega arith
-      up false s q h = omega (arith, leb-false s t q)
+      high : (b : Bool) → leb (since (newest (m .object f .history))) t ≡ b
+          → t ≤ max (max (since (newest (m .object f .history))) (cond b (max (m .object f .asked) t) (m .object f .asked))) (m .floor)
+      high true q = omega arith
+      high false q = omega (arith, leb-false (since (newest (m .object f .history))) t q)
 
-      high : (z : Option Placed) → startOf z ≤ m .currentend f
-          → t ≤ max (endAt (m .currentend) f (raised (within t z) t (m .currentend f)) f) (m .floor)
-      high none h = rw (end-at-same (m .currentend) f (max (m .currentend f) t)) (omega arith)
-      high (some x) h = rw (end-at-same (m .currentend) f (raised (leb (x .image .start) t) t (m .currentend f))) (up (leb (x .image .start) t) (x .image .start) refl h)
-
-  told : isRefused (ledgerCall m (read f t 0) .0) ≡ false → ToldAt m f t
-  unfolding isRefused
-  told h = by-file (isFile (m .files) f) refl
+  -- a token's action is none that a read outside any action could own
+  no-owner : (z : Option Placed) → token l f ≡ z → (x : Version) → versionIn z ≡ some x → x .action ≡ 0 → ⊥
+  no-owner none i x e k = clash cc
+  no-owner (some y) i x e k =
+      let q : y .image .action ≡ 0 = ap (λ (v : Version). v .action) (same e) ∙ k in
+      let z : fateOf l 0 ≡ undecided = rw q at (token-live (fateOf l) (imagesOf l f) y i) in
+      not-unknown (fateOf l 0) (undecided-known z) (fate-zero l w)
     where
-      by-own : (x : Placed) → token (m .log) f ≡ some x → isFile (m .files) f ≡ true → leb (x .image .start) t ≡ true → (b : Bool)
-          → eqb (x .image .action) 0 ≡ b → ToldAt m f t
-      by-own x q e l true o =
-          let z : fateOf (m .log) 0 ≡ undecided = rw (eqb-true (x .image .action) 0 o) at (token-live (fateOf (m .log)) (imagesOf (m .log) f) x q) in
-          not-unknown (fateOf (m .log) 0) (undecided-known z) (fate-zero (m .log) w)
-      by-own x q e l false o = absurd (true≢false (rw (e, q, l, o) at h))
+      same : {u v : Version} → some u ≡ some v → u ≡ v
+      same e = cc
 
-      by-start : (x : Placed) → token (m .log) f ≡ some x → isFile (m .files) f ≡ true → (b : Bool) → leb (x .image .start) t ≡ b → ToldAt m f t
-      by-start x q e true l = by-own x q e l (eqb (x .image .action) 0) refl
-      by-start x q e false l = told-versions e (rw q (leb-false (x .image .start) t l)) (rw (q, l))
+  told : isRefused (modelCall m (read f t 0) .0) ≡ false → ToldAt m f t
+  unfolding isRefused
+  told h = by-file (leb 1 f && leb f (m .files)) refl
+    where
+      by-own : (x : Version) → m .object f .token ≡ some x → (leb 1 f && leb f (m .files)) ≡ true → leb (x .start) t ≡ true → (b : Bool) → eqb (x .action) 0 ≡ b → ToldAt m f t
+      by-own x q e k true o = absurd (no-owner (token l f) refl x (sym (s .token f) ∙ q) (eqb-true (x .action) 0 o))
+      by-own x q e k false o = absurd (true≢false (rw (e, q, k, o) at h))
 
-      by-token : (z : Option Placed) → token (m .log) f ≡ z → isFile (m .files) f ≡ true → ToldAt m f t
-      by-token none q e = told-versions e (rw q tt) (rw q)
-      by-token (some x) q e = by-start x q e (leb (x .image .start) t) refl
+      by-start : (x : Version) → m .object f .token ≡ some x → (leb 1 f && leb f (m .files)) ≡ true → (b : Bool) → leb (x .start) t ≡ b → ToldAt m f t
+      by-start x q e true k = by-own x q e k (eqb (x .action) 0) refl
+      by-start x q e false k = told-history e (rw q (leb-false (x .start) t k)) (rw (q, k))
 
-      by-file : (b : Bool) → isFile (m .files) f ≡ b → ToldAt m f t
-      by-file true e = by-token (token (m .log) f) refl e
+      by-token : (z : Option Version) → m .object f .token ≡ z → (leb 1 f && leb f (m .files)) ≡ true → ToldAt m f t
+      by-token none q e = told-history e (rw q tt) (rw q)
+      by-token (some x) q e = by-start x q e (leb (x .start) t) refl
+
+      by-file : (b : Bool) → (leb 1 f && leb f (m .files)) ≡ b → ToldAt m f t
+      by-file true e = by-token (m .object f .token) refl e
       by-file false e = absurd (true≢false (rw e at h))
 
-again : (m : Ledger) (f t : ℕ) (v : Option Placed) → isFile (m .files) f ≡ true → Kept (m .log) f t v → ledgerCall m (read f t 0) .0 ≡ foundAnswer v
-again m f t v e h = rw e (go (token (m .log) f) (h .clear))
+again : (m : Model) (f t : ℕ) (v : Option Version) → (leb 1 f && leb f (m .files)) ≡ true → Kept (m .object f) t v → modelCall m (read f t 0) .0 ≡ shows v
+again m f t v e h = rw e (go (m .object f .token) (h .clear))
   where
-    go : (z : Option Placed) → Clear t z → ledgerRead m f t 0 z .0 ≡ foundAnswer v
-    go none c = ap foundAnswer (h .shows)
-    go (some x) c = rw (lt-leb (x .image .start) t c) (ap foundAnswer (h .shows))
+    go : (z : Option Version) → Clear t z → reading m f t 0 (m .object f) z .0 ≡ shows v
+    go none c = ap shows (h .shows)
+    go (some x) c = rw (lt-leb (x .start) t c) (ap shows (h .shows))
 
 -- where no write can start by a time, what is written starts later
-written-later : (m : Ledger) (f t s a p : ℕ) (v : List ℕ) → Near m f t → ledgerCall m (write f s a v) .0 ≡ Stored p → t < s
-written-later m f t s a p v h =
-    writes (λ (r : LedgerResult). r .0 ≡ Stored p → t < s) m (λ x y e. clash cc) f s a v
-    (λ j k e. omega (arith, h .high))
+written-later : (m : Model) (f t start a p : ℕ) (v : List ℕ) → t ≤ max (currentEnd (m .object f)) (m .floor) → modelCall m (write f start a v) .0 ≡ Stored p → t < start
+written-later m f t start a p v h =
+    writes (λ (r : Reply). r .0 ≡ Stored p → t < start) m (λ x y e. clash cc) f start a v (λ j k e q. omega (arith, h))
 
 -- ---- of a box: after a read outside any action that was answered, and any further events, calls cut at any byte among them, if each later
 -- opening's floor is at least the time that was read
 
 module _ (n files : ℕ) (m : Left) (r : Reached n files (on m)) (file time : ℕ) (x : Answer) (e : callOn m (read file time 0) .answer ≡ x) (ok : isRefused x ≡ false)
     (es : List Event) (al : AllAllowed n files es) (f : FloorsFrom time es) where
-  told-first : ToldAt (r .ledger) file time
-  told-first = told (r .ledger) file time (r .at .holds .lawful) (sim n files m r .reach) (ap isRefused (sym (ledger-says n files m r (read file time 0)) ∙ e) ∙ ok)
+  told-first : ToldAt (r .model) file time
+  told-first = told (r .log) (r .model) (r .at .holds .lawful) (r .at .says) file time (ap isRefused (sym (model-says n files m r (read file time 0)) ∙ e) ∙ ok)
 
   abbrev read-box : Reached n files (after (on m) (calls (read file time 0)))
   read-box = reached-next n files (on m) r (calls (read file time 0)) tt
@@ -104,20 +103,20 @@ module _ (n files : ℕ) (m : Left) (r : Reached n files (on m)) (file time : �
   abbrev late : Reached n files (runs (after (on m) (calls (read file time 0))) es)
   late = reached-on n files (after (on m) (calls (read file time 0))) read-box es al
 
-  last : Lasts (isOn (runs (after (on m) (calls (read file time 0))) es)) (late .ledger) file time (version (r .ledger .log) file time)
-  last = lasts n files file time (version (r .ledger .log) file time) (after (on m) (calls (read file time 0))) read-box es al f (told-first .lasting)
+  last : Lasts (isOn (runs (after (on m) (calls (read file time 0))) es)) (late .model) file time (latest time (r .model .object file .history))
+  last = lasts n files file time (latest time (r .model .object file .history)) (after (on m) (calls (read file time 0))) read-box es al f (told-first .lasting)
 
   -- it is answered alike, and nothing is written to the file that starts by then
-  alike-at : (b : Box) (q : Reached n files b) → Lasts (isOn b) (q .ledger) file time (version (r .ledger .log) file time) → (y : Answer) → answerTo b (calls (read file time 0)) ≡ some y → y ≡ x
+  alike-at : (b : Box) (q : Reached n files b) → Lasts (isOn b) (q .model) file time (latest time (r .model .object file .history)) → (y : Answer) → answerTo b (calls (read file time 0)) ≡ some y → y ≡ x
   alike-at (on m′) q h y p =
-      sym (some-is p) ∙ ledger-says n files m′ q (read file time 0)
-      ∙ again (q .ledger) file time (version (r .ledger .log) file time) (rw (q .at .files-are) (rw (r .at .files-are) at (told-first .file))) (h .0)
-      ∙ sym (told-first .says) ∙ sym (ledger-says n files m r (read file time 0)) ∙ e
+      sym (some-is p) ∙ model-says n files m′ q (read file time 0)
+      ∙ again (q .model) file time (latest time (r .model .object file .history)) (subst (λ k. (leb 1 file && leb file k) ≡ true) (r .at .files-are ∙ sym (q .at .files-are)) (told-first .file)) (h .0)
+      ∙ sym (told-first .says) ∙ sym (model-says n files m r (read file time 0)) ∙ e
   alike-at (off s) q h y p = not-heard p
 
-  above-at : (b : Box) (q : Reached n files b) → Lasts (isOn b) (q .ledger) file time (version (r .ledger .log) file time) → (start a place : ℕ) (v : List ℕ)
+  above-at : (b : Box) (q : Reached n files b) → Lasts (isOn b) (q .model) file time (latest time (r .model .object file .history)) → (start a place : ℕ) (v : List ℕ)
       → answerTo b (calls (write file start a v)) ≡ some (Stored place) → time < start
-  above-at (on m′) q h start a place v p = written-later (q .ledger) file time start a place v (h .1) (sym (ledger-says n files m′ q (write file start a v)) ∙ some-is p)
+  above-at (on m′) q h start a place v p = written-later (q .model) file time start a place v (h .1) (sym (model-says n files m′ q (write file start a v)) ∙ some-is p)
   above-at (off s) q h start a place v p = not-heard p
 
 module _ (n files : ℕ) (file time : ℕ) (x : Answer) (ok : isRefused x ≡ false) (es : List Event) (al : AllAllowed n files es) (f : FloorsFrom time es) where

@@ -25,7 +25,7 @@ use Rattle.calls.specs.Leaves.{packedEntry, withPage, grown}
 use Rattle.calls.specs.Cuts.{mixed, storedOf}
 use Rattle.recovery.proofs.Spots.{entryIn, entry-top, entry-down}
 use Rattle.promises.proofs.logs.Logs.{Fits}
-use Rattle.promises.proofs.ledger.Openings.{Holds}
+use Rattle.promises.proofs.worlds.Openings.{Holds}
 use Rattle.promises.proofs.bytes.Mixed.{mixed-long, mixed-all, mixed-same}
 use Rattle.promises.proofs.bytes.Cuts.{holds-put}
 use Rattle.promises.proofs.bytes.Replaced.{replaced-long, replaced-here, unsealed, bad-blank, bad-opening, decoded-other, pages-replaced}

@@ -9,7 +9,7 @@ use lib.ListN.{length}
 use lib.Dec.{eqb}
 use borrow.Author.Tests.{eqb-true, eq-eqb}
 use Rattle.encoding.proofs.Logic.{by-test}
-use Rattle.recovery.specs.Log.{Image, Entry, torn, opening, image, outcome, Fate, unknown, undecided, committed, aborted, Placed, verdict, fateOf, imagesOf, tokenStep, versionsOf, tokenOf}
+use Rattle.recovery.specs.Log.{Image, Entry, opening, image, outcome, Fate, unknown, undecided, committed, aborted, Placed, verdict, fateOf, imagesOf, tokenStep, versionsOf, tokenOf}
 use Rattle.recovery.proofs.LogFates.{versions-keep, decided-free}
 use Rattle.inspection.specs.Lawful.{versions, current, token}
 use Rattle.promises.proofs.logs.Logs.{ImageFits, Lawful, Known, Keeps, not-undecided, not-unknown, fate-above}
@@ -46,10 +46,6 @@ opening-versions l f w = versions-agree (fateOf l) (fateOf (opening ∷ l)) (ima
 pub opening-token : (l : List Entry) (f : ℕ) → Lawful l → token (opening ∷ l) f ≡ token l f
 unfolding imagesOf
 opening-token l f w = token-agree (fateOf l) (fateOf (opening ∷ l)) (imagesOf l f) (opening-agree l w) (chain l f w)
-
-pub torn-token : (l : List Entry) (f : ℕ) → token (torn ∷ l) f ≡ token l f
-unfolding imagesOf fateOf
-torn-token l f = refl
 
 -- an image becomes its file's token
 pub image-versions : (i : Image) (l : List Entry) (f : ℕ) → ImageFits i l → versions (image i ∷ l) f ≡ versions l f

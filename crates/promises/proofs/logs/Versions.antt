@@ -1,17 +1,15 @@
 -- What a read finds outside its file's token: of the versions that start by the time, the one that starts last.
-use mathlib.Core.Path.{_≡_, refl, sym, ap, _∙_}
+use mathlib.Core.Path.{_≡_, refl, sym}
 use mathlib.Core.List.{List, [], _∷_, head?}
 use mathlib.Core.Bool.{Bool, true, false, cond}
 use mathlib.Core.Option.{Option, some, none, Option·some-ne-none}
 use Prim.Native.Nat.{ℕ, _≤_, _<_}
 use native.Mathlib.Omega.{arith}
-use lib.Dec.{eqb, leb}
+use lib.Dec.{leb}
 use borrow.Author.Tests.{leb-true, leb-false, le-leb, lt-leb}
-use Rattle.recovery.specs.Log.{Entry, blank, torn, bad, opening, image, outcome, Fate, unknown, undecided, committed, aborted, Placed, fateOf, imagesOf, versionsStep, versionsOf, startOf}
-use Rattle.inspection.specs.Lawful.{versions, token}
-use Rattle.promises.proofs.logs.Logs.{Fits, Lawful}
+use Rattle.recovery.specs.Log.{Entry, image, Fate, unknown, undecided, committed, aborted, Placed, versionsStep, versionsOf, startOf}
+use Rattle.inspection.specs.Lawful.{versions}
 use Rattle.promises.proofs.logs.Chains.{Ordered}
-use Rattle.promises.proofs.logs.Appends.{opening-versions, image-versions, owns, longer, outcome-versions}
 
 -- the newest version whose start is not above a time
 unfoldable pub latestOf : ℕ → List Placed → Option Placed
@@ -110,27 +108,3 @@ module _ (t : ℕ) where
       go : (b : Bool) → cond b (some z) (latestOf t ws) ≡ none → (latestOf t ws ≡ none → t < y .image .start) → t < y .image .start
       go true e r = absurd (Option·some-ne-none _ e)
       go false e r = r e
-
-  -- what is found stays, while tokens start later
-  abbrev pub Clear : Option Placed → Type 0
-  Clear none = Unit {0}
-  Clear (some x) = t < x .image .start
-
-  longer-late : (a : ℕ) (c : Bool) (z : Option Placed) (vs : List Placed) → Clear z → latestOf t (cond (owns a z) (longer c z vs) vs) ≡ latestOf t vs
-  unfolding latestOf
-  longer-late a c none vs k = refl
-  longer-late a c (some x) vs k = go (eqb (x .image .action) a) c
-    where
-      go : (b c : Bool) → latestOf t (cond b (longer c (some x) vs) vs) ≡ latestOf t vs
-      go true true = rw (lt-leb (x .image .start) t k)
-      go true false = refl
-      go false c = refl
-
-  pub version-keeps : (g : Entry) (l : List Entry) (f : ℕ) → Fits g l → Lawful l → Clear (token l f) → version (g ∷ l) f t ≡ version l f t
-  unfolding imagesOf fateOf
-  version-keeps blank l f h w k = absurd h
-  version-keeps torn l f h w k = refl
-  version-keeps bad l f h w k = absurd h
-  version-keeps opening l f h w k = ap (latestOf t) (opening-versions l f w)
-  version-keeps (image i) l f h w k = ap (latestOf t) (image-versions i l f h)
-  version-keeps (outcome a c) l f h w k = ap (latestOf t) (outcome-versions a c l f h w) ∙ longer-late a c (token l f) (versions l f) k

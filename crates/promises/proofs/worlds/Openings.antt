@@ -1,23 +1,24 @@
 -- A sheet that holds a lawful log is opened, never refused; and inspection finds nothing in it.
-use mathlib.Core.Path.{_≡_, refl, ap, sym}
+use mathlib.Core.Path.{_≡_, refl, ap, sym, _∙_}
 use mathlib.Core.List.{List, [], _∷_}
 use mathlib.Core.Bool.{Bool, true, false, cond}
-use Prim.Native.Nat.{ℕ, zero, suc, _≤_, _<_}
+use Prim.Native.Nat.{ℕ, zero, suc, max, _≤_, _<_}
 use native.Mathlib.Omega.{arith}
 use lib.ListN.{length, getD}
 use lib.Dec.{eqb}
 use borrow.Author.Tests.{eqb-true, eqb-false}
 use Rattle.recovery.specs.Places.{nth}
-use Rattle.recovery.specs.Log.{Entry, blank, torn, bad, opening, image, outcome}
-use Rattle.recovery.specs.World.{World, down, sizes, cold, isBlank, endOf, highestBad, fatesOf, undecidedOf, coldRows, opened}
+use Rattle.recovery.specs.Log.{Entry, blank, torn, bad, opening, image, outcome, fateOf, placeOf, startOf}
+use Rattle.recovery.specs.World.{World, Result, rebuiltRow, down, sizes, cold, isBlank, endOf, highestBad, fatesOf, undecidedOf, coldRows, opened}
 use Rattle.recovery.specs.declared.Row.{Row}
 use Rattle.recovery.specs.declared.Answer.the-variants.{Opened}
 use Rattle.recovery.proofs.Spots.{entryIn, entry-top, entry-down}
-use Rattle.inspection.specs.Lawful.{lawful, lowestUnlawful}
+use Rattle.inspection.specs.Lawful.{current, token, lawful, lowestUnlawful}
 use Rattle.inspection.proofs.LowestUnlawful.{lowest-none}
 use Rattle.promises.proofs.logs.Logs.{Lawful, lawful-test}
-use Rattle.promises.proofs.ledger.Ledger.{Ledger, ledgerOpened}
-use Rattle.promises.proofs.ledger.Sim.{Sim, Agrees}
+use Rattle.promises.specs.Model.{Model, newest, since, modelOpened}
+use Rattle.promises.proofs.worlds.LogSays.{Says, since-is, newest-since, opened-says}
+use Rattle.promises.proofs.worlds.Sim.{rowFor, Sim}
 
 -- a sheet of n pages holds a log: these pages, and blank ones above
 pub record Holds (s : List Entry) (n : ℕ) (l : List Entry) : Type 0 where
@@ -27,8 +28,8 @@ pub record Holds (s : List Entry) (n : ℕ) (l : List Entry) : Type 0 where
   pub log : down s (length l) ≡ l
   pub clean : (p : ℕ) → length l < p → nth blank s p ≡ blank
 
-pub sim-holds : (w : World) (m : Ledger) → Sim w m → Holds (w .sheet) (m .pages) (m .log)
-sim-holds w m s = record { long = s .long; lawful = s .lawful; room = s .room; log = rw (← s .ends) (s .log); clean = λ p h. s .clean p (omega (arith, s .ends)) }
+pub sim-holds : (w : World) (l : List Entry) (m : Model) → Sim w l m → Holds (w .sheet) (m .pages) l
+sim-holds w l m s = record { long = s .long; lawful = s .lawful; room = s .room; log = rw (← s .ends) (s .log); clean = λ p h. s .clean p (omega (arith, s .ends)) }
 
 -- the end of a sheet is where its log ends
 top-solid : (l : List Entry) → Lawful l → 1 ≤ length l → isBlank (entryIn l (length l)) ≡ false
@@ -85,27 +86,39 @@ holds-end s n l h = end-at s (length s) (length l) (rw (h .long) (h .room))
 pub holds-lawful : (s : List Entry) (n : ℕ) (l : List Entry) → Holds s n l → lowestUnlawful (down s (endOf s (length s))) ≡ 0
 holds-lawful s n l h = rw (holds-end s n l h, h .log) (lowest-none l (lawful-test l (h .lawful)))
 
--- an opening of a sheet that holds a log is not refused, and stands for the ledger that starts with it
-module _ (s : List Entry) (n k : ℕ) (l : List Entry) (h : Holds s n l) (fits : sizes n n k ≡ true) where
-  started-sim : (t : ℕ)
-      → Sim (record { sheet = s; fates = fatesOf n l; rows = coldRows k; end = length l; floor = t; undecided = undecidedOf (fatesOf n l) }) (ledgerOpened n k l t)
-  started-sim t = record {
-    long = h .long;
-    files = length-cold k;
-    fits = fits;
+-- an opening of a sheet that holds a log is not refused, and stands for the model that is opened
+module _ (s : List Entry) (l : List Entry) (m : Model) (h : Holds s (m .pages) l) (y : Says l m) (fits : sizes (m .pages) (m .pages) (m .files) ≡ true) (floor : ℕ) where
+  cold-row : (f : ℕ) → rebuiltRow l (fateOf l) f ≡ rowFor l (modelOpened m floor .object f) f
+  cold-row f = λ i. record { mark = 1; current = placeOf (current l f); currentend = c i; token = placeOf (token l f); tokenend = t i }
+    where
+      c : startOf (current l f) ≡ max (since (newest (m .object f .history))) 0
+      c = omega (arith, newest-since l m y f)
+
+      t : startOf (token l f) ≡ max (since (m .object f .token)) 0
+      t = omega (arith, ap since (y .token f) ∙ since-is (token l f))
+
+  started : Sim (record { sheet = s; fates = fatesOf (m .pages) l; rows = coldRows (m .files); end = length l; floor = floor; undecided = undecidedOf (fatesOf (m .pages) l) }) l (modelOpened m floor)
+  started = record {
+    says = opened-says l m y floor;
     lawful = h .lawful;
-    ends = refl;
     room = h .room;
+    long = h .long;
+    files = length-cold (m .files);
+    fits = fits;
+    ends = refl;
     log = h .log;
     clean = h .clean;
     fates = refl;
-    undecided = refl;
+    undecided = sym (y .undecided);
     floor = refl;
-    reach = record { current-low = λ f. omega arith; token-low = λ f. omega arith };
-    rows = λ f q. rw (nth-cold k f);
+    rows = λ f q. rw (nth-cold (m .files) f) (cold-row f);
   }
 
-  pub sim-open : (fs : List ℕ) (rs : List Row) (t : ℕ) → length fs ≡ n → length rs ≡ k
-      → Agrees (opened s fs rs t) (Opened (length l) (undecidedOf (fatesOf n l)), ledgerOpened n k l t)
+  pub record Started (r : Result) : Type 0 where
+    pub answer : r .0 ≡ Opened (m .used) (m .undecided)
+    pub after : Sim (r .1) l (modelOpened m floor)
+
+  pub sim-open : (fs : List ℕ) (rs : List Row) → length fs ≡ m .pages → length rs ≡ m .files → Started (opened s fs rs floor)
   unfolding opened
-  sim-open fs rs t a b = rw (a, b, holds-end s n l h, h .log, not-bad l (h .lawful)) (rw (h .long, fits) (record { answer = refl; after = started-sim t }))
+  sim-open fs rs a b = rw (a, b, holds-end s (m .pages) l h, h .log, not-bad l (h .lawful)) (rw (h .long, fits)
+      (record { answer = λ i. Opened (sym (y .used) i) (sym (y .undecided) i); after = started }))

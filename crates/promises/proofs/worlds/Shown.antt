@@ -1,12 +1,12 @@
 -- A committed action shows all its versions: a read at its start finds each. An undecided one shows them to itself.
-use mathlib.Core.Path.{_≡_, refl, sym, _∙_}
+use mathlib.Core.Path.{_≡_, refl, sym, ap, _∙_, subst}
 use mathlib.Core.List.{List, [], _∷_, head?}
-use mathlib.Core.Bool.{Bool, true, false, cond}
+use mathlib.Core.Bool.{Bool, true, false, cond, _&&_}
 use mathlib.Core.Option.{Option, some, none, Option·some-ne-none}
 use Prim.Native.Nat.{ℕ, suc, _≤_, _<_}
 use native.Mathlib.Omega.{arith}
 use lib.ListN.{length}
-use lib.Dec.{eqb}
+use lib.Dec.{eqb, leb}
 use borrow.Author.Tests.{eqb-true, eq-eqb, ne-eqb, le-leb, lt-leb}
 use Rattle.encoding.proofs.Logic.{by-test, clash}
 use Rattle.recovery.specs.Log.{Image, Entry, blank, torn, bad, opening, image, outcome, Fate, unknown, undecided, committed, aborted, Placed, fateOf, imagesOf, versionsStep, tokenStep, versionsOf, currentOf, tokenOf, startOf}
@@ -19,9 +19,11 @@ use Rattle.recovery.proofs.Spots.{entryIn}
 use Rattle.promises.proofs.logs.Logs.{Known, Decided, not-undecided, known-place}
 use Rattle.promises.proofs.logs.Chains.{Ordered, Chain, versions-ordered, chain}
 use Rattle.promises.proofs.logs.Versions.{version, Among, first, next, among-versions, newest, shown}
-use Rattle.promises.proofs.ledger.Ledger.{Ledger, ledgerCall}
-use Rattle.promises.proofs.ledger.Sim.{Sim, fate-eq, entry-eq}
-use Rattle.promises.proofs.ledger.SimCalls.{sim-call}
+use Rattle.promises.proofs.logs.Histories.{latest-is}
+use Rattle.promises.specs.Model.{Model, latest, shows, reading}
+use Rattle.promises.specs.FromLog.{versionIn}
+use Rattle.promises.proofs.worlds.Sim.{Sim, fate-eq, entry-eq}
+use Rattle.promises.proofs.worlds.SimCalls.{sim-call}
 
 -- an image of a log is among its file's images
 pub entry-among : (l : List Entry) (p : ℕ) (i : Image) → entryIn l p ≡ image i → Among (record { place = p; image = i }) (imagesOf l (i .file))
@@ -65,68 +67,55 @@ undecided-token φ x xs h first e = rw e
 undecided-token φ x xs h (next {y} {xs = ys} m) e = not-undecided (φ (x .image .action)) (settled-among φ x ys (h .2) m) e
 
 -- a file's images in a world
-module _ (w : World) (m : Ledger) (s : Sim w m) where
-  pub among-at : (p : ℕ) (i : Image) → p ≤ w .end → entryAt w p ≡ image i → Among (record { place = p; image = i }) (imagesOf (m .log) (i .file))
-  among-at p i h e = entry-among (m .log) p i (sym (entry-eq w m s p (rw (← s .ends) h)) ∙ e)
+module _ (w : World) (l : List Entry) (m : Model) (s : Sim w l m) where
+  pub among-at : (p : ℕ) (i : Image) → p ≤ w .end → entryAt w p ≡ image i → Among (record { place = p; image = i }) (imagesOf l (i .file))
+  among-at p i h e = entry-among l p i (sym (entry-eq w l m s p (rw (← s .ends) h)) ∙ e)
+
+  file-in : (f : ℕ) → isFile (length (w .rows)) f ≡ true → (leb 1 f && leb f (m .files)) ≡ true
+  file-in f h = rw (s .files) at h
 
   -- a read at its start finds a committed image
   pub committed-shown : (p : ℕ) (i : Image) → p ≤ w .end → entryAt w p ≡ image i → isFile (length (w .rows)) (i .file) ≡ true
       → fateAt w (i .action) ≡ committed
       → call w (read (i .file) (i .start) 0) .0 ≡ Value p (i .start) (length (i .value))
-  committed-shown p i h e f c = sim-call w m s (read (i .file) (i .start) 0) .answer ∙ go (token (m .log) (i .file)) refl
+  committed-shown p i h e f c =
+      sim-call w l m s (read (i .file) (i .start) 0) .answer ∙ rw (file-in (i .file) f)
+      (subst (λ z. reading m (i .file) (i .start) 0 (m .object (i .file)) z .0 ≡ Value p (i .start) (length (i .value))) (sym (s .says .token (i .file))) (go (token l (i .file)) refl))
     where
       x : Placed
       x = record { place = p; image = i }
 
-      k : Chain (fateOf (m .log)) (imagesOf (m .log) (i .file))
-      k = chain (m .log) (i .file) (s .lawful)
+      k : Chain (fateOf l) (imagesOf l (i .file))
+      k = chain l (i .file) (s .lawful)
 
-      o : Ordered (versions (m .log) (i .file))
-      o = versions-ordered (fateOf (m .log)) (imagesOf (m .log) (i .file)) k
+      o : Ordered (versions l (i .file))
+      o = versions-ordered (fateOf l) (imagesOf l (i .file)) k
 
-      a : Among x (versions (m .log) (i .file))
-      a = among-versions (fateOf (m .log)) x (imagesOf (m .log) (i .file)) (among-at p i h e) (sym (fate-eq w m s (i .action)) ∙ c)
+      a : Among x (versions l (i .file))
+      a = among-versions (fateOf l) x (imagesOf l (i .file)) (among-at p i h e) (sym (fate-eq w l m s (i .action)) ∙ c)
 
-      v : version (m .log) (i .file) (i .start) ≡ some x
-      v = shown x (versions (m .log) (i .file)) o a
+      found : shows (latest (i .start) (m .object (i .file) .history)) ≡ Value p (i .start) (length (i .value))
+      found = ap (λ h. shows (latest (i .start) h)) (s .says .history (i .file)) ∙ ap shows (latest-is (i .start) (versions l (i .file)) ∙ ap versionIn (shown x (versions l (i .file)) o a))
 
-      fl : isFile (m .files) (i .file) ≡ true
-      fl = rw (s .files) at f
-
-      go : (z : Option Placed) → token (m .log) (i .file) ≡ z → ledgerCall m (read (i .file) (i .start) 0) .0 ≡ Value p (i .start) (length (i .value))
-      go none q = rw (fl, q, v)
-      go (some y) q = rw (
-        fl,
-        q,
-        lt-leb (y .image .start) (i .start) (omega (
-          arith,
-          token-later (fateOf (m .log)) (imagesOf (m .log) (i .file)) y k q,
-          newest x (versions (m .log) (i .file)) o a,
-        )),
-        v,
-      )
+      go : (z : Option Placed) → token l (i .file) ≡ z → reading m (i .file) (i .start) 0 (m .object (i .file)) (versionIn z) .0 ≡ Value p (i .start) (length (i .value))
+      go none q = found
+      go (some y) q = rw (lt-leb (y .image .start) (i .start) (omega (arith, token-later (fateOf l) (imagesOf l (i .file)) y k q, newest x (versions l (i .file)) o a))) found
 
   -- a read of its own action finds an undecided image, from its start on
   pub own-shown : (p : ℕ) (i : Image) (t : ℕ) → p ≤ w .end → entryAt w p ≡ image i → isFile (length (w .rows)) (i .file) ≡ true
       → fateAt w (i .action) ≡ undecided
       → i .start ≤ t → call w (read (i .file) t (i .action)) .0 ≡ Value p (i .start) (length (i .value))
-  own-shown p i t h e f c l = sim-call w m s (read (i .file) t (i .action)) .answer
+  own-shown p i t h e f c q = sim-call w l m s (read (i .file) t (i .action)) .answer
       ∙ rw (
-        fl,
-        ne-eqb (i .action) 0 (λ q. omega (arith, b .0)),
-        le-leb 1 (i .action) (b .0),
-        le-leb (i .action) (length (m .log)) (b .1),
+        file-in (i .file) f,
+        ne-eqb (i .action) 0 (λ q. omega (arith, known-place l (i .action) (s .lawful) (undecided-known d) .0)),
+        s .says .status (i .action),
         d,
-        undecided-token (fateOf (m .log)) (record { place = p; image = i }) (imagesOf (m .log) (i .file)) (chain (m .log) (i .file) (s .lawful)) (among-at p i h e) d,
-        le-leb (i .start) t l,
+        s .says .token (i .file),
+        undecided-token (fateOf l) (record { place = p; image = i }) (imagesOf l (i .file)) (chain l (i .file) (s .lawful)) (among-at p i h e) d,
+        le-leb (i .start) t q,
         eq-eqb (i .action) (i .action) refl,
       )
     where
-      d : fateOf (m .log) (i .action) ≡ undecided
-      d = sym (fate-eq w m s (i .action)) ∙ c
-
-      b : (1 ≤ i .action) × (i .action ≤ length (m .log))
-      b = known-place (m .log) (i .action) (s .lawful) (undecided-known d)
-
-      fl : isFile (m .files) (i .file) ≡ true
-      fl = rw (s .files) at f
+      d : fateOf l (i .action) ≡ undecided
+      d = sym (fate-eq w l m s (i .action)) ∙ c

@@ -1,0 +1,117 @@
+-- Read does what the model does: following the links finds the version that the history has.
+use mathlib.Core.Path.{_≡_, refl, sym, ap, _∙_, subst}
+use mathlib.Core.List.{List, [], _∷_, head?}
+use mathlib.Core.Bool.{Bool, true, false, cond}
+use mathlib.Core.Option.{Option, some, none}
+use Prim.Native.Nat.{ℕ, max}
+use native.Mathlib.Omega.{arith}
+use lib.ListN.{length}
+use lib.Dec.{eqb, leb}
+use borrow.Author.Tests.{eq-eqb, ne-eqb, le-leb}
+use Rattle.encoding.proofs.Logic.{clash}
+use Rattle.recovery.specs.Log.{Entry, Placed, fateOf, imagesOf, placeOf, startOf}
+use Rattle.recovery.specs.World.{World, entryAt, withRow, isFile}
+use Rattle.recovery.specs.declared.Row.{Row}
+use Rattle.recovery.specs.declared.Answer.the-variants.{Stored}
+use Rattle.inspection.specs.Lawful.{versions, current, token}
+use Rattle.calls.specs.Calls.{read, imageOf, walkFrom, answerWalk, reaches, readCurrent, readToken, onVersions, onToken, onRead}
+use Rattle.recovery.proofs.Spots.{Spots, spots, Lies, versions-lie}
+use Rattle.promises.specs.Model.{Version, Object, object, Model, newest, since, latest, shows, changed, withObject, readHistory, reading}
+use Rattle.promises.specs.FromLog.{versionIn, history}
+use Rattle.promises.proofs.logs.Chains.{Ordered, versions-ordered, chain}
+use Rattle.promises.proofs.logs.Versions.{latestOf, version}
+use Rattle.promises.proofs.logs.Histories.{latest-is}
+use Rattle.promises.proofs.logs.Links.{walked, AllSeen, walk-finds}
+use Rattle.promises.proofs.worlds.LogSays.{currentEnd, tokenEnd, changed-not, newest-since}
+use Rattle.promises.proofs.worlds.Sim.{rowFor, Sim, Agrees, agrees-cond, answers, refused, current-lies, token-lies, lies-at, row-holds, sim-set}
+
+-- the time is at least the start of the current version, or there is none
+abbrev within : ℕ → Option Placed → Bool
+within t none = true
+within t (some x) = leb (x .image .start) t
+
+within-is : (t : ℕ) (z : Option Placed) → within t z ≡ leb (startOf z) t
+within-is t none = sym (le-leb 0 t (omega arith))
+within-is t (some x) = refl
+
+not-stored : (z : Option Version) (p : ℕ) → shows z ≡ Stored p → ⊥
+not-stored none p e = clash cc
+not-stored (some x) p e = clash cc
+
+module _ (w : World) (l : List Entry) (m : Model) (s : Sim w l m) where
+  -- ---- the walk
+
+  all-seen : (f : ℕ) (xs : List Placed) → Spots l f xs → AllSeen (entryAt w) f xs
+  all-seen f [] h = tt
+  all-seen f (x ∷ xs) h = (record { here = lies-at w l m s f x (h .0); mine = h .0 .mine; low = h .0 .low }, all-seen f xs (h .1))
+
+  walk-eq : (f t : ℕ) (vs : List Placed) → Ordered vs → Spots l f vs
+      → walkFrom w f t (placeOf (head? vs)) (imageOf (entryAt w (placeOf (head? vs)))) ≡ walked (latestOf t vs)
+  unfolding latestOf
+  walk-eq f t [] o h = refl
+  walk-eq f t (x ∷ vs) o h =
+      rw (lies-at w l m s f x (h .0)) (walk-finds (entryAt w) f t x vs (length (w .sheet)) o (all-seen f (x ∷ vs) h) (omega (arith, h .0 .high, s .long, s .room)))
+
+  reach-eq : (f t : ℕ) (z : Option Placed) → Lies l f z → reaches t (imageOf (entryAt w (placeOf z))) ≡ within t z
+  reach-eq f t none h = refl
+  reach-eq f t (some x) h = rw (lies-at w l m s f x h)
+
+  -- ---- a row that was read, and its object
+
+  module _ (f t a : ℕ) (i : isFile (m .files) f ≡ true) where
+    abbrev x : Object
+    x = m .object f
+
+    read-set : (c k : ℕ) (r : Row) → r ≡ rowFor l (object (x .history) c (x .token) k) f → Sim (withRow w f r) l (withObject m f (object (x .history) c (x .token) k))
+    read-set c k r e =
+        sim-set w l m s f (changed (m .object) f (object (x .history) c (x .token) k)) r i (rw (eq-eqb f f refl) e) (λ g q. rw (ne-eqb g f (λ z. q (sym z)))) (record {
+          used = s .says .used;
+          undecided = s .says .undecided;
+          status = s .says .status;
+          history = changed-not (λ x. x .history) (m .object) f (object (x .history) c (x .token) k) (history l) (s .says .history) (s .says .history f);
+          token = changed-not (λ x. x .token) (m .object) f (object (x .history) c (x .token) k) (λ g. versionIn (token l g)) (s .says .token) (s .says .token f);
+        })
+
+    abbrev asked : ℕ
+    asked = cond (leb (since (newest (x .history))) t) (max (x .asked) t) (x .asked)
+
+    row-read : readCurrent t (within t (current l f)) (rowFor l x f) ≡ rowFor l (object (x .history) asked (x .token) (x .tokenasked)) f
+    row-read = ap (λ n. record { mark = 1; current = placeOf (current l f); currentend = n; token = placeOf (token l f); tokenend = tokenEnd x })
+        (go (leb (since (newest (x .history))) t) (within-is t (current l f) ∙ ap (λ n. leb n t) (sym (newest-since l m (s .says) f))))
+      where
+        go : (b : Bool) → within t (current l f) ≡ b → cond (within t (current l f)) (max (currentEnd x) t) (currentEnd x) ≡ max (since (newest (x .history))) (cond b (max (x .asked) t) (x .asked))
+        go true q = rw q (omega arith)
+        go false q = rw q
+
+    sim-versions : Agrees (m .files) (read f t a) l (onVersions w f t (rowFor l x f)) (readHistory m f t x)
+    sim-versions =
+        let o = versions-ordered (fateOf l) (imagesOf l f) (chain l f (s .lawful)) in
+        let v = versions-lie l f (fateOf l) (imagesOf l f) (spots l f) in
+        rw (walk-eq f t (versions l f) o v, reach-eq f t (current l f) (current-lies l f))
+        (subst (λ z. Agrees (m .files) (read f t a) l (answerWalk w f row (walked (version l f t))) (shows z, withObject m f left)) (sym (ap (latest t) (s .says .history f) ∙ latest-is t (versions l f))) (go (version l f t)))
+      where
+        row : Row
+        row = readCurrent t (within t (current l f)) (rowFor l x f)
+
+        left : Object
+        left = object (x .history) asked (x .token) (x .tokenasked)
+
+        go : (z : Option Placed) → Agrees (m .files) (read f t a) l (answerWalk w f row (walked z)) (shows (versionIn z), withObject m f left)
+        go none = answers (not-stored none) refl (read-set asked (x .tokenasked) row row-read)
+        go (some y) = answers (not-stored (versionIn (some y))) refl (read-set asked (x .tokenasked) row row-read)
+
+    by-token : (z : Option Placed) → token l f ≡ z → Lies l f z
+        → Agrees (m .files) (read f t a) l (onToken w f t a (rowFor l x f) (imageOf (entryAt w (placeOf z)))) (reading m f t a x (versionIn z))
+    by-token none e h = sim-versions
+    by-token (some y) e h = rw (lies-at w l m s f y h) (agrees-cond (leb (y .image .start) t) (leb (y .image .start) t) refl
+        (λ q. agrees-cond (eqb (y .image .action) a) (eqb (y .image .action) a) refl
+        (λ r. answers (not-stored (versionIn (some y))) (rw e) (read-set (x .asked) (max (x .tokenasked) t) (readToken t (rowFor l x f)) token-read))
+        (λ r. refused 9 (y .image .action) (y .image .action) refl s))
+        (λ q. sim-versions))
+      where
+        token-read : readToken t (rowFor l x f) ≡ rowFor l (object (x .history) (x .asked) (x .token) (max (x .tokenasked) t)) f
+        token-read = ap (λ n. record { mark = 1; current = placeOf (current l f); currentend = currentEnd x; token = placeOf (token l f); tokenend = n }) (omega arith)
+
+    pub sim-read : Agrees (m .files) (read f t a) l (onRead w f t a (rowFor l x f)) (reading m f t a x (x .token))
+    sim-read = subst (λ z. Agrees (m .files) (read f t a) l (onRead w f t a (rowFor l x f)) (reading m f t a x z)) (sym (s .says .token f))
+        (rw (row-holds w l m s f) (by-token (token l f) refl (token-lies l f)))
