@@ -125,9 +125,9 @@ module _ (s : List ℕ) (files end a : ℕ) (c : Bool) (f : ℕ) (xs : List ℕ)
   unfolding settledRow
   row-decided h q hq ys hy = hy ∙ ap (withRowOf xs f) (hq ∙ ap (decided c) hr) ∙ sym (ap (λ (o : Bool). cond o (withRowOf xs f (decided c (rowOf xs f))) xs) (held ∙ h))
 
-  pub row-kept : b ≡ false → xs ≡ settledRow s files end a c f xs
+  pub row-same : b ≡ false → xs ≡ settledRow s files end a c f xs
   unfolding settledRow
-  row-kept h = sym (ap (λ (o : Bool). cond o (withRowOf xs f (decided c (rowOf xs f))) xs) (held ∙ h))
+  row-same h = sym (ap (λ (o : Bool). cond o (withRowOf xs f (decided c (rowOf xs f))) xs) (held ∙ h))
 
 -- ---- all rows, one by one
 

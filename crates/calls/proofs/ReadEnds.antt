@@ -19,8 +19,8 @@ use Rattle.recovery.specs.declared.Answer.{Answer}
 use Rattle.recovery.specs.declared.Answer.the-variants.{Refused, Value, Nothing}
 use Rattle.recovery.specs.World.{World, isFile, withRow, warmRow, rowHolds, refuse}
 use Rattle.recovery.specs.Lent.{rowLength, rowsOf, pagesOf, lent, refused}
-use Rattle.recovery.specs.Steps.{lineOne, sealedImage, rowKept, rowHoldsIn, withRowOf, Warmed}
-use Rattle.recovery.proofs.Held.{row-kept}
+use Rattle.recovery.specs.Steps.{lineOne, sealedImage, rowHoldsBy, rowHoldsIn, withRowOf, Warmed}
+use Rattle.recovery.proofs.Held.{row-held}
 use Rattle.recovery.proofs.Pages.{pages-long}
 use Rattle.recovery.proofs.FlatRows.{rows-long}
 use Rattle.calls.specs.declared.reading.Reading.{Reading}
@@ -86,14 +86,14 @@ module _ (files : ℕ) (s : List ℕ) (f t : ℕ) (r : Row) (u : Sought) (l : Lo
 -- ---- the token
 
 module _ (files : ℕ) (s : List ℕ) (e f t a : ℕ) (r : Row) (u v : Sought) (hu : u ≡ sealedImage files s f (r .current)) (hv : v ≡ sealedImage files s f (r .token)) where
-  holds-is : (b : Bool) → rowKept e r u v ≡ b → (fs : List ℕ) (rs : List Row) (fl n : ℕ) → rowHolds (world files s e fs rs fl n) f r ≡ b
+  holds-is : (b : Bool) → rowHoldsBy e r u v ≡ b → (fs : List ℕ) (rs : List Row) (fl n : ℕ) → rowHolds (world files s e fs rs fl n) f r ≡ b
   unfolding rowHoldsIn rowHolds
-  holds-is b hb fs rs fl n = sym (row-kept files s e f r u v hu hv) ∙ hb
+  holds-is b hb fs rs fl n = sym (row-held files s e f r u v hu hv) ∙ hb
 
-  pub reads-7 : rowKept e r u v ≡ false → Reads files s e f t a r (record { answer = Refused 7 0; row = r })
+  pub reads-7 : rowHoldsBy e r u v ≡ false → Reads files s e f t a r (record { answer = Refused 7 0; row = r })
   reads-7 h = record { is = λ fs rs fl n k. rw (holds-is false h fs rs fl n, k) }
 
-  module _ (h : rowKept e r u v ≡ true) where
+  module _ (h : rowHoldsBy e r u v ≡ true) where
     on-held : (fs : List ℕ) (rs : List Row) (fl n : ℕ) (o : Sought) → v ≡ o
         → onRead (world files s e fs rs fl n) f t a r ≡ onToken (world files s e fs rs fl n) f t a r (imageBy (pageBytes s (r .token)) o)
     on-held fs rs fl n o i =

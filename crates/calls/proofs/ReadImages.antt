@@ -22,7 +22,7 @@ use Rattle.recovery.specs.Log.{blank}
 use Rattle.recovery.specs.Sheet.{pageBytes, entryOf, imageFrom, isOpening, seal, decoded}
 use Rattle.recovery.specs.World.{isImageOf}
 use Rattle.recovery.specs.Lent.{pagesOf}
-use Rattle.recovery.specs.Steps.{sealedImage, isFound, placeKept, rowKept}
+use Rattle.recovery.specs.Steps.{sealedImage, isFound, placeHoldsBy, rowHoldsBy}
 use Rattle.recovery.specs.declared.Row.{Row}
 use Rattle.recovery.proofs.Pages.{page-at-place, sealed-is}
 use Rattle.recovery.proofs.Held.{held-in}
@@ -87,8 +87,8 @@ none-at files s f (suc q) h = held-in files s f (suc q) (omega arith) ∙ ap isF
 
 module _ (files : ℕ) (s : List ℕ) (e f p : ℕ) where
   -- what was found at a place that line 7 lets through
-  pub looked : (u : Sought) → u ≡ sealedImage files s f p → placeKept e p u ≡ true → Looked files s f p u
-  unfolding placeKept
+  pub looked : (u : Sought) → u ≡ sealedImage files s f p → placeHoldsBy e p u ≡ true → Looked files s f p u
+  unfolding placeHoldsBy
   looked (sought.Sought.Image x) h k = record { found = h; image-is = met-at files s f p x (sym h) .page-is }
   looked sought.Sought.Other h k = record { found = h; image-is = go p k }
     where
@@ -97,19 +97,19 @@ module _ (files : ℕ) (s : List ℕ) (e f p : ℕ) where
       go (suc j) q = let y : false ≡ true = simp (ne-eqb (suc j) 0 (λ z. omega arith), and-false (leb (suc j) e) false refl) at q in let r : _≡_ {A = ℕ} 0 1 = cc in absurd (omega arith)
 
 module _ (files : ℕ) (s : List ℕ) (e f : ℕ) (r : Row) (u v : Sought) (hu : u ≡ sealedImage files s f (r .current)) (hv : v ≡ sealedImage files s f (r .token)) where
-  module _ (k : rowKept e r u v ≡ true) where
+  module _ (k : rowHoldsBy e r u v ≡ true) where
     pub looked-current : Looked files s f (r .current) u
-    unfolding rowKept
-    looked-current = looked files s e f (r .current) u hu (and-true (leb (r .mark) 1) (placeKept e (r .current) u) (and-true (leb (r .mark) 1 && placeKept e (r .current) u) (placeKept e (r .token) v) k .0) .1)
+    unfolding rowHoldsBy
+    looked-current = looked files s e f (r .current) u hu (and-true (leb (r .mark) 1) (placeHoldsBy e (r .current) u) (and-true (leb (r .mark) 1 && placeHoldsBy e (r .current) u) (placeHoldsBy e (r .token) v) k .0) .1)
 
     pub looked-token : Looked files s f (r .token) v
-    unfolding rowKept
-    looked-token = looked files s e f (r .token) v hv (and-true (leb (r .mark) 1 && placeKept e (r .current) u) (placeKept e (r .token) v) k .1)
+    unfolding rowHoldsBy
+    looked-token = looked files s e f (r .token) v hv (and-true (leb (r .mark) 1 && placeHoldsBy e (r .current) u) (placeHoldsBy e (r .token) v) k .1)
 
     pub no-token : v ≡ sought.Sought.Other → r .token ≡ 0
-    unfolding rowKept placeKept
+    unfolding rowHoldsBy placeHoldsBy
     no-token i =
-        let q : placeKept e (r .token) v ≡ true = and-true (leb (r .mark) 1 && placeKept e (r .current) u) (placeKept e (r .token) v) k .1 in
+        let q : placeHoldsBy e (r .token) v ≡ true = and-true (leb (r .mark) 1 && placeHoldsBy e (r .current) u) (placeHoldsBy e (r .token) v) k .1 in
         go (eqb (r .token) 0) refl (rw i at q)
       where
         go : (b : Bool) → eqb (r .token) 0 ≡ b → (b || (leb (r .token) e && false)) ≡ true → r .token ≡ 0

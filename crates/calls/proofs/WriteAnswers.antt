@@ -17,8 +17,8 @@ use Rattle.recovery.specs.declared.State.{State}
 use Rattle.recovery.specs.declared.Answer.{Answer}
 use Rattle.recovery.specs.declared.Answer.the-variants.{Refused, Stored}
 use Rattle.recovery.specs.Lent.{pagesOf}
-use Rattle.recovery.specs.Steps.{sealedImage, rowKept, rowHoldsIn}
-use Rattle.recovery.proofs.Held.{row-kept}
+use Rattle.recovery.specs.Steps.{sealedImage, rowHoldsBy, rowHoldsIn}
+use Rattle.recovery.proofs.Held.{row-held}
 use Rattle.calls.specs.Calls.{imageOf, actionOf}
 use Rattle.calls.specs.LineSteps.{roomLine}
 use Rattle.calls.specs.ReadSteps.{storeAnswer, writeAnswer}
@@ -50,15 +50,15 @@ module _ (s : List ℕ) (files : ℕ) (st : State) (t : ℕ) (r : Row) where
 -- ---- lines 7 and 8
 
 module _ (s : List ℕ) (files : ℕ) (st : State) (f t : ℕ) (r : Row) (u v : Sought) (hu : u ≡ sealedImage files s f (r .current)) (hv : v ≡ sealedImage files s f (r .token)) where
-  pub write-7 : rowKept (st .end) r u v ≡ false → Refused 7 0 ≡ writeAnswer s files st f t r
+  pub write-7 : rowHoldsBy (st .end) r u v ≡ false → Refused 7 0 ≡ writeAnswer s files st f t r
   unfolding writeAnswer
   write-7 h =
-      let k : rowHoldsIn s files (st .end) f r ≡ false = sym (row-kept files s (st .end) f r u v hu hv) ∙ h in
+      let k : rowHoldsIn s files (st .end) f r ≡ false = sym (row-held files s (st .end) f r u v hu hv) ∙ h in
       simp k
 
-  module _ (h : rowKept (st .end) r u v ≡ true) where
+  module _ (h : rowHoldsBy (st .end) r u v ≡ true) where
     held : rowHoldsIn s files (st .end) f r ≡ true
-    held = sym (row-kept files s (st .end) f r u v hu hv) ∙ h
+    held = sym (row-held files s (st .end) f r u v hu hv) ∙ h
 
     pub write-8 : (x : Page) → v ≡ sought.Sought.Image x → Refused 8 (x .action) ≡ writeAnswer s files st f t r
     unfolding writeAnswer

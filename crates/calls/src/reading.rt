@@ -10,9 +10,9 @@ use recovery::file_count;
 use recovery::has_file;
 use recovery::image_at;
 use recovery::is_lent_right;
-use recovery::is_row_kept;
 use recovery::raised_row;
 use recovery::refuse;
+use recovery::row_holds_by;
 use recovery::set_row;
 use recovery::warm_row;
 ghost use mathlib.Core.Bool.{true};
@@ -129,7 +129,7 @@ fn read_row(
 {
     let current = image_at(sheet, row.current, files, file);
     let token = image_at(sheet, row.token, files, file);
-    if !is_row_kept(end, row, current, token) {
+    if !row_holds_by(end, row, current, token) {
         return Reading {
             answer: Answer::Refused(7, 0),
             row,

@@ -12,8 +12,8 @@ use recovery::file_count;
 use recovery::has_file;
 use recovery::image_at;
 use recovery::is_lent_right;
-use recovery::is_row_kept;
 use recovery::refuse;
+use recovery::row_holds_by;
 use recovery::set_row;
 use recovery::warm_row;
 ghost use mathlib.Core.Bool.{true};
@@ -68,7 +68,7 @@ fn write_answer(sheet: &[u8], state: State, files: u64, file: u64, start: u64, r
 {
     let current = image_at(sheet, row.current, files, file);
     let token = image_at(sheet, row.token, files, file);
-    if !is_row_kept(state.end, row, current, token) {
+    if !row_holds_by(state.end, row, current, token) {
         return Answer::Refused(7, 0);
     }
     match token {

@@ -21,7 +21,7 @@ use Rattle.recovery.specs.Sheet.{pageBytes, entryOf, imageFrom, isOpenin
 use Rattle.recovery.specs.World.{isImageOf, placeHolds, rowHolds}
 use Rattle.recovery.specs.Lent.{pagesOf}
 use Rattle.recovery.specs.declared.Row.{Row}
-use Rattle.recovery.specs.Steps.{sealedImage, sheetWorld, rowHoldsIn, isFound, placeKept, rowKept}
+use Rattle.recovery.specs.Steps.{sealedImage, sheetWorld, rowHoldsIn, isFound, placeHoldsBy, rowHoldsBy}
 use Rattle.recovery.proofs.Pages.{test-out, page-at-place, pages-long}
 use Rattle.recovery.proofs.Lookups.{nth-past}
 use Rattle.recovery.proofs.WalkDown.{apart, found-same}
@@ -114,32 +114,32 @@ held-in files s file place l = go (leb place (length s / pageSize)) refl
         rw (← b) (ap isFound (image-none files s file place (seek-out s place files file (λ p q. omega arith))))
 
 module _ (e p : ℕ) where
-  pub place-zero : p ≡ 0 → (u : Sought) → true ≡ placeKept e p u
-  unfolding placeKept
+  pub place-zero : p ≡ 0 → (u : Sought) → true ≡ placeHoldsBy e p u
+  unfolding placeHoldsBy
   place-zero h u = simp (eq-eqb p 0 h)
 
-  pub place-above : (p ≡ 0 → ⊥) → e < p → (u : Sought) → false ≡ placeKept e p u
-  unfolding placeKept
+  pub place-above : (p ≡ 0 → ⊥) → e < p → (u : Sought) → false ≡ placeHoldsBy e p u
+  unfolding placeHoldsBy
   place-above z h u = simp (ne-eqb p 0 z, lt-leb p e h)
 
   module _ (z : p ≡ 0 → ⊥) (h : p ≤ e) (u : Sought) where
-    pub place-image : (x : Page) → u ≡ sought.Sought.Image x → true ≡ placeKept e p u
-    unfolding placeKept
+    pub place-image : (x : Page) → u ≡ sought.Sought.Image x → true ≡ placeHoldsBy e p u
+    unfolding placeHoldsBy
     place-image x i = rw i (simp (ne-eqb p 0 z, le-leb p e h))
 
-    pub place-other : u ≡ sought.Sought.Other → false ≡ placeKept e p u
-    unfolding placeKept
+    pub place-other : u ≡ sought.Sought.Other → false ≡ placeHoldsBy e p u
+    unfolding placeHoldsBy
     place-other i = rw i (simp (ne-eqb p 0 z, le-leb p e h))
 
 module _ (files : ℕ) (s : List ℕ) (e f : ℕ) where
-  place-held : (p : ℕ) (u : Sought) → u ≡ sealedImage files s f p → placeKept e p u ≡ placeHolds (sheetWorld s files e) f p
-  unfolding placeKept
+  place-held : (p : ℕ) (u : Sought) → u ≡ sealedImage files s f p → placeHoldsBy e p u ≡ placeHolds (sheetWorld s files e) f p
+  unfolding placeHoldsBy
   place-held p u h = go (eqb p 0) refl
     where
       go : (b : Bool) → eqb p 0 ≡ b → (b || (leb p e && isFound u)) ≡ (b || (leb p e && isImageOf f (nth blank (pagesOf s files) p)))
       go true k = refl
       go false k = ap (λ (x : Bool). leb p e && x) (ap isFound h ∙ sym (held-in files s f p (omega (arith, eqb-false p 0 k))))
 
-  pub row-kept : (r : Row) (u v : Sought) → u ≡ sealedImage files s f (r .current) → v ≡ sealedImage files s f (r .token) → rowKept e r u v ≡ rowHoldsIn s files e f r
-  unfolding rowKept rowHoldsIn rowHolds
-  row-kept r u v hu hv = ap₂ _&&_ (ap (λ (b : Bool). leb (r .mark) 1 && b) (place-held (r .current) u hu)) (place-held (r .token) v hv)
+  pub row-held : (r : Row) (u v : Sought) → u ≡ sealedImage files s f (r .current) → v ≡ sealedImage files s f (r .token) → rowHoldsBy e r u v ≡ rowHoldsIn s files e f r
+  unfolding rowHoldsBy rowHoldsIn rowHolds
+  row-held r u v hu hv = ap₂ _&&_ (ap (λ (b : Bool). leb (r .mark) 1 && b) (place-held (r .current) u hu)) (place-held (r .token) v hv)

@@ -63,11 +63,11 @@ abbrev pub isFound : Sought → Bool
 isFound (sought.Sought.Image x) = true
 isFound sought.Sought.Other = false
 
-unfoldable pub placeKept : ℕ → ℕ → Sought → Bool
-placeKept end place u = eqb place 0 || (leb place end && isFound u)
+unfoldable pub placeHoldsBy : ℕ → ℕ → Sought → Bool
+placeHoldsBy end place u = eqb place 0 || (leb place end && isFound u)
 
-unfoldable pub rowKept : ℕ → Row → Sought → Sought → Bool
-rowKept end r u v = leb (r .mark) 1 && placeKept end (r .current) u && placeKept end (r .token) v
+unfoldable pub rowHoldsBy : ℕ → Row → Sought → Sought → Bool
+rowHoldsBy end r u v = leb (r .mark) 1 && placeHoldsBy end (r .current) u && placeHoldsBy end (r .token) v
 
 -- a file's row, rebuilt where it is cold, and the run that then holds it
 unfoldable pub warmRowOf : List ℕ → List ℕ → List ℕ → ℕ → ℕ → Row

@@ -17,7 +17,7 @@ use page::Sought;
 use page::Unpacked;
 ghost use mathlib.Core.Path.{_≡_};
 ghost use Rattle.recovery.specs.Lent.{leftBy, rebuildLeaves};
-ghost use Rattle.recovery.specs.Steps.{rebuiltWith, rowFromPages, placeKept, rowKept, rowHoldsIn, Warmed};
+ghost use Rattle.recovery.specs.Steps.{rebuiltWith, rowFromPages, placeHoldsBy, rowHoldsBy, rowHoldsIn, Warmed};
 
 // A rebuilt row, of the places of a version and a token and where they start.
 fn rebuilt(current: u64, currentend: u64, token: u64, tokenend: u64) -> Row
@@ -66,8 +66,8 @@ pub fn rebuilt_row(sheet: &[u8], fates: &[u8], end: u64, files: u64, file: u64) 
 }
 
 // Line 7 for a place of a row, by what was found there: it is 0, or a place up to the end with a sealed image of the file.
-fn is_place_kept(end: u64, place: u64, found: Sought) -> bool
-    ensures { λ r. ⌜ r ≡ placeKept end place found ⌝ }
+fn place_holds_by(end: u64, place: u64, found: Sought) -> bool
+    ensures { λ r. ⌜ r ≡ placeHoldsBy end place found ⌝ }
 {
     if place == 0 {
         return true;
@@ -82,21 +82,21 @@ fn is_place_kept(end: u64, place: u64, found: Sought) -> bool
 }
 
 // Line 7, by what was found at both places of a row.
-pub fn is_row_kept(end: u64, row: Row, current: Sought, token: Sought) -> bool
-    ensures { λ r. ⌜ r ≡ rowKept end row current token ⌝ }
+pub fn row_holds_by(end: u64, row: Row, current: Sought, token: Sought) -> bool
+    ensures { λ r. ⌜ r ≡ rowHoldsBy end row current token ⌝ }
 {
     (row.mark <= 1)
-        & is_place_kept(end, row.current, current)
-        & is_place_kept(end, row.token, token)
+        & place_holds_by(end, row.current, current)
+        & place_holds_by(end, row.token, token)
 }
 
 // Line 7.
-fn is_row_held(sheet: &[u8], end: u64, files: u64, file: u64, row: Row) -> bool
+fn row_holds_in(sheet: &[u8], end: u64, files: u64, file: u64, row: Row) -> bool
     ensures { λ r. ⌜ r ≡ rowHoldsIn (now (sheet .entry)) files end file row ⌝ }
 {
     let current = image_at(sheet, row.current, files, file);
     let token = image_at(sheet, row.token, files, file);
-    is_row_kept(end, row, current, token)
+    row_holds_by(end, row, current, token)
 }
 
 // A file's row, rebuilt and put into the run where it is cold.
@@ -126,7 +126,7 @@ pub fn rebuild(sheet: &[u8], fates: &[u8], rows: &mut [u64], state: State, file:
     let end = state.end;
     let files = file_count(rows.len());
     let row = warm_row(sheet, fates, rows, end, file);
-    if !is_row_held(sheet, end, files, file, row) {
+    if !row_holds_in(sheet, end, files, file, row) {
         return refuse(7, state);
     }
     Done {

@@ -86,12 +86,12 @@ module _ (m : Model) (h : Left-for m) where
 -- ---- along a run
 
 module _ (n files : ℕ) where
-  record Kept (b : Box) : Type 0 where
+  record Spared (b : Box) : Type 0 where
     pub with : Reached n files b
     pub left : Left-for (with .model)
 
-  kept-next : (b : Box) → Kept b → (e : Event) → Allowed n files e → NoTornOutcome (e ∷ []) → Kept (after b e)
-  kept-next b k e t w = record { with = reached-next n files b (k .with) e t; left = go (isOn b) e w }
+  spared-next : (b : Box) → Spared b → (e : Event) → Allowed n files e → NoTornOutcome (e ∷ []) → Spared (after b e)
+  spared-next b k e t w = record { with = reached-next n files b (k .with) e t; left = go (isOn b) e w }
     where
       go : (o : Bool) (e : Event) → NoTornOutcome (e ∷ []) → Left-for (modelAfter o (k .with .model) e)
       go true (calls c) w = call-keeps (k .with .model) (k .left) c
@@ -113,9 +113,9 @@ module _ (n files : ℕ) where
   rest-whole : (e : Event) (es : List Event) → NoTornOutcome (e ∷ es) → NoTornOutcome es
   rest-whole e es w es₁ es₂ a c kept q = w (e ∷ es₁) es₂ a c kept (ap (λ l. e ∷ l) q)
 
-  kept-on : (b : Box) → Kept b → (es : List Event) → AllAllowed n files es → NoTornOutcome es → Kept (runs b es)
-  kept-on b k [] t w = k
-  kept-on b k (e ∷ es) t w = kept-on (after b e) (kept-next b k e (t .0) (first-whole e es w)) es (t .1) (rest-whole e es w)
+  spared-on : (b : Box) → Spared b → (es : List Event) → AllAllowed n files es → NoTornOutcome es → Spared (runs b es)
+  spared-on b k [] t w = k
+  spared-on b k (e ∷ es) t w = spared-on (after b e) (spared-next b k e (t .0) (first-whole e es w)) es (t .1) (rest-whole e es w)
 
   -- ---- an undecided action is counted
 
@@ -135,7 +135,7 @@ module _ (n files : ℕ) where
       let c = counted-at (fatesOf (m .model .pages) (m .log)) a (nth-tabulate (λ x. fateNumber (fateOf (m .log) x)) (m .model .pages) a 0 (p .0) (omega (arith, p .1, m .at .holds .room, m .at .pages-are)) ∙ ap fateNumber u) in
       omega (arith, m .at .says .undecided, c)
 
-  can-decide : (b : Box) → Kept b → (action : ℕ) (c : Bool) → answerTo b (calls (test action)) ≡ some (Told 1) → (place : ℕ) × (answerTo b (calls (decide action c)) ≡ some (Stored place))
+  can-decide : (b : Box) → Spared b → (action : ℕ) (c : Bool) → answerTo b (calls (test action)) ≡ some (Told 1) → (place : ℕ) × (answerTo b (calls (decide action c)) ≡ some (Stored place))
   can-decide b k action c e =
       let m = k .with in
       let t = told-fate n files b m action 1 e in
@@ -146,4 +146,4 @@ module _ (n files : ℕ) where
   pub run-reserved : (es : List Event) → Run n files es → NoTornOutcome es → (action : ℕ) (c : Bool) → answerTo (runs (blankBox n) es) (calls (test action)) ≡ some (Told 1)
       → (place : ℕ) × (answerTo (runs (blankBox n) es) (calls (decide action c)) ≡ some (Stored place))
   run-reserved es r w action c e =
-      can-decide (runs (blankBox n) es) (kept-on (blankBox n) (record { with = reached-blank n files (r .sized); left = omega arith }) es (r .allowed) w) action c e
+      can-decide (runs (blankBox n) es) (spared-on (blankBox n) (record { with = reached-blank n files (r .sized); left = omega arith }) es (r .allowed) w) action c e

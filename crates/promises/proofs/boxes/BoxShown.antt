@@ -23,7 +23,7 @@ use Rattle.promises.specs.FromLog.{statusOf}
 use Rattle.promises.proofs.worlds.Sim.{Sim, fate-eq}
 use Rattle.promises.proofs.worlds.SimCalls.{sim-call}
 use Rattle.promises.proofs.worlds.Shown.{committed-shown, own-shown}
-use Rattle.promises.proofs.worlds.Visible.{Whose, kept, own, read-shows, read-none}
+use Rattle.promises.proofs.worlds.Visible.{Whose, shared, own, read-shows, read-none}
 use Rattle.promises.proofs.bytes.Replaced.{unsealed, bad-image, lies-below, Below}
 use Rattle.promises.proofs.boxes.Boxes.{worldIn, Reached, sim, world-says, end-is, page-in, page-lies}
 use Rattle.promises.proofs.answers.Heard.{answered, hears}
@@ -131,7 +131,7 @@ module _ (n files : ℕ) where
             clash cc
 
     committed-told : (i : Image) → Whose (worldIn n files m) a i → (i .action ≡ a → ⊥) → callOn m (test (i .action)) .answer ≡ Told 2
-    committed-told i (kept c) o =
+    committed-told i (shared c) o =
         let d : fateOf (r .log) (i .action) ≡ committed = sym (fate-eq (worldIn n files m) (r .log) (r .model) (sim n files m r) (i .action)) ∙ c in
         test-tells n files m r (i .action) (rw d (omega arith)) ∙ ap (λ x. Told (fateNumber x)) d
     committed-told i (own h q) o = absurd (o q)

@@ -22,18 +22,18 @@ Clear t none = Unit {0}
 Clear t (some x) = t < x .start
 
 -- what an object shows at a time, and that its token starts later
-pub record Kept (x : Object) (t : ℕ) (v : Option Version) : Type 0 where
+pub record Showing (x : Object) (t : ℕ) (v : Option Version) : Type 0 where
   pub clear : Clear t (x .token)
   pub shows : latest t (x .history) ≡ v
 
 -- while a box is on, no write can start by the time either
 abbrev pub Lasts : Bool → Model → ℕ → ℕ → Option Version → Type 0
-Lasts true m f t v = Kept (m .object f) t v × (t ≤ max (currentEnd (m .object f)) (m .floor))
-Lasts false m f t v = Kept (m .object f) t v
+Lasts true m f t v = Showing (m .object f) t v × (t ≤ max (currentEnd (m .object f)) (m .floor))
+Lasts false m f t v = Showing (m .object f) t v
 
-lasts-kept : (b : Bool) (m : Model) (f t : ℕ) (v : Option Version) → Lasts b m f t v → Kept (m .object f) t v
-lasts-kept true m f t v h = h .0
-lasts-kept false m f t v h = h
+lasts-showing : (b : Bool) (m : Model) (f t : ℕ) (v : Option Version) → Lasts b m f t v → Showing (m .object f) t v
+lasts-showing true m f t v h = h .0
+lasts-showing false m f t v h = h
 
 module _ (m : Model) (f t : ℕ) (v : Option Version) (h : Lasts true m f t v) where
   abbrev Goes : Reply → Type 0
@@ -41,7 +41,7 @@ module _ (m : Model) (f t : ℕ) (v : Option Version) (h : Lasts true m f t v) w
 
   -- an object, and where a write to it can start
   abbrev Object-lasts : Object → Type 0
-  Object-lasts x = Kept x t v × (t ≤ max (currentEnd x) (m .floor))
+  Object-lasts x = Showing x t v × (t ≤ max (currentEnd x) (m .floor))
 
   -- one object changed
   object-goes : (g : ℕ) (x : Object) → (f ≡ g → Object-lasts x) → Object-lasts (changed (m .object) g x f)
@@ -88,7 +88,7 @@ module _ (m : Model) (f t : ℕ) (v : Option Version) (h : Lasts true m f t v) w
   cut-lasts : (k : Call) (kept : ℕ → Bool) → Lasts false (modelCut m k kept) f t v
   cut-lasts k kept = go (eqb (modelCall m k .1 .used) (m .used) || not (kept kindAt)) (kept markAt)
     where
-      go : (a b : Bool) → Kept (cond a m (cond b (modelCall m k .1) (stores m (m .undecided) (m .status) (m .object))) .object f) t v
+      go : (a b : Bool) → Showing (cond a m (cond b (modelCall m k .1) (stores m (m .undecided) (m .status) (m .object))) .object f) t v
       go true b = h .0
       go false true = call-lasts k .0
       go false false = h .0
@@ -106,8 +106,8 @@ FloorsFrom t es = (es₂ es₃ : List Event) (floor : ℕ) (fates rows : List �
 
 module _ (n files f t : ℕ) (v : Option Version) where
   open-lasts : (b : Bool) (m : Model) (floor : ℕ) → t ≤ floor → Lasts b m f t v → (c : Bool) → Lasts c (cond c (modelOpened m floor) m) f t v
-  open-lasts b m floor q h true = let y = lasts-kept b m f t v h in (record { clear = y .clear; shows = y .shows }, omega arith)
-  open-lasts b m floor q h false = lasts-kept b m f t v h
+  open-lasts b m floor q h true = let y = lasts-showing b m f t v h in (record { clear = y .clear; shows = y .shows }, omega arith)
+  open-lasts b m floor q h false = lasts-showing b m f t v h
 
   event-lasts : (b : Box) (r : Reached n files b) (e : Event) (al : Allowed n files e) → FloorsFrom t (e ∷ []) → Lasts (isOn b) (r .model) f t v → Lasts (isOn (after b e)) (reached-next n files b r e al .model) f t v
   event-lasts (on m) r (calls k) al q h = call-lasts (r .model) f t v h k

@@ -25,7 +25,7 @@ use Rattle.promises.proofs.worlds.LogSays.{currentEnd, Says}
 use Rattle.promises.proofs.worlds.ModelCalls.{writes}
 use Rattle.promises.proofs.boxes.Boxes.{isOn, Reached, model-says, reached-next, reached-on}
 use Rattle.promises.proofs.boxes.Found.{some-is, not-heard}
-use Rattle.promises.proofs.boxes.Lasting.{Clear, Kept, Lasts, FloorsFrom, lasts}
+use Rattle.promises.proofs.boxes.Lasting.{Clear, Showing, Lasts, FloorsFrom, lasts}
 
 -- the first read
 pub record ToldAt (m : Model) (f t : ℕ) : Type 0 where
@@ -77,7 +77,7 @@ module _ (l : List Entry) (m : Model) (w : Lawful l) (s : Says l m) (f t : ℕ) 
       by-file true e = by-token (m .object f .token) refl e
       by-file false e = absurd (true≢false (rw e at h))
 
-again : (m : Model) (f t : ℕ) (v : Option Version) → (leb 1 f && leb f (m .files)) ≡ true → Kept (m .object f) t v → modelCall m (read f t 0) .0 ≡ shows v
+again : (m : Model) (f t : ℕ) (v : Option Version) → (leb 1 f && leb f (m .files)) ≡ true → Showing (m .object f) t v → modelCall m (read f t 0) .0 ≡ shows v
 again m f t v e h = rw e (go (m .object f .token) (h .clear))
   where
     go : (z : Option Version) → Clear t z → reading m f t 0 (m .object f) z .0 ≡ shows v

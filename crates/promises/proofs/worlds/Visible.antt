@@ -28,7 +28,7 @@ use Rattle.promises.proofs.worlds.SimCalls.{sim-call}
 use Rattle.promises.proofs.worlds.Shown.{token-later, among-at}
 
 pub data Whose (w : World) (a : ℕ) (i : Image) : Type 0 where
-  kept : fateAt w (i .action) ≡ committed → Whose w a i
+  shared : fateAt w (i .action) ≡ committed → Whose w a i
   own : 1 ≤ a → i .action ≡ a → Whose w a i
 
 -- no version of a file that starts by a time starts after s
@@ -68,8 +68,8 @@ module _ (w : World) (l : List Entry) (m : Model) (s : Sim w l m) (f t a : ℕ) 
   among : (q : ℕ) (i : Image) → q ≤ w .end → entryAt w q ≡ image i → i .file ≡ f → Among (record { place = q; image = i }) (imagesOf l f)
   among q i b e g = subst (λ (x : ℕ). Among (record { place = q; image = i }) (imagesOf l x)) g (among-at w l m s q i b e)
 
-  kept-among : (y : Placed) → Among y (imagesOf l f) → fateOf l (y .image .action) ≡ committed → Among y (versions l f)
-  kept-among y i c = among-versions (fateOf l) y (imagesOf l f) i c
+  version-among : (y : Placed) → Among y (imagesOf l f) → fateOf l (y .image .action) ≡ committed → Among y (versions l f)
+  version-among y i c = among-versions (fateOf l) y (imagesOf l f) i c
 
   ordered : Ordered (versions l f)
   ordered = versions-ordered (fateOf l) (imagesOf l f) (chain l f (s .lawful))
@@ -101,7 +101,7 @@ module _ (w : World) (l : List Entry) (m : Model) (s : Sim w l m) (f t a : ℕ) 
   sees-versions none q r = record {
     value = λ p st n e. clash cc;
     nothing = λ e o v b d g c.
-        all-later t (record { place = o; image = v }) (versions l f) (kept-among (record { place = o; image = v }) (among o v b d g) (sym (fate-eq w l m s (v .action)) ∙ c)) q;
+        all-later t (record { place = o; image = v }) (versions l f) (version-among (record { place = o; image = v }) (among o v b d g) (sym (fate-eq w l m s (v .action)) ∙ c)) q;
   }
   sees-versions (some x) q r = go
     where
@@ -112,10 +112,10 @@ module _ (w : World) (l : List Entry) (m : Model) (s : Sim w l m) (f t a : ℕ) 
       o = versions-among (fateOf l) x (imagesOf l f) (k .among)
 
       newest-in : Newest (x .image .start)
-      newest-in y i c u = highest t x y (versions l f) ordered (kept-among y i c) u q
+      newest-in y i c u = highest t x y (versions l f) ordered (version-among y i c) u q
 
       go : Sees (versionAnswer x, r)
-      go = make x (spot-among l f x (imagesOf l f) (spots l f) (o .1)) (k .inTime) (kept (fate-eq w l m s (x .image .action) ∙ o .0)) newest-in r
+      go = make x (spot-among l f x (imagesOf l f) (spots l f) (o .1)) (k .inTime) (shared (fate-eq w l m s (x .image .action) ∙ o .0)) newest-in r
 
   -- and its own
   sees-own : (x : Placed) → token l f ≡ some x → x .image .start ≤ t → x .image .action ≡ a → (r : Model) → Sees (versionAnswer x, r)
@@ -129,7 +129,7 @@ module _ (w : World) (l : List Entry) (m : Model) (s : Sim w l m) (f t a : ℕ) 
 
       newest-in : Newest (x .image .start)
       newest-in y n c u =
-          omega (arith, newest y (versions l f) ordered (kept-among y n c), token-later (fateOf l) (imagesOf l f) x (chain l f (s .lawful)) i)
+          omega (arith, newest y (versions l f) ordered (version-among y n c), token-later (fateOf l) (imagesOf l f) x (chain l f (s .lawful)) i)
 
   in-history : (r : Model) → Sees (shows (latest t (m .object f .history)), r)
   in-history r = subst (λ z. Sees (shows z, r)) (sym (ap (latest t) (s .says .history f) ∙ latest-is t (versions l f))) (sees-versions (version l f t) refl r)

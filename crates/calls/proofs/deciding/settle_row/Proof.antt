@@ -1,6 +1,6 @@
 -- `calls::deciding::settle_row`: the row stays, or its token is decided. Assumes nothing.
 use borrow.Author.Tests.{not-true, not-false}
-use Rattle.calls.proofs.DecideRows.{row-kept, row-decided}
+use Rattle.calls.proofs.DecideRows.{row-same, row-decided}
 use borrow.Author.Needs.{needs}
 use Rattle.calls.proofs.deciding.settle_row.Statement.{statement}
 use Rattle.calls.proofs.deciding.settle_row.Tie as tie
@@ -16,7 +16,7 @@ same-length c = search needs
 
 returns : tie.Need-returns
 returns c =
-    row-kept _ _ _ _ _ _ _ _ (c .before .before .row-of .ensures) _ (c .before .holds-token .ensures) (not-true _ (c .if1 .taken))
+    row-same _ _ _ _ _ _ _ _ (c .before .before .row-of .ensures) _ (c .before .holds-token .ensures) (not-true _ (c .if1 .taken))
 
 decided-row-requires : tie.Need-decided-row-requires
 decided-row-requires c κs = search needs

@@ -12,13 +12,13 @@ image-at-requires c κs = search needs
 image-at-requires-2 : tie.Need-image-at-requires-2
 image-at-requires-2 c κs = search needs
 
-is-row-kept-requires : tie.Need-is-row-kept-requires
-is-row-kept-requires c κs = search needs
+row-holds-by-requires : tie.Need-row-holds-by-requires
+row-holds-by-requires c κs = search needs
 
 returns : tie.Need-returns
 returns c =
     let a = c .before .before .before .before .before .args in
-    write-7 (now (a .sheet)) (a .files) (a .state) (a .file) (a .start) (a .row) _ _ (c .before .before .before .image-at .ensures) (c .before .before .image-at2 .ensures) (refused (c .before .is-row-kept .ensures) (c .if1 .taken))
+    write-7 (now (a .sheet)) (a .files) (a .state) (a .file) (a .start) (a .row) _ _ (c .before .before .before .image-at .ensures) (c .before .before .image-at2 .ensures) (refused (c .before .row-holds-by .ensures) (c .if1 .taken))
 
 enum-known-token : tie.Need-enum-known-token
 enum-known-token c = search needs
@@ -32,12 +32,12 @@ store-answer-requires c κs = search needs
 returns-2 : tie.Need-returns-2
 returns-2 c =
     let a = c .before .before .before .before .before .before .before .before .args in
-    write-8 (now (a .sheet)) (a .files) (a .state) (a .file) (a .start) (a .row) _ _ (c .before .before .before .before .before .before .image-at .ensures) (c .before .before .before .before .before .image-at2 .ensures) (passed (c .before .before .before .before .is-row-kept .ensures) (c .before .before .before .if1 .left)) _ (c .before .token .given .1)
+    write-8 (now (a .sheet)) (a .files) (a .state) (a .file) (a .start) (a .row) _ _ (c .before .before .before .before .before .before .image-at .ensures) (c .before .before .before .before .before .image-at2 .ensures) (passed (c .before .before .before .before .row-holds-by .ensures) (c .before .before .before .if1 .left)) _ (c .before .token .given .1)
 
 returns-3 : tie.Need-returns-3
 returns-3 c =
     let a = c .before .before .before .before .before .before .before .before .args in
-    write-store (now (a .sheet)) (a .files) (a .state) (a .file) (a .start) (a .row) _ _ (c .before .before .before .before .before .before .image-at .ensures) (c .before .before .before .before .before .image-at2 .ensures) (passed (c .before .before .before .before .is-row-kept .ensures) (c .before .before .before .if1 .left)) (c .before .enum-told .given .1) _ (c .store-answer .ensures)
+    write-store (now (a .sheet)) (a .files) (a .state) (a .file) (a .start) (a .row) _ _ (c .before .before .before .before .before .before .image-at .ensures) (c .before .before .before .before .before .image-at2 .ensures) (passed (c .before .before .before .before .row-holds-by .ensures) (c .before .before .before .if1 .left)) (c .before .enum-told .given .1) _ (c .store-answer .ensures)
 
 pub write-answer-spec : {M : Type 1} → statement M
 write-answer-spec =
@@ -45,7 +45,7 @@ write-answer-spec =
     (tie.spec
     image-at-requires
     image-at-requires-2
-    is-row-kept-requires
+    row-holds-by-requires
     returns
     enum-known-token
     enum-told

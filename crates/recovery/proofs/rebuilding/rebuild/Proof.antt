@@ -39,8 +39,8 @@ file-count-requires c κs = search needs
 warm-row-requires : tie.Need-warm-row-requires
 warm-row-requires c κs = search needs
 
-is-row-held-requires : tie.Need-is-row-held-requires
-is-row-held-requires c κs = search needs
+row-holds-in-requires : tie.Need-row-holds-in-requires
+row-holds-in-requires c κs = search needs
 
 refuse-requires-3 : tie.Need-refuse-requires-3
 refuse-requires-3 c κs = search needs
@@ -53,7 +53,7 @@ returns-3 c =
     let a = c .before .before .before .before .before .before .before .before .before .before .before .before .before .before .before .args in
     let w = c .before .before .before .before .before .warm-row in
     ap (λ (d : Done). leftBy d (now (a .sheet)) (now (a .fates)) (w .last .1 .1 .0)) (c .refuse3 .ensures)
-    ∙ rebuild-line-7 (now (a .sheet)) (now (a .fates)) (now (a .rows)) (a .state) (a .file) (passed (c .before .before .before .before .before .before .before .before .before .before .before .is-lent-right .ensures) (c .before .before .before .before .before .before .before .before .before .before .if1 .left)) (passed (c .before .before .before .before .before .before .before .before .before .has-file .ensures) (c .before .before .before .before .before .before .before .before .if2 .left)) (w .result) _ (w .ensures) (refused (rw (c .before .before .before .before .before .before .before .file-count .ensures) at (c .before .before .is-row-held .ensures)) (c .before .if3 .taken))
+    ∙ rebuild-line-7 (now (a .sheet)) (now (a .fates)) (now (a .rows)) (a .state) (a .file) (passed (c .before .before .before .before .before .before .before .before .before .before .before .is-lent-right .ensures) (c .before .before .before .before .before .before .before .before .before .before .if1 .left)) (passed (c .before .before .before .before .before .before .before .before .before .has-file .ensures) (c .before .before .before .before .before .before .before .before .if2 .left)) (w .result) _ (w .ensures) (refused (rw (c .before .before .before .before .before .before .before .file-count .ensures) at (c .before .before .row-holds-in .ensures)) (c .before .if3 .taken))
 
 same-length-2 : tie.Need-same-length-2
 same-length-2 c = search needs
@@ -62,7 +62,7 @@ returns-4 : tie.Need-returns-4
 returns-4 c =
     let a = c .before .before .before .before .before .before .before .before .before .before .before .before .before .before .args in
     let w = c .before .before .before .before .warm-row in
-    rebuild-done (now (a .sheet)) (now (a .fates)) (now (a .rows)) (a .state) (a .file) (passed (c .before .before .before .before .before .before .before .before .before .before .is-lent-right .ensures) (c .before .before .before .before .before .before .before .before .before .if1 .left)) (passed (c .before .before .before .before .before .before .before .before .has-file .ensures) (c .before .before .before .before .before .before .before .if2 .left)) (w .result) _ (w .ensures) (passed (rw (c .before .before .before .before .before .before .file-count .ensures) at (c .before .is-row-held .ensures)) (c .if3 .left))
+    rebuild-done (now (a .sheet)) (now (a .fates)) (now (a .rows)) (a .state) (a .file) (passed (c .before .before .before .before .before .before .before .before .before .before .is-lent-right .ensures) (c .before .before .before .before .before .before .before .before .before .if1 .left)) (passed (c .before .before .before .before .before .before .before .before .has-file .ensures) (c .before .before .before .before .before .before .before .if2 .left)) (w .result) _ (w .ensures) (passed (rw (c .before .before .before .before .before .before .file-count .ensures) at (c .before .row-holds-in .ensures)) (c .if3 .left))
 
 pub rebuild-spec : {M : Type 1} → statement M
 rebuild-spec =
@@ -76,7 +76,7 @@ rebuild-spec =
     returns-2
     file-count-requires
     warm-row-requires
-    is-row-held-requires
+    row-holds-in-requires
     refuse-requires-3
     same-length
     returns-3

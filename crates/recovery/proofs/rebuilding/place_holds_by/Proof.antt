@@ -1,8 +1,8 @@
--- `recovery::rebuilding::is_place_kept`: by its four ways out. Assumes nothing.
+-- `recovery::rebuilding::place_holds_by`: by its four ways out. Assumes nothing.
 use Rattle.recovery.proofs.Held.{place-zero, place-above, place-image, place-other}
 use borrow.Author.Needs.{needs}
-use Rattle.recovery.proofs.rebuilding.is_place_kept.Statement.{statement}
-use Rattle.recovery.proofs.rebuilding.is_place_kept.Tie as tie
+use Rattle.recovery.proofs.rebuilding.place_holds_by.Statement.{statement}
+use Rattle.recovery.proofs.rebuilding.place_holds_by.Tie as tie
 
 returns : tie.Need-returns
 returns c = place-zero _ _ (c .if1 .taken) _
@@ -22,6 +22,6 @@ returns-3 c = place-image _ _ (c .before .before .before .if1 .left) (c .before 
 returns-4 : tie.Need-returns-4
 returns-4 c = place-other _ _ (c .before .before .before .if1 .left) (c .before .before .if2 .left) _ (c .enum-told2 .given .1)
 
-pub is-place-kept-spec : {M : Type 1} → statement M
-is-place-kept-spec =
+pub place-holds-by-spec : {M : Type 1} → statement M
+place-holds-by-spec =
     tie.close (tie.spec returns returns-2 enum-told enum-told-2 returns-3 returns-4)
