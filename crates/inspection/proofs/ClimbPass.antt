@@ -19,6 +19,8 @@ use Rattle.recovery.specs.Log.{Entry, blank, fateOf}
 use Rattle.recovery.specs.Sheet.{pageBytes, entryOf, isOpening, seal, decoded, sealed}
 use Rattle.recovery.specs.World.{down, isBlank, endOf, fateNumber}
 use Rattle.recovery.specs.Lent.{pagesOf}
+use Rattle.recovery.proofs.OpeningEnds.{end-le}
+use Rattle.recovery.proofs.Spots.{entry-down}
 use Rattle.recovery.proofs.Pages.{page-here, page-at-place, length-down, sealed-is, opening-sealed, blank-sealed}
 use Rattle.inspection.specs.Lawful.{fitsBelow, lowestUnlawful}
 use Rattle.inspection.specs.Inspected.{inspectable, inspected}
@@ -68,8 +70,8 @@ module _ (s : List ℕ) (files : ℕ) where
         let z = fate-place (log n) a (w .lawful-is) d in
         let b : a ≤ length s / pageSize = omega (arith, length-down (pagesOf s files) n) in
         sym (opening-sealed (decoded files s) (decoded files s a))
-        ∙ ap isOpening (sym (page-at-place files (length s / pageSize) s a (z .0) b))
-        ∙ fate-opens (pagesOf s files) n a (w .lawful-is) d
+        ∙ ap isOpening (sym (page-at-place files (length s / pageSize) s a (z .0) b)
+        ∙ sym (entry-down (pagesOf s files) n a (omega (arith, length-down (pagesOf s files) n))) ∙ fate-opens (log n) a (w .lawful-is) d)
 
     module _ (u : Unpacked) (h : n < m) (e : u ≡ tested (pageBytes s (n + 1)) (n + 1) files) where
       abbrev page : Entry
@@ -105,15 +107,6 @@ module _ (s : List ℕ) (files : ℕ) where
 -- ---- the end: the pages from a place on are all blank, or one is used
 
 module _ (s : List Entry) where
-  end-le : (n : ℕ) → endOf s n ≤ n
-  unfolding endOf
-  end-le zero = omega arith
-  end-le (suc n) = go (isBlank (getD s n blank)) (end-le n)
-    where
-      go : (b : Bool) → endOf s n ≤ n → cond b (endOf s n) (suc n) ≤ suc n
-      go true h = omega arith
-      go false h = omega arith
-
   -- the end is not blank, and nothing above it is used
   end-used : (n : ℕ) → 1 ≤ endOf s n → isBlank (nth blank s (endOf s n)) ≡ false
   unfolding endOf
@@ -125,7 +118,7 @@ module _ (s : List Entry) where
       go true e r h = r h
       go false e r h = e
 
-  used-end : (n p : ℕ) → p ≤ n → 1 ≤ p → isBlank (nth blank s p) ≡ false → p ≤ endOf s n
+  pub used-end : (n p : ℕ) → p ≤ n → 1 ≤ p → isBlank (nth blank s p) ≡ false → p ≤ endOf s n
   unfolding endOf
   used-end zero p h k e = absurd (omega arith)
   used-end (suc n) p h k e = go (isBlank (getD s n blank)) refl (used-end n p) (eqb p (suc n)) refl
@@ -137,7 +130,7 @@ module _ (s : List Entry) where
       go true q r false t = r (omega (arith, eqb-false p (suc n) t)) k e
 
   pub up-end : (n p : ℕ) → n < p → false ≡ leb p (endOf s n)
-  up-end n p h = sym (lt-leb p (endOf s n) (omega (arith, end-le n)))
+  up-end n p h = sym (lt-leb p (endOf s n) (omega (arith, end-le s n)))
 
   up-more : (n p : ℕ) → 1 ≤ p → isBlank (nth blank s p) ≡ true → leb (p + 1) (endOf s n) ≡ leb p (endOf s n)
   up-more n p low t = go (leb p (endOf s n)) refl

@@ -5,15 +5,13 @@ use mathlib.Core.Path.{_≡_, refl, ap, sym, subst, _∙_}
 use mathlib.Core.List.{List, [], _∷_}
 use mathlib.Core.Bool.{true, false≢true}
 use native.Mathlib.Omega.{arith}
-use lib.ListN.{length, getD}
+use lib.ListN.{length}
 use lib.Dec.{eqb}
 use borrow.Author.Tests.{eqb-true}
 use Rattle.encoding.proofs.Logic.{and-true, by-test}
-use Rattle.recovery.specs.Places.{nth}
 use Rattle.recovery.specs.Log.{Image, Entry, blank, torn, bad, opening, image, outcome, Fate, unknown, undecided, committed, aborted, Placed, fateOf, imagesOf, tokenStep, tokenOf}
-use Rattle.recovery.specs.Sheet.{isOpening}
-use Rattle.recovery.specs.World.{down, fateNumber}
-use Rattle.recovery.proofs.Pages.{length-down}
+use Rattle.recovery.specs.World.{fateNumber}
+use Rattle.recovery.proofs.Spots.{entryIn, entry-cons, entry-top}
 use Rattle.recovery.proofs.LogFates.{undecided-is, undecided-known, verdict-known, All, rest, all-keeps}
 use Rattle.inspection.specs.Lawful.{token, isNone, imageFits, fitsBelow, lawful}
 use Rattle.inspection.proofs.LowestUnlawful.{lawful-parts}
@@ -23,7 +21,7 @@ use Rattle.inspection.proofs.LowestUnlawful.{lawful-parts}
 -- how a page that fits moves the fate of an action to y
 data Moves (g : Entry) (l : List Entry) (a : ℕ) (y : Fate) : Type 0 where
   same : y ≡ fateOf l a → Moves g l a y
-  opens : a ≡ suc (length l) → isOpening g ≡ true → Moves g l a y
+  opens : a ≡ suc (length l) → g ≡ opening → Moves g l a y
   decides : fateOf l a ≡ undecided → 1 ≤ fateNumber y → Moves g l a y
 
 moves : (g : Entry) (l : List Entry) (a : ℕ) → fitsBelow g l ≡ true → Moves g l a (fateOf (g ∷ l) a)
@@ -52,19 +50,15 @@ fate-place (g ∷ l) a w h = go (fateOf (g ∷ l) a) h (moves g l a (lawful-part
     go y k (decides e n) r = let z = r (undecided-known e) in omega arith
 
 -- and is the place of an opening
-pub fate-opens : (s : List Entry) (n a : ℕ) → lawful (down s n) ≡ true → 1 ≤ fateNumber (fateOf (down s n) a) → isOpening (nth blank s a) ≡ true
-unfolding down
-fate-opens s zero a w h = absurd (none-known a h)
-fate-opens s (suc n) a w h =
-    let p = lawful-parts (getD s n blank) (down s n) w in
-    go (fateOf (getD s n blank ∷ down s n) a) h (moves (getD s n blank) (down s n) a (p .0)) (fate-opens s n a (p .1))
+pub fate-opens : (l : List Entry) (a : ℕ) → lawful l ≡ true → 1 ≤ fateNumber (fateOf l a) → entryIn l a ≡ opening
+fate-opens [] a w h = absurd (none-known a h)
+fate-opens (g ∷ l) a w h =
+    let p = lawful-parts g l w in
+    go (fateOf (g ∷ l) a) h (moves g l a (p .0)) (λ k. entry-cons g l a (fate-place l a (p .1) k .1) ∙ fate-opens l a (p .1) k)
   where
-    go : (y : Fate) → 1 ≤ fateNumber y → Moves (getD s n blank) (down s n) a y → (1 ≤ fateNumber (fateOf (down s n) a) → isOpening (nth blank s a) ≡ true)
-        → isOpening (nth blank s a) ≡ true
+    go : (y : Fate) → 1 ≤ fateNumber y → Moves g l a y → (1 ≤ fateNumber (fateOf l a) → entryIn (g ∷ l) a ≡ opening) → entryIn (g ∷ l) a ≡ opening
     go y k (same e) r = r (subst (λ (x : Fate). 1 ≤ fateNumber x) e k)
-    go y k (opens e o) r =
-        let z : a ≡ suc n = omega (arith, length-down s n) in
-        subst (λ (x : ℕ). isOpening (nth blank s x) ≡ true) (sym z) o
+    go y k (opens e o) r = ap (entryIn (g ∷ l)) e ∙ entry-top g l ∙ o
     go y k (decides e n) r = r (undecided-known e)
 
 -- place 0 is none
@@ -101,7 +95,7 @@ pub record Good (φ : ℕ → Fate) (xs : List Placed) : Type 0 where
   pub decided : All 2 φ (rest xs)
 
 -- then no token says that all are decided
-free-decided : (φ : ℕ → Fate) (xs : List Placed) → Good φ xs → isNone (tokenOf φ xs) ≡ true → All 2 φ xs
+pub free-decided : (φ : ℕ → Fate) (xs : List Placed) → Good φ xs → isNone (tokenOf φ xs) ≡ true → All 2 φ xs
 unfolding tokenOf
 free-decided φ [] h e = tt
 free-decided φ (x ∷ xs) h e = (go (φ (x .image .action)) (h .known .0) e, h .decided)

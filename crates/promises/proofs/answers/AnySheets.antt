@@ -1,12 +1,12 @@
 -- A box that is given a lawful sheet stands for the model read off its log.
 use Prim.Native.Nat.{ℕ, zero, suc, _*_, _/_, _≤_, _<_}
-use mathlib.Core.Path.{_≡_, refl, ap, _∙_, subst}
+use mathlib.Core.Path.{_≡_, refl, ap, subst}
 use mathlib.Core.List.{List}
 use mathlib.Core.Bool.{Bool, true, false, cond, false≢true}
 use native.Mathlib.Omega.{arith}
-use lib.ListN.{length, getD, List·getD-eq-default}
-use lib.Dec.{eqb, leb}
-use borrow.Author.Tests.{eqb-true, eqb-false, leb-true, leb-false}
+use lib.ListN.{length, List·getD-eq-default}
+use lib.Dec.{leb}
+use borrow.Author.Tests.{leb-true, leb-false}
 use Rattle.encoding.proofs.Logic.{clash}
 use Rattle.page.specs.Layout.{pageSize}
 use Rattle.recovery.specs.Places.{nth}
@@ -20,6 +20,7 @@ use Rattle.inspection.specs.Lawful.{lowestUnlawful}
 use Rattle.inspection.specs.Inspected.{inspectable, inspected}
 use Rattle.inspection.specs.declared.Inspected as inspection
 use Rattle.inspection.specs.declared.Inspected.the-variants.{Lowest}
+use Rattle.inspection.proofs.ClimbPass.{used-end}
 use Rattle.inspection.proofs.LowestUnlawful.{none-lawful}
 use Rattle.promises.specs.Runs.{off, Event, heard, AllAllowed}
 use Rattle.promises.specs.Model.{modelHeard}
@@ -39,14 +40,11 @@ blank-is (outcome a c) e = absurd (false≢true e)
 
 -- above the end all is blank
 clean-above : (P : List Entry) (n p : ℕ) → endOf P n < p → p ≤ n → nth blank P p ≡ blank
-unfolding endOf
-clean-above P zero p h k = absurd (omega arith)
-clean-above P (suc q) p h k = go (isBlank (getD P q blank)) refl h (eqb p (suc q)) refl (λ a b. clean-above P q p a b)
+clean-above P n p h k = go (isBlank (nth blank P p)) refl
   where
-    go : (b : Bool) → isBlank (getD P q blank) ≡ b → cond b (endOf P q) (suc q) < p → (c : Bool) → eqb p (suc q) ≡ c → (endOf P q < p → p ≤ q → nth blank P p ≡ blank) → nth blank P p ≡ blank
-    go true e l true f r = ap (nth blank P) (eqb-true p (suc q) f) ∙ blank-is (getD P q blank) e
-    go true e l false f r = r l (omega (arith, eqb-false p (suc q) f))
-    go false e l c f r = absurd (omega arith)
+    go : (b : Bool) → isBlank (nth blank P p) ≡ b → nth blank P p ≡ blank
+    go true e = blank-is (nth blank P p) e
+    go false e = absurd (omega (arith, used-end P n p k (omega arith) e))
 
 module _ (n files : ℕ) (s : List ℕ) (long : length s ≡ pageSize * n) (sz : sizes n n files ≡ true) (h : inspected s files ≡ Lowest 0) where
   abbrev P : List Entry

@@ -23,7 +23,9 @@ use Rattle.promises.specs.Model.{Model, Reply, stores, hasRoom, modelCal
 use Rattle.promises.proofs.logs.Logs.{known-place}
 use Rattle.promises.proofs.worlds.ModelCalls.{begins, writes, reads, tests, decides, rebuilds}
 use Rattle.promises.proofs.boxes.Boxes.{isOn, Reached, reached-next, reached-blank, answer-is}
-use Rattle.promises.proofs.answers.Seen.{told-fate, status-by, undecided-by}
+use Rattle.promises.proofs.logs.Fates.{same-fate}
+use Rattle.promises.proofs.boxes.Found.{told-fate}
+use Rattle.promises.proofs.answers.Seen.{status-by}
 
 -- ---- a page is left for each undecided action
 
@@ -139,7 +141,7 @@ module _ (n files : ℕ) where
   can-decide b k action c e =
       let m = k .with in
       let t = told-fate n files b m action 1 e in
-      let u : fateOf (m .log) action ≡ undecided = undecided-by (fateOf (m .log) action) (t .2) in
+      let u : fateOf (m .log) action ≡ undecided = same-fate (t .2) in
       let room : 1 ≤ m .model .pages - m .model .used = omega (arith, some-open b m action u, k .left) in
       (suc (m .model .used), answer-is n files b m (calls (decide action c)) tt ∙ rw (t .0, status-by n files b m action undecided u, le-leb 1 (m .model .pages - m .model .used) room))
 

@@ -20,21 +20,21 @@ use Rattle.page.specs.Answers.{tested, valueIn}
 use Rattle.page.proofs.Found.{found, image-is}
 use Rattle.recovery.specs.Log.{Image, Entry, blank, torn, bad, opening, image, outcome, Fate, unknown, undecided, committed, aborted, verdict, fateOf}
 use Rattle.recovery.specs.Sheet.{pageBytes, entryOf, decoded, sealed}
-use Rattle.recovery.specs.World.{fateNumber}
+use Rattle.recovery.specs.World.{fateNumber, isBlank}
 use Rattle.recovery.specs.declared.Answer.the-variants.{Stored, Value, Told}
 use Rattle.calls.specs.Calls.{Call, begin, write, read, test, decide, rebuild}
 use Rattle.recovery.proofs.Spots.{entryIn, entry-cons, entry-top}
 use Rattle.promises.specs.Runs.{Box, sheetOf, Event, calls, answerTo, runs, blankBox, Run}
 use Rattle.promises.specs.Model as model
-use Rattle.promises.specs.Model.{testing, modelAnswer}
 use Rattle.promises.specs.FromLog.{statusOf}
 use Rattle.promises.specs.Promises.{IsPageOf, Did, AllShow, NoneShows, WasWritten}
-use Rattle.promises.proofs.logs.Logs.{Lawful, Known}
+use Rattle.promises.proofs.logs.Logs.{Lawful, Known, known-place, opening-at}
+use Rattle.promises.proofs.logs.Fates.{same-fate}
+use Rattle.promises.proofs.worlds.Openings.{top-solid}
 use Rattle.promises.proofs.bytes.Replaced.{unsealed, bad-image}
 use Rattle.promises.proofs.boxes.Boxes.{isOn, bounds, Reached, reached, answer-is}
-use Rattle.promises.proofs.boxes.Found.{some-is, not-heard}
+use Rattle.promises.proofs.boxes.Found.{told-fate}
 use Rattle.promises.proofs.boxes.BoxShown.{box-all, box-shows}
-use Rattle.recovery.proofs.LogFates.{undecided-known}
 use Rattle.promises.proofs.answers.Heard.{answered, hears}
 use Rattle.promises.proofs.answers.Origins.{Lies, Solid, solid-opening, solid-image, solid-outcome, lies-page, origin, did}
 
@@ -86,24 +86,7 @@ outcome-in (outcome x d ∷ l) a c e = go (eqb a x) refl e (λ q. outcome-in l a
 
 -- a known action's opening stands at its place
 opening-in : (l : List Entry) (a : ℕ) → Lawful l → Known (fateOf l a) → Lies l a opening
-unfolding fateOf
-opening-in [] a w h = absurd (omega arith)
-opening-in (blank ∷ l) a w h = absurd (w .0)
-opening-in (torn ∷ l) a w h = lies-more torn l a opening (opening-in l a (w .1) h)
-opening-in (bad ∷ l) a w h = absurd (w .0)
-opening-in (image i ∷ l) a w h = lies-more (image i) l a opening (opening-in l a (w .1) h)
-opening-in (opening ∷ l) a w h = go (eqb a (suc (length l))) refl h (opening-in l a (w .1))
-  where
-    go : (b : Bool) → eqb a (suc (length l)) ≡ b → Known (cond b undecided (fateOf l a)) → (Known (fateOf l a) → Lies l a opening) → Lies (opening ∷ l) a opening
-    go true k q r = subst (λ p. Lies (opening ∷ l) p opening) (sym (eqb-true a (suc (length l)) k)) (lies-top opening l)
-    go false k q r = lies-more opening l a opening (r q)
-opening-in (outcome x d ∷ l) a w h = go (eqb a x) refl h (opening-in l a (w .1))
-  where
-    go : (b : Bool) → eqb a x ≡ b → Known (cond b (verdict d) (fateOf l a)) → (Known (fateOf l a) → Lies l a opening) → Lies (outcome x d ∷ l) a opening
-    go true k q r =
-        let i : fateOf l a ≡ undecided = ap (fateOf l) (eqb-true a x k) ∙ w .0 in
-        lies-more (outcome x d) l a opening (r (undecided-known i))
-    go false k q r = lies-more (outcome x d) l a opening (r q)
+opening-in l a w h = let p = known-place l a w h in record { low = p .0; high = p .1; here = opening-at l a w h }
 
 -- ---- the call of a page
 
@@ -139,20 +122,6 @@ call-image (rebuild f) i h = absurd h
 -- ---- what a test tells
 
 module _ (n files : ℕ) (b : Box) (m : Reached n files b) where
-  pub told-fate : (a fate : ℕ) → answerTo b (calls (test a)) ≡ some (Told fate)
-      → (isOn b ≡ true) × Known (fateOf (m .log) a) × (fateNumber (fateOf (m .log) a) ≡ fate)
-  told-fate a fate e = go (isOn b) (sym (answer-is n files b m (calls (test a)) tt) ∙ e)
-    where
-      by-fate : (x : Fate) → testing (m .model) (statusOf x) .0 ≡ Told fate → Known x × (fateNumber x ≡ fate)
-      by-fate unknown q = clash cc
-      by-fate undecided q = (omega arith, cc)
-      by-fate committed q = (omega arith, cc)
-      by-fate aborted q = (omega arith, cc)
-
-      go : (c : Bool) → modelAnswer c (m .model) (calls (test a)) ≡ some (Told fate) → (c ≡ true) × Known (fateOf (m .log) a) × (fateNumber (fateOf (m .log) a) ≡ fate)
-      go true q = let r = by-fate (fateOf (m .log) a) (ap (λ s. testing (m .model) s .0) (sym (m .at .says .status a)) ∙ some-is q) in (refl, r .0, r .1)
-      go false q = not-heard q
-
   -- an action's status, by its fate
   pub status-by : (a : ℕ) (x : Fate) → fateOf (m .log) a ≡ x → m .model .status a ≡ statusOf x
   status-by a x e = m .at .says .status a ∙ ap statusOf e
@@ -185,25 +154,9 @@ value-bytes files s p i e = go (tested (pageBytes s p) p files) refl (unsealed (
 
 -- ---- fates and the calls that made them
 
-verdict-is : (c : Bool) (x : Fate) → fateNumber x ≡ fateNumber (verdict c) → x ≡ verdict c
-verdict-is true unknown e = absurd (omega arith)
-verdict-is true undecided e = absurd (omega arith)
-verdict-is true committed e = refl
-verdict-is true aborted e = absurd (omega arith)
-verdict-is false unknown e = absurd (omega arith)
-verdict-is false undecided e = absurd (omega arith)
-verdict-is false committed e = absurd (omega arith)
-verdict-is false aborted e = refl
-
 pub told-number : (c : Bool) → _≡_ {A = ℕ} (cond c 2 3) (fateNumber (verdict c))
 told-number true = refl
 told-number false = refl
-
-pub undecided-by : (x : Fate) → fateNumber x ≡ 1 → x ≡ undecided
-undecided-by unknown e = absurd (omega arith)
-undecided-by undecided e = refl
-undecided-by committed e = absurd (omega arith)
-undecided-by aborted e = absurd (omega arith)
 
 module _ (n files : ℕ) (es : List Event) (r : Run n files es) where
   abbrev box : Box
@@ -227,19 +180,10 @@ module _ (n files : ℕ) (es : List Event) (r : Run n files es) where
 
   pub run-decided-only : (action : ℕ) (c : Bool) → answerTo box (calls (test action)) ≡ some (Told (cond c 2 3)) → (place : ℕ) × Did n files es (decide action c) place
   run-decided-only action c e =
-      let o = outcome-in (m .log) action c (verdict-is c (fateOf (m .log) action) (told-fate n files box m action (cond c 2 3) e .2 ∙ told-number c)) in
+      let o = outcome-in (m .log) action c (same-fate (told-fate n files box m action (cond c 2 3) e .2 ∙ told-number c)) in
       (o .0, done (o .0) (outcome action c) (decide action c) (solid-outcome action c) (λ k h. call-outcome k action c h) (o .1))
 
   -- ---- an undecided action can be decided
-
-  top-blank : (l : List Entry) → Lawful l → 1 ≤ length l → entryIn l (length l) ≡ blank → ⊥
-  top-blank [] w h e = omega arith
-  top-blank (blank ∷ l) w h e = w .0
-  top-blank (torn ∷ l) w h e = let q = sym (entry-top torn l) ∙ e in clash cc
-  top-blank (bad ∷ l) w h e = w .0
-  top-blank (opening ∷ l) w h e = let q = sym (entry-top opening l) ∙ e in clash cc
-  top-blank (image i ∷ l) w h e = let q = sym (entry-top (image i) l) ∙ e in clash cc
-  top-blank (outcome a c ∷ l) w h e = let q = sym (entry-top (outcome a c) l) ∙ e in clash cc
 
   room-left : sealed files (sheetOf box) n ≡ blank → length (m .log) < n
   room-left e = go (leb n (length (m .log))) refl
@@ -253,13 +197,13 @@ module _ (n files : ℕ) (es : List Event) (r : Run n files es) where
           let full : length (m .log) ≡ n = omega (arith, leb-true n (length (m .log)) q, o) in
           let some : 1 ≤ n = bounds n files (r .sized) .some-pages in
           let here : sealed files (sheetOf box) n ≡ entryIn (m .log) n = lies-page n files box m n (entryIn (m .log) n) (record { low = some; high = omega arith; here = refl }) in
-          absurd (top-blank (m .log) lawful (omega arith) (ap (entryIn (m .log)) full ∙ sym here ∙ e))
+          absurd (false≢true (sym (top-solid (m .log) lawful (omega arith)) ∙ ap isBlank (ap (entryIn (m .log)) full ∙ sym here ∙ e)))
 
   pub run-can-be-decided : (action : ℕ) (c : Bool) → answerTo box (calls (test action)) ≡ some (Told 1) → sealed files (sheetOf box) n ≡ blank
       → (place : ℕ) × (answerTo box (calls (decide action c)) ≡ some (Stored place))
   run-can-be-decided action c e q =
       let t = told-fate n files box m action 1 e in
-      let u = status-by n files box m action undecided (undecided-by (fateOf (m .log) action) (t .2)) in
+      let u = status-by n files box m action undecided (same-fate (t .2)) in
       let room : 1 ≤ m .model .pages - m .model .used = omega (arith, room-left q, m .at .pages-are, m .at .says .used) in
       (suc (m .model .used), answer-is n files box m (calls (decide action c)) tt ∙ rw (t .0, u, le-leb 1 (m .model .pages - m .model .used) room))
 

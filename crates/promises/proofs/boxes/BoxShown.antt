@@ -1,7 +1,6 @@
 -- Whole or not at all, of a box that a run has reached: a committed action shows all its versions, any other none outside itself.
 use Prim.Native.Nat.{ℕ, zero, suc, _≤_, _<_}
 use mathlib.Core.Path.{_≡_, refl, sym, ap, _∙_, subst}
-use mathlib.Core.List.{List}
 use mathlib.Core.Bool.{Bool, true, false}
 use mathlib.Core.Option.{some, none}
 use native.Mathlib.Omega.{arith}
@@ -9,7 +8,7 @@ use lib.ListN.{length}
 use lib.Dec.{leb}
 use borrow.Author.Tests.{leb-true, leb-false, le-leb}
 use Rattle.encoding.proofs.Logic.{clash}
-use Rattle.recovery.specs.Log.{Image, Entry, blank, image, Fate, unknown, undecided, committed, aborted, fateOf}
+use Rattle.recovery.specs.Log.{Image, blank, image, committed, fateOf}
 use Rattle.recovery.specs.Sheet.{decoded, sealed}
 use Rattle.recovery.specs.World.{World, entryAt, fateAt, fateNumber, isFile}
 use Rattle.recovery.specs.declared.Answer.{Answer}
@@ -18,38 +17,14 @@ use Rattle.recovery.specs.Lent.{Left}
 use Rattle.calls.specs.Calls.{read, test, call}
 use Rattle.promises.specs.Runs.{Box, on, off, sheetOf, calls, callOn, answerTo}
 use Rattle.promises.specs.Promises.{IsVersion, Shown}
-use Rattle.promises.specs.Model.{Model, testing}
-use Rattle.promises.specs.FromLog.{statusOf}
-use Rattle.promises.proofs.worlds.Sim.{Sim, fate-eq}
-use Rattle.promises.proofs.worlds.SimCalls.{sim-call}
+use Rattle.promises.proofs.logs.Fates.{same-fate}
+use Rattle.promises.proofs.worlds.Sim.{fate-eq}
 use Rattle.promises.proofs.worlds.Shown.{committed-shown, own-shown}
 use Rattle.promises.proofs.worlds.Visible.{Whose, shared, own, read-shows, read-none}
 use Rattle.promises.proofs.bytes.Replaced.{unsealed, bad-image, lies-below, Below}
 use Rattle.promises.proofs.boxes.Boxes.{worldIn, Reached, sim, world-says, end-is, page-in, page-lies}
 use Rattle.promises.proofs.answers.Heard.{answered, hears}
-use Rattle.promises.proofs.boxes.Found.{some-is, not-heard, test-tells}
-
--- what a test tells is the fate
-told-number : (w : World) (l : List Entry) (m : Model) (s : Sim w l m) (a y : ℕ) → call w (test a) .0 ≡ Told y → fateNumber (fateOf l a) ≡ y
-told-number w l m s a y e = go (fateOf l a) (ap (λ z. testing m z .0) (sym (s .says .status a)) ∙ sym (sim-call w l m s (test a) .answer) ∙ e)
-  where
-    go : (x : Fate) → testing m (statusOf x) .0 ≡ Told y → fateNumber x ≡ y
-    go unknown q = clash cc
-    go undecided q = cc
-    go committed q = cc
-    go aborted q = cc
-
-committed-is : (x : Fate) → fateNumber x ≡ 2 → x ≡ committed
-committed-is unknown e = absurd (omega arith)
-committed-is undecided e = absurd (omega arith)
-committed-is committed e = refl
-committed-is aborted e = absurd (omega arith)
-
-undecided-is : (x : Fate) → fateNumber x ≡ 1 → x ≡ undecided
-undecided-is unknown e = absurd (omega arith)
-undecided-is undecided e = refl
-undecided-is committed e = absurd (omega arith)
-undecided-is aborted e = absurd (omega arith)
+use Rattle.promises.proofs.boxes.Found.{some-is, not-heard, test-tells, told-fate}
 
 module _ (n files : ℕ) where
   -- an image of the box, where its world has it
@@ -85,18 +60,18 @@ module _ (n files : ℕ) where
     fate-is : (y : ℕ) → callOn m (test (i .action)) .answer ≡ Told y → fateNumber (fateAt w (i .action)) ≡ y
     fate-is y t =
         ap fateNumber (fate-eq w (r .log) (r .model) (sim n files m r) (i .action))
-        ∙ told-number w (r .log) (r .model) (sim n files m r) (i .action) y (sym (world-says n files m r (test (i .action))) ∙ t)
+        ∙ told-fate n files (on m) r (i .action) y (ap some t) .2
 
     all-on : callOn m (test (i .action)) .answer ≡ Told 2 → callOn m (read (i .file) (i .start) 0) .answer ≡ Value place (i .start) (length (i .value))
     all-on t =
         world-says n files m r (read (i .file) (i .start) 0)
-        ∙ committed-shown w (r .log) (r .model) (sim n files m r) place i in-log entry-is file-is (committed-is (fateAt w (i .action)) (fate-is 2 t))
+        ∙ committed-shown w (r .log) (r .model) (sim n files m r) place i in-log entry-is file-is (same-fate (fate-is 2 t))
 
     own-on : callOn m (test (i .action)) .answer ≡ Told 1 → (time : ℕ) → i .start ≤ time
         → callOn m (read (i .file) time (i .action)) .answer ≡ Value place (i .start) (length (i .value))
     own-on t time h =
         world-says n files m r (read (i .file) time (i .action))
-        ∙ own-shown w (r .log) (r .model) (sim n files m r) place i time in-log entry-is file-is (undecided-is (fateAt w (i .action)) (fate-is 1 t)) h
+        ∙ own-shown w (r .log) (r .model) (sim n files m r) place i time in-log entry-is file-is (same-fate (fate-is 1 t)) h
 
   module _ (b : Box) (r : Reached n files b) (place : ℕ) (i : Image) (e : sealed files (sheetOf b) place ≡ image i) where
     pub box-all : answerTo b (calls (test (i .action))) ≡ some (Told 2) → answerTo b (calls (read (i .file) (i .start) 0)) ≡ some (Value place (i .start) (length (i .value)))
@@ -149,7 +124,7 @@ module _ (n files : ℕ) where
     -- the highest start that is not above the time
     module _ (q : ℕ) (i : Image) (v : IsVersion n files (on m) f q i) where
       fate : fateAt (worldIn n files m) (i .action) ≡ committed
-      fate = committed-is (fateAt (worldIn n files m) (i .action)) (fate-is m r q i (v .0) 2 (some-is (answered (on m) (calls (test (i .action))) (Told 2) (v .2))))
+      fate = same-fate (fate-is m r q i (v .0) 2 (some-is (answered (on m) (calls (test (i .action))) (Told 2) (v .2))))
 
       highest-on : (p s l : ℕ) → callOn m (read f t a) .answer ≡ Value p s l → i .start ≤ t → i .start ≤ s
       highest-on p s l e k =

@@ -22,12 +22,12 @@ use Rattle.calls.specs.Calls.{Call, begin, write, read, test, decide, rebuild}
 use Rattle.promises.specs.Runs.{Ordered, Box, on, off, sheetOf, Event, calls, cuts, callOn, answerTo, after, runs, Typed, AllAllowed}
 use Rattle.promises.specs.Promises.{IsPageOf}
 use Rattle.promises.proofs.logs.Logs.{Known, verdict-decided}
-use Rattle.promises.specs.Model.{testing}
+use Rattle.promises.specs.Model.{testing, modelAnswer}
 use Rattle.promises.specs.FromLog.{statusOf}
 use Rattle.promises.proofs.worlds.Sim.{Writes, Step, stay, add}
 use Rattle.promises.proofs.bytes.Stored.{bytesOf}
 use Rattle.promises.proofs.bytes.Cuts.{partialLog, cutLog}
-use Rattle.promises.proofs.boxes.Boxes.{Reached, agrees, model-says, reached-next, reached-on}
+use Rattle.promises.proofs.boxes.Boxes.{isOn, Reached, agrees, model-says, reached-next, reached-on, answer-is}
 use Rattle.promises.proofs.boxes.Extends.{Extends, ext-refl, extends, stays}
 
 -- ---- answers
@@ -117,9 +117,24 @@ module _ (n files : ℕ) where
       go committed h = refl
       go aborted h = refl
 
-  told-fate : (b : Box) (r : Reached n files b) (a : ℕ) (x : Answer) → Known (fateOf (r .log) a) → answerTo b (calls (test a)) ≡ some x → x ≡ Told (fateNumber (fateOf (r .log) a))
-  told-fate (on m) r a x h e = sym (some-is e) ∙ test-tells m r a h
-  told-fate (off s) r a x h e = not-heard e
+  hears-fate : (b : Box) (r : Reached n files b) (a : ℕ) (x : Answer) → Known (fateOf (r .log) a) → answerTo b (calls (test a)) ≡ some x → x ≡ Told (fateNumber (fateOf (r .log) a))
+  hears-fate (on m) r a x h e = sym (some-is e) ∙ test-tells m r a h
+  hears-fate (off s) r a x h e = not-heard e
+
+  -- what a test tells is the fate of a known action, on a box that is on
+  pub told-fate : (b : Box) (r : Reached n files b) (a fate : ℕ) → answerTo b (calls (test a)) ≡ some (Told fate)
+      → (isOn b ≡ true) × Known (fateOf (r .log) a) × (fateNumber (fateOf (r .log) a) ≡ fate)
+  told-fate b r a fate e = go (isOn b) (sym (answer-is n files b r (calls (test a)) tt) ∙ e)
+    where
+      by-fate : (x : Fate) → testing (r .model) (statusOf x) .0 ≡ Told fate → Known x × (fateNumber x ≡ fate)
+      by-fate unknown q = clash cc
+      by-fate undecided q = (omega arith, cc)
+      by-fate committed q = (omega arith, cc)
+      by-fate aborted q = (omega arith, cc)
+
+      go : (c : Bool) → modelAnswer c (r .model) (calls (test a)) ≡ some (Told fate) → (c ≡ true) × Known (fateOf (r .log) a) × (fateNumber (fateOf (r .log) a) ≡ fate)
+      go true q = let k = by-fate (fateOf (r .log) a) (ap (λ s. testing (r .model) s .0) (sym (r .at .says .status a)) ∙ some-is q) in (refl, k .0, k .1)
+      go false q = not-heard q
 
   -- ---- by the box
 
@@ -161,7 +176,7 @@ module _ (n files : ℕ) where
         let q = wrote n files m r begin tt place (some-is e) in
         let z : fateOf (agrees n files m r begin .log) place ≡ undecided = rw (q .log, q .writes, q .place-is) (opening-fate (r .log)) in
         let f = extended m r begin tt .known place (undecided-known z) in
-        (fateNumber (fateOf (late m r begin tt .log) place), f, number-high (fateOf (late m r begin tt .log) place), told-fate (runs (after (on m) (calls begin)) es) (late m r begin tt) place x f h)
+        (fateNumber (fateOf (late m r begin tt .log) place), f, number-high (fateOf (late m r begin tt .log) place), hears-fate (runs (after (on m) (calls begin)) es) (late m r begin tt) place x f h)
     box-begun (off s) r e h = not-heard e
 
     pub box-decided : (b : Box) → Reached n files b → (a : ℕ) (c : Bool) → answerTo b (calls (decide a c)) ≡ some (Stored place) → answerTo (runs (after b (calls (decide a c))) es) (calls (test a)) ≡ some x
@@ -170,5 +185,5 @@ module _ (n files : ℕ) where
         let q = wrote n files m r (decide a c) tt place (some-is e) in
         let z : fateOf (agrees n files m r (decide a c) .log) a ≡ verdict c = rw (q .log, q .writes) (outcome-fate a c (r .log)) in
         let f : fateOf (late m r (decide a c) tt .log) a ≡ verdict c = extended m r (decide a c) tt .fates a (rw z (verdict-decided c)) ∙ z in
-        told-fate (runs (after (on m) (calls (decide a c))) es) (late m r (decide a c) tt) a x (rw f (omega (arith, verdict-decided c))) h ∙ ap (λ x. Told (fateNumber x)) f
+        hears-fate (runs (after (on m) (calls (decide a c))) es) (late m r (decide a c) tt) a x (rw f (omega (arith, verdict-decided c))) h ∙ ap (λ x. Told (fateNumber x)) f
     box-decided (off s) r a c e h = not-heard e

@@ -24,13 +24,14 @@ use Rattle.recovery.proofs.Pages.{page-at-place}
 use Rattle.calls.specs.Leaves.{packedEntry, withPage, grown}
 use Rattle.calls.specs.Cuts.{mixed, storedOf}
 use Rattle.recovery.proofs.Spots.{entryIn, entry-top, entry-down}
-use Rattle.promises.proofs.logs.Logs.{Fits}
+use Rattle.recovery.proofs.LogFates.{undecided-known}
+use Rattle.promises.proofs.logs.Logs.{known-place, opening-at, Fits}
 use Rattle.promises.proofs.worlds.Openings.{Holds}
 use Rattle.promises.proofs.bytes.Mixed.{mixed-long, mixed-all, mixed-same}
 use Rattle.promises.proofs.bytes.Cuts.{holds-put}
 use Rattle.promises.proofs.bytes.Replaced.{replaced-long, replaced-here, unsealed, bad-blank, bad-opening, decoded-other, pages-replaced}
 use Rattle.promises.proofs.bytes.Stored.{bytesOf, partial, Fitting, entry-long, partly-stored}
-use Rattle.promises.proofs.bytes.Appended.{live-place, live-opening, FitStep, fit-stay, fit-add}
+use Rattle.promises.proofs.bytes.Appended.{FitStep, fit-stay, fit-add}
 use Rattle.promises.specs.Runs.{Ordered}
 
 -- a sheet is determined by its size and its log
@@ -87,9 +88,9 @@ module _ (files n : ℕ) (s : List ℕ) (l : List Entry) (h : Holds (pages files
   live-decoded : (a : ℕ) → fateOf l a ≡ undecided → decoded files s a ≡ opening
   unfolding sealed
   live-decoded a e =
-      let p = live-place l a (h .lawful) e in
+      let p = known-place l a (h .lawful) (undecided-known e) in
       unsealed (decoded files s) (decoded files s a) opening bad-opening
-      (sym (page-at-place files n s a (p .0) (omega (arith, p .1, h .room))) ∙ sym (entry-down (pages files n s) (length l) a (p .1)) ∙ ap (λ l. entryIn l a) (h .log) ∙ live-opening l a (h .lawful) e)
+      (sym (page-at-place files n s a (p .0) (omega (arith, p .1, h .room))) ∙ sym (entry-down (pages files n s) (length l) a (p .1)) ∙ ap (λ l. entryIn l a) (h .log) ∙ opening-at l a (h .lawful) (undecided-known e))
 
   module _ (room : length l < n) where
     page-zero : pageBytes s (suc (length l)) ≡ replicate pageSize 0
@@ -100,7 +101,7 @@ module _ (files n : ℕ) (s : List ℕ) (l : List Entry) (h : Holds (pages files
 
     live : (x : List ℕ) → length x ≡ pageSize → (a : ℕ) → fateOf l a ≡ undecided → decoded files (withPage s (length l) x) a ≡ opening
     live x k a e =
-        decoded-other files n s (length l) x long room k (λ p q r. h .clean p q) a (λ q. omega (arith, live-place l a (h .lawful) e .1)) ∙ live-decoded a e
+        decoded-other files n s (length l) x long room k (λ p q r. h .clean p q) a (λ q. omega (arith, known-place l a (h .lawful) (undecided-known e) .1)) ∙ live-decoded a e
 
     seal-new : (x : List ℕ) (g : Entry) → length x ≡ pageSize → Fits g l → seal (decoded files (withPage s (length l) x)) g ≡ g
     seal-new x blank k f = refl

@@ -10,9 +10,10 @@ use lib.Dec.{eqb}
 use borrow.Author.Tests.{eqb-true}
 use Rattle.encoding.proofs.Logic.{by-test}
 use Rattle.recovery.specs.Log.{Image, Entry, blank, torn, bad, opening, image, outcome, Fate, unknown, undecided, committed, aborted, Placed, fateOf, imagesOf, versionsStep, tokenStep, versionsOf, currentOf, tokenOf, placeOf, startOf}
-use Rattle.recovery.proofs.LogFates.{undecided-known, All, versions-keep}
+use Rattle.recovery.proofs.LogFates.{undecided-known, All, all-keeps, versions-keep}
 use Rattle.recovery.proofs.Spots.{Spots, spots, Lies, current-of-lies}
-use Rattle.promises.proofs.logs.Logs.{ImageFits, Fits, Lawful, Known, Decided, Keeps, fate-keeps, fate-knows}
+use Rattle.inspection.proofs.LawfulLogs.{free-decided, good}
+use Rattle.promises.proofs.logs.Logs.{lawful-test, ImageFits, Fits, Lawful, Known, Keeps, fate-keeps, fate-knows}
 
 -- an image above a file's versions: linked to the newest, above it and starting later
 pub record Above (x : Placed) (vs : List Placed) : Type 0 where
@@ -43,25 +44,12 @@ versions-ordered φ (x ∷ xs) h = go (φ (x .image .action)) (versions-ordered 
 
 module _ (φ ψ : ℕ → Fate) (k : Keeps φ ψ) where
   pub decided-keeps : (xs : List Placed) → All 2 φ xs → All 2 ψ xs
-  decided-keeps [] h = tt
-  decided-keeps (x ∷ xs) h = (rw (k (x .image .action) (h .0)) (h .0), decided-keeps xs (h .1))
+  decided-keeps xs h = all-keeps 2 φ ψ (λ a d. rw (k a d) d) xs h
 
   pub token-keeps : (xs : List Placed) → All 2 φ xs → tokenOf ψ xs ≡ tokenOf φ xs
   unfolding tokenOf
   token-keeps [] h = refl
   token-keeps (x ∷ xs) h = rw (k (x .image .action) (h .0), token-keeps xs (h .1))
-
--- where there is no token, all are decided
-pub free-decided : (φ : ℕ → Fate) (xs : List Placed) → Chain φ xs → tokenOf φ xs ≡ none → All 2 φ xs
-unfolding tokenOf
-free-decided φ [] h e = tt
-free-decided φ (x ∷ xs) h e = (go (φ (x .image .action)) (h .0) e, h .2)
-  where
-    go : (y : Fate) → Known y → tokenStep y x (tokenOf φ xs) ≡ none → Decided y
-    go unknown d q = absurd (omega arith)
-    go undecided d q = absurd (Option·some-ne-none _ q)
-    go committed d q = omega arith
-    go aborted d q = omega arith
 
 pub chain-keeps : (φ ψ : ℕ → Fate) → Keeps φ ψ → ((a : ℕ) → Known (φ a) → Known (ψ a)) → (xs : List Placed) → Chain φ xs → Chain ψ xs
 chain-keeps φ ψ k n [] h = tt
@@ -78,16 +66,16 @@ current-high φ l f xs h = low-place l f (currentOf φ xs) (current-of-lies l f 
 chain-same : (g : Entry) (l : List Entry) (f : ℕ) → Fits g l → Lawful l → Chain (fateOf l) (imagesOf l f) → Chain (fateOf (g ∷ l)) (imagesOf l f)
 chain-same g l f h w = chain-keeps (fateOf l) (fateOf (g ∷ l)) (fate-keeps g l h w) (fate-knows g l) (imagesOf l f)
 
-chain-image : (i : Image) (l : List Entry) (f : ℕ) → ImageFits i l → i .file ≡ f → Chain (fateOf l) (imagesOf l f)
+chain-image : (i : Image) (l : List Entry) (f : ℕ) → ImageFits i l → Lawful l → i .file ≡ f → Chain (fateOf l) (imagesOf l f)
     → Chain (fateOf l) (record { place = suc (length l); image = i } ∷ imagesOf l f)
-chain-image i l f h e r = (
+chain-image i l f h w e r = (
   undecided-known (h .live),
   record {
     links = rw (← e) (h .links);
     higher = omega (arith, current-high (fateOf l) l f (imagesOf l f) (spots l f));
     later = rw (← e) (h .later);
   },
-  free-decided (fateOf l) (imagesOf l f) r (rw (← e) (h .free)),
+  free-decided (fateOf l) (imagesOf l f) (good l f (lawful-test l w)) (rw (← e, h .free)),
   r,
 )
 
@@ -100,7 +88,7 @@ chain (bad ∷ l) f w = absurd (w .0)
 chain (opening ∷ l) f w = chain-same opening l f tt (w .1) (chain l f (w .1))
 chain (outcome b c ∷ l) f w = chain-same (outcome b c) l f (w .0) (w .1) (chain l f (w .1))
 chain (image i ∷ l) f w = by-test (Chain (fateOf l)) (eqb (i .file) f)
-    (λ e. chain-image i l f (w .0) (eqb-true (i .file) f e) (chain l f (w .1)))
+    (λ e. chain-image i l f (w .0) (w .1) (eqb-true (i .file) f e) (chain l f (w .1)))
     (λ e. chain l f (w .1))
 
 -- a token's action is undecided

@@ -20,6 +20,10 @@ from-number undecided = refl
 from-number committed = refl
 from-number aborted = refl
 
+-- fates with the same number are the same
+pub same-fate : {x y : Fate} → fateNumber x ≡ fateNumber y → x ≡ y
+same-fate {x} {y} e = sym (from-number x) ∙ ap fateFrom e ∙ from-number y
+
 fate-in : (n : ℕ) (l : List Entry) (a : ℕ) → Lawful l → length l ≤ n → fateIn (fatesOf n l) a ≡ fateOf l a
 fate-in n l zero w h = sym (fate-zero l w)
 fate-in n l (suc k) w h = go (leb (suc k) n) refl

@@ -12,9 +12,10 @@ use Rattle.encoding.proofs.Logic.{by-test, and-true}
 use Rattle.recovery.specs.Log.{Image, Entry, blank, torn, bad, opening, image, outcome, Fate, unknown, undecided, committed, aborted, Placed, verdict, fateOf, placeOf, startOf}
 use Rattle.recovery.specs.World.{fateNumber}
 use Rattle.recovery.proofs.LogFates.{undecided-is}
+use Rattle.recovery.proofs.Spots.{entryIn}
 use Rattle.inspection.specs.Lawful.{current, token, isNone, fitsBelow, lawful}
 use Rattle.inspection.proofs.LowestUnlawful.{lawful-parts, lawful-more, lawful-none}
-use Rattle.inspection.proofs.LawfulLogs.{fate-place}
+use Rattle.inspection.proofs.LawfulLogs.{fate-place, fate-opens}
 use Rattle.inspection.proofs.LawfulLogs as lawfulLogs
 
 -- ---- lawful, as a type: a page fits the log below it, and so does every page of a lawful log
@@ -100,6 +101,10 @@ not-unknown x h e = let z : 1 ≤ 0 = rw e at h in absurd (omega arith)
 -- a known action has a place in the log: none is known at place 0 or above the log
 pub known-place : (l : List Entry) (a : ℕ) → Lawful l → Known (fateOf l a) → (1 ≤ a) × (a ≤ length l)
 known-place l a w h = fate-place l a (lawful-test l w) h
+
+-- which is that of its opening
+pub opening-at : (l : List Entry) (a : ℕ) → Lawful l → Known (fateOf l a) → entryIn l a ≡ opening
+opening-at l a w h = fate-opens l a (lawful-test l w) h
 
 none-known : (x : Fate) → (Known x → ⊥) → x ≡ unknown
 none-known unknown h = refl

@@ -32,7 +32,7 @@ pub sim-holds : (w : World) (l : List Entry) (m : Model) → Sim w l m → Holds
 sim-holds w l m s = record { long = s .long; lawful = s .lawful; room = s .room; log = rw (← s .ends) (s .log); clean = λ p h. s .clean p (omega (arith, s .ends)) }
 
 -- the end of a sheet is where its log ends
-top-solid : (l : List Entry) → Lawful l → 1 ≤ length l → isBlank (entryIn l (length l)) ≡ false
+pub top-solid : (l : List Entry) → Lawful l → 1 ≤ length l → isBlank (entryIn l (length l)) ≡ false
 top-solid [] w h = absurd (omega arith)
 top-solid (blank ∷ l) w h = absurd (w .0)
 top-solid (torn ∷ l) w h = rw (entry-top torn l)
