@@ -28,7 +28,7 @@ pub fn begin(sheet: &mut [u8], fates: &mut [u8], rows: &[u64], state: State) -> 
     }
     let place = end + 1;
     let page = Page::opening(place);
-    append(sheet, end, files, page, &[0u8; 32]);
+    append(sheet, end, files, page, &[0u8; Page::VALUE_SIZE]);
     fates[end as usize] = 1;
     Done {
         answer: Answer::Stored(place),

@@ -175,7 +175,7 @@ fn decide(
     };
     settle_rows(&sheet[..], rows, end, files, decision);
     let page = outcome_page(action, committed);
-    append(sheet, end, files, page, &[0u8; 32]);
+    append(sheet, end, files, page, &[0u8; Page::VALUE_SIZE]);
     fates[action as usize - 1] = outcome_fate(committed);
     Done {
         answer: Answer::Stored(end + 1),

@@ -30,11 +30,11 @@ ghost use Rattle.calls.specs.LineSteps.{actionLine};
 ghost use Rattle.calls.specs.ReadSteps.{storeAnswer, writeAnswer, written};
 
 // A value and zeros after it.
-fn pad(value: &[u8]) -> [u8; 32]
+fn pad(value: &[u8]) -> [u8; Page::VALUE_SIZE]
     requires { ⌜ length (now value) ≤ valueSize ⌝ }
     ensures { λ r. ⌜ r ≡ padded (now (value .entry)) ⌝ }
 {
-    let mut bytes = [0u8; 32];
+    let mut bytes = [0u8; Page::VALUE_SIZE];
     let mut i = 0;
     while i < value.len() {
         bytes[i] = value[i];
@@ -145,7 +145,7 @@ pub fn write(
     if !has_file(rows.len(), file) {
         return refuse(3, state);
     }
-    if Page::VALUE_SIZE < value.len() as u64 {
+    if Page::VALUE_SIZE < value.len() {
         return refuse(4, state);
     }
     let line = action_line(fates, state.end, action);

@@ -4,6 +4,7 @@ use mathlib.Core.List.{List, [], _∷_}
 use mathlib.Core.Bool.{Bool, true, false, _&&_, cond}
 use lib.ListN.{length}
 use lib.Dec.{eqb, ltb, leb}
+use Rattle.page.specs.Layout.{pageSize}
 use Rattle.encoding.specs.Bytes.{same}
 use Rattle.calls.specs.declared.making.Call.the-variants.{Begin, Write, Read, Test, Commit, Abort}
 use Rattle.commands.specs.declared.parsing.Command.{Command}
@@ -67,7 +68,7 @@ withOne size w (Is n) =
     cond (same w testName) (Call (Test n) size)
     (cond (same w commitName) (Call (Commit n) size)
     (cond (same w abortName) (Call (Abort n) size)
-    (cond (same w cutName && leb n 64) (Cut n) What)))
+    (cond (same w cutName && leb n pageSize) (Cut n) What)))
 withOne size w Not = What
 
 -- `open FILES FLOOR`
@@ -95,6 +96,10 @@ commandOf size (w ∷ a ∷ b ∷ c ∷ []) = withThree size w (three (numberOf 
 commandOf size (w ∷ a ∷ b ∷ c ∷ t ∷ []) = withText size w (three (numberOf a) (numberOf b) (numberOf c)) t
 commandOf size (w ∷ a ∷ b ∷ c ∷ t ∷ x ∷ ws) = What
 
--- the command that a line is; one of more than 255 bytes is none
+-- the longest line that is taken
+abbrev pub longest : ℕ
+longest = 255
+
+-- the command that a line is; a longer one is none
 unfoldable pub parsed : List ℕ → Command
-parsed line = cond (ltb 255 (length line)) What (commandOf (length line) (words line))
+parsed line = cond (ltb longest (length line)) What (commandOf (length line) (words line))

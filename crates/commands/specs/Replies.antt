@@ -4,6 +4,7 @@ use mathlib.Core.List.{List, [], _∷_, _++_}
 use mathlib.Core.Bool.{_||_, cond}
 use lib.ListN.{length, drop}
 use lib.Dec.{ltb}
+use Rattle.page.specs.Layout.{valueSize}
 use Rattle.commands.specs.declared.printing.Reply.{Reply}
 use Rattle.commands.specs.declared.printing.Reply.the-variants.{What, Closed, Lost, Cut, Opened, Begun, Written, Shown, Nothing, Told, Committed, Aborted, No}
 use Rattle.commands.specs.Names.{openName, beginName, writeName, readName, testName, commitName, abortName, cutName, whatName, closedName, lostName, noneName, noName}
@@ -44,6 +45,10 @@ printed (No number place) value = noName ++ spaced number ++ spaced place ++ new
 abbrev pub laid : List ℕ → List ℕ → ℕ × List ℕ
 laid line out = (length line, line ++ drop (length line) out)
 
--- what `print` answers, and what it leaves of the run: nothing is printed of a value above 32 bytes, or into less than 128 bytes
+-- room for the longest line
+abbrev pub room : ℕ
+room = 128
+
+-- what `print` answers, and what it leaves of the run: nothing is printed of a value that is too long, or into less room
 unfoldable pub prints : Reply → List ℕ → List ℕ → ℕ × List ℕ
-prints reply value out = cond (ltb (length out) 128 || ltb 32 (length value)) (0, out) (laid (printed reply value) out)
+prints reply value out = cond (ltb (length out) room || ltb valueSize (length value)) (0, out) (laid (printed reply value) out)

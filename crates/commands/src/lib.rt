@@ -5,5 +5,6 @@ mod printing;
 pub use parsing::Command;
 pub use parsing::LONGEST;
 pub use parsing::parse;
+pub use printing::ROOM;
 pub use printing::Reply;
 pub use printing::print;

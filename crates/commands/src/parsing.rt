@@ -1,6 +1,7 @@
 // A line of input to a command, as `specs/Commands.antt` says it.
 use calls::Call;
 use encoding::byte_at;
+use page::Page;
 ghost use mathlib.Core.Path.{_≡_};
 ghost use Prim.Native.Nat.{suc, _+_, _≤_};
 ghost use mathlib.Core.List.{[]};
@@ -189,7 +190,7 @@ fn alone(size: usize, w: &[u8]) -> Command
 }
 
 // A cut is after no more bytes than a page has.
-const MOST_CUT: u64 = 64;
+const MOST_CUT: u64 = Page::SIZE as u64;
 
 // A word and a number.
 fn with_one(size: usize, w: &[u8], number: Number) -> Command

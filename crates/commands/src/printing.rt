@@ -1,10 +1,12 @@
 // A reply to its line, as `specs/Replies.antt` says it.
 use encoding::copy;
+use page::Page;
 ghost use mathlib.Core.Path.{_≡_};
 ghost use Prim.Native.Nat.{_+_, _≤_, _<_};
 ghost use mathlib.Core.List.{[], _∷_, _++_};
 ghost use lib.ListN.{length};
-ghost use Rattle.commands.specs.Replies.{decimal, spaced, newline, printed, prints};
+ghost use Rattle.page.specs.Layout.{valueSize};
+ghost use Rattle.commands.specs.Replies.{decimal, spaced, newline, printed, room, prints};
 ghost use Rattle.commands.specs.Names.{readName};
 ghost use Rattle.commands.specs.PrintSteps.{Put};
 
@@ -75,7 +77,7 @@ fn put_spaced(out: &mut [u8], at: usize, x: u64) -> usize
 
 // A line that is a word, and one that is a word and a number, or two.
 fn put_word(out: &mut [u8], word: &[u8]) -> usize
-    requires { ⌜ (128 ≤ length (now out)) × (length (now word) ≤ 6) ⌝ }
+    requires { ⌜ (room ≤ length (now out)) × (length (now word) ≤ 6) ⌝ }
     ensures { λ r. ⌜ Put 0 (now (word .entry) ++ newline) (now (out .entry)) (now (out .exit)) r ⌝ }
 {
     let a = put_run(out, 0, word);
@@ -83,7 +85,7 @@ fn put_word(out: &mut [u8], word: &[u8]) -> usize
 }
 
 fn put_one(out: &mut [u8], word: &[u8], x: u64) -> usize
-    requires { ⌜ (128 ≤ length (now out)) × (length (now word) ≤ 6) ⌝ }
+    requires { ⌜ (room ≤ length (now out)) × (length (now word) ≤ 6) ⌝ }
     ensures { λ r. ⌜ Put 0 (now (word .entry) ++ spaced x ++ newline) (now (out .entry)) (now (out .exit)) r ⌝ }
 {
     let a = put_run(out, 0, word);
@@ -92,7 +94,7 @@ fn put_one(out: &mut [u8], word: &[u8], x: u64) -> usize
 }
 
 fn put_two(out: &mut [u8], word: &[u8], x: u64, y: u64) -> usize
-    requires { ⌜ (128 ≤ length (now out)) × (length (now word) ≤ 6) ⌝ }
+    requires { ⌜ (room ≤ length (now out)) × (length (now word) ≤ 6) ⌝ }
     ensures { λ r. ⌜ Put 0 (now (word .entry) ++ spaced x ++ spaced y ++ newline) (now (out .entry)) (now (out .exit)) r ⌝ }
 {
     let a = put_run(out, 0, word);
@@ -103,7 +105,7 @@ fn put_two(out: &mut [u8], word: &[u8], x: u64, y: u64) -> usize
 
 // The line of a read that shows a value.
 fn put_shown(out: &mut [u8], place: u64, start: u64, value: &[u8]) -> usize
-    requires { ⌜ (128 ≤ length (now out)) × (length (now value) ≤ 32) ⌝ }
+    requires { ⌜ (room ≤ length (now out)) × (length (now value) ≤ valueSize) ⌝ }
     ensures { λ r. ⌜ Put 0 (readName ++ spaced place ++ spaced start ++ (32 ∷ now (value .entry)) ++ newline) (now (out .entry)) (now (out .exit)) r ⌝ }
 {
     let a = put_run(out, 0, b"read");
@@ -116,7 +118,7 @@ fn put_shown(out: &mut [u8], place: u64, start: u64, value: &[u8]) -> usize
 
 // The line of a reply, where there is room for it.
 fn put_reply(reply: Reply, value: &[u8], out: &mut [u8]) -> usize
-    requires { ⌜ (128 ≤ length (now out)) × (length (now value) ≤ 32) ⌝ }
+    requires { ⌜ (room ≤ length (now out)) × (length (now value) ≤ valueSize) ⌝ }
     ensures { λ r. ⌜ Put 0 (printed reply (now (value .entry))) (now (out .entry)) (now (out .exit)) r ⌝ }
 {
     match reply {
@@ -136,10 +138,8 @@ fn put_reply(reply: Reply, value: &[u8], out: &mut [u8]) -> usize
     }
 }
 
-// Room for the longest line, and the longest value.
-const ROOM: usize = 128;
-
-const VALUE: usize = 32;
+// Room for the longest line.
+pub const ROOM: usize = 128;
 
 // Puts the line of a reply, with its newline, at the beginning of a run, and answers its length.
 pub fn print(reply: Reply, value: &[u8], out: &mut [u8]) -> usize
@@ -148,7 +148,7 @@ pub fn print(reply: Reply, value: &[u8], out: &mut [u8]) -> usize
     if out.len() < ROOM {
         return 0;
     }
-    if VALUE < value.len() {
+    if Page::VALUE_SIZE < value.len() {
         return 0;
     }
     put_reply(reply, value, out)

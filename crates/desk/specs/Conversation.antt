@@ -1,5 +1,5 @@
 -- What a command does to the desk, and the reply. The calls are those of the store, and a cut leaves what a cut leaves of them.
-use Prim.Native.Nat.{ℕ, _*_}
+use Prim.Native.Nat.{ℕ, suc, _*_}
 use mathlib.Core.List.{List, _++_}
 use mathlib.Core.Bool.{Bool, true, false, cond, not, _&&_}
 use lib.ListN.{length, take, drop}
@@ -35,7 +35,7 @@ pub record After : Type 0 where
 
 -- no cut is waiting: above the bytes of a page
 abbrev pub noCut : ℕ
-noCut = 65
+noCut = suc pageSize
 
 -- the call is answered
 abbrev pub answered : Desk → Call → Left → After

@@ -8,9 +8,7 @@ ghost use lib.ListN.{length};
 ghost use Rattle.page.specs.Answers.{packNumber, fieldList};
 ghost use Rattle.desk.specs.Exports.{fieldCount, fieldsGiven, packedFor, testedFor, inspectedFor};
 
-// The bytes of a value, and the fields from kind to start.
-const VALUE: usize = 32;
-
+// The fields from kind to start.
 const FIELDS: usize = 6;
 
 // What inspection answers for a sheet or a file count that it refuses: above every place.
@@ -42,10 +40,10 @@ pub extern "C" fn desk_pack(
 ) -> u64
     ensures { λ r. ⌜ (r, now (out .exit)) ≡ packedFor (record { kind = kind; small = small; file = file; action = action; link = link; start = start }) (now (value .entry)) place files (now (out .entry)) ⌝ }
 {
-    if value.len() != VALUE {
+    if value.len() != Page::VALUE_SIZE {
         return 1;
     }
-    let mut bytes = [0u8; VALUE];
+    let mut bytes = [0u8; Page::VALUE_SIZE];
     encoding::copy(&mut bytes, value);
     let page = Page {
         kind,

@@ -55,7 +55,7 @@ pub(crate) fn open_reply(numbers: [u64; 5]) -> Reply
 }
 
 // The value's 32 bytes of the page at a place, zeros where the sheet has no such place.
-fn value_at(sheet: &[u8], place: u64) -> [u8; 32]
+fn value_at(sheet: &[u8], place: u64) -> [u8; Page::VALUE_SIZE]
     ensures { λ r. ⌜ r ≡ valueIn (pageBytes (now (sheet .entry)) place) ⌝ }
 {
     Page::value(part_at(sheet, place))
@@ -69,7 +69,7 @@ pub(crate) fn tell(sheet: &[u8], reply: Reply, out: &mut [u8]) -> usize
         return print(reply, b"", out);
     };
     let value = value_at(sheet, place);
-    if Page::VALUE_SIZE <= size {
+    if Page::VALUE_SIZE as u64 <= size {
         return print(reply, &value, out);
     }
     let n = size as usize;

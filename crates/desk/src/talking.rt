@@ -44,11 +44,11 @@ pub struct Said {
 // The program's sheet: its pages, its bytes, and the numbers of the rows of as many files as there can be.
 pub const PAGES: usize = 256;
 
-pub const SHEET: usize = 16384;
+pub const SHEET: usize = PAGES * Page::SIZE;
 
-pub const ROWS: usize = 1280;
+pub const ROWS: usize = ROW_LENGTH * (Page::MOST_FILES as usize);
 
-pub(crate) const NO_CUT: u64 = 65;
+pub(crate) const NO_CUT: u64 = Page::SIZE as u64 + 1;
 
 pub(crate) fn no_state() -> State
     ensures { λ r. ⌜ r ≡ closed ⌝ }

@@ -22,7 +22,7 @@ arrays fates newest below = record { fates = fates; newest = newest; below = bel
 
 -- three numbers a file, from file 0 on
 abbrev pub slotNumbers : ℕ
-slotNumbers = 771
+slotNumbers = 3 * suc mostFiles
 
 unfoldable pub slotAt : List ℕ → ℕ → Slot
 slotAt l f = record { place = getD l (3 * f) 0; action = getD l (3 * f + 1) 0; start = getD l (3 * f + 2) 0 }

@@ -4,6 +4,7 @@ use crate::Inspected;
 use crate::is_inspectable;
 use page::Page;
 use page::Unpacked;
+use recovery::FEW_PAGES;
 use recovery::is_blank_at;
 use recovery::page_at;
 ghost use mathlib.Core.Path.{_≡_};
@@ -13,6 +14,7 @@ ghost use lib.Dec.{leb};
 ghost use Rattle.page.specs.Layout.{pageSize, mostPlaces, mostFiles};
 ghost use Rattle.recovery.specs.World.{down, endOf};
 ghost use Rattle.recovery.specs.Lent.{pagesOf};
+ghost use Rattle.recovery.specs.Steps.{fewPages};
 ghost use Rattle.inspection.specs.Lawful.{lowestUnlawful};
 ghost use Rattle.inspection.specs.Inspected.{inspected};
 ghost use Rattle.inspection.specs.ClimbSteps.{slotNumbers, arrays, LongEnough, Zeroed, slotAt, putSlot, versionIn, imageFitsIn, pageFitsIn, keepImage, keepPage, FileInRange, InRange};
@@ -25,10 +27,7 @@ struct Slot {
 }
 
 // How many numbers the slots of every file take, three a file from file 0 on.
-const SLOT_NUMBERS: usize = 771;
-
-// A sheet of at most so many pages is small.
-const MOST_SMALL: u64 = 1024;
+const SLOT_NUMBERS: usize = 3 * (Page::MOST_FILES as usize + 1);
 
 // The image kept of a file.
 fn get_slot(slots: &[u64], file: u64) -> Slot
@@ -177,10 +176,10 @@ fn climb(
 
 // The climb on a small sheet.
 fn climb_small(sheet: &[u8], files: u64, pages: u64) -> u64
-    requires { ⌜ (pages ≤ 1024) × (pages ≡ length (now sheet) / pageSize) ⌝ }
+    requires { ⌜ (pages ≤ fewPages) × (pages ≡ length (now sheet) / pageSize) ⌝ }
     ensures { λ r. ⌜ r ≡ lowestUnlawful (down (pagesOf (now (sheet .entry)) files) pages) ⌝ }
 {
-    let mut fates = [0u8; 1025];
+    let mut fates = [0u8; FEW_PAGES + 1];
     let mut newest = [0u64; SLOT_NUMBERS];
     let mut below = [0u64; SLOT_NUMBERS];
     climb(sheet, files, pages, &mut fates, &mut newest, &mut below)
@@ -191,7 +190,7 @@ fn climb_large(sheet: &[u8], files: u64, pages: u64) -> u64
     requires { ⌜ (pages ≤ mostPlaces) × (pages ≡ length (now sheet) / pageSize) ⌝ }
     ensures { λ r. ⌜ r ≡ lowestUnlawful (down (pagesOf (now (sheet .entry)) files) pages) ⌝ }
 {
-    let mut fates = [0u8; 65537];
+    let mut fates = [0u8; Page::MOST_PLACES as usize + 1];
     let mut newest = [0u64; SLOT_NUMBERS];
     let mut below = [0u64; SLOT_NUMBERS];
     climb(sheet, files, pages, &mut fates, &mut newest, &mut below)
@@ -202,7 +201,7 @@ fn climb_sheet(sheet: &[u8], files: u64, pages: u64) -> u64
     requires { ⌜ (pages ≤ mostPlaces) × (pages ≡ length (now sheet) / pageSize) ⌝ }
     ensures { λ r. ⌜ r ≡ lowestUnlawful (down (pagesOf (now (sheet .entry)) files) pages) ⌝ }
 {
-    if pages <= MOST_SMALL {
+    if pages <= FEW_PAGES as u64 {
         return climb_small(sheet, files, pages);
     }
     climb_large(sheet, files, pages)

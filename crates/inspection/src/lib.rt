@@ -18,7 +18,7 @@ fn is_inspectable(size: usize, files: u64) -> bool
 {
     (size % Page::SIZE == 0)
         & (Page::SIZE <= size)
-        & (size <= 65536 * Page::SIZE)
+        & (size <= Page::MOST_PLACES as usize * Page::SIZE)
         & (1 <= files)
         & (files <= Page::MOST_FILES)
 }

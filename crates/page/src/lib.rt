@@ -135,7 +135,7 @@ impl Page {
 
     pub const END_MARK: u64 = 0xA5;
 
-    pub const VALUE_SIZE: u64 = 32;
+    pub const VALUE_SIZE: usize = Page::PLACE - Page::VALUE;
 
     pub const MOST_PLACES: u64 = 65536;
 
@@ -204,7 +204,8 @@ impl Page {
         }
         let below = place - 1;
         if kind == 2 {
-            return Page::image(Page::VALUE_SIZE, files, below, below, 0xffff_ffff_ffff_ffff);
+            let size = Page::VALUE_SIZE as u64;
+            return Page::image(size, files, below, below, 0xffff_ffff_ffff_ffff);
         }
         Page::outcome(below, 2)
     }
@@ -411,7 +412,13 @@ impl Page {
     }
 
     // Writes the page of these fields and this value into the 64 bytes lent, or leaves them as they are.
-    pub fn pack(self, value: &[u8; 32], place: u64, files: u64, out: &mut [u8]) -> Packing
+    pub fn pack(
+        self,
+        value: &[u8; Page::VALUE_SIZE],
+        place: u64,
+        files: u64,
+        out: &mut [u8],
+    ) -> Packing
         ensures { λ r. ⌜ (r, now (out .exit)) ≡ packs self (now (value .entry)) place files (now (out .entry)) ⌝ }
     {
         if !is_in_bounds(out.len(), place, files) {
@@ -425,10 +432,10 @@ impl Page {
     }
 
     // The value's 32 bytes, zeros where the part is not a page's size.
-    pub fn value(part: &[u8]) -> [u8; 32]
+    pub fn value(part: &[u8]) -> [u8; Page::VALUE_SIZE]
         ensures { λ r. ⌜ r ≡ valueIn (now (part .entry)) ⌝ }
     {
-        let mut v = [0u8; 32];
+        let mut v = [0u8; Page::VALUE_SIZE];
         if part.len() != Page::SIZE {
             return v;
         }

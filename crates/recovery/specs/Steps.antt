@@ -19,6 +19,10 @@ use Rattle.recovery.specs.declared.State.{State}
 use Rattle.recovery.specs.declared.Done.{Done}
 use Rattle.recovery.specs.declared.Answer.the-variants.{Refused}
 
+-- a sheet of at most so many pages is small
+abbrev pub fewPages : ℕ
+fewPages = 1024
+
 abbrev pub hasPlace : List ℕ → ℕ → Bool
 hasPlace s place = leb 1 place && leb place (length s / pageSize)
 

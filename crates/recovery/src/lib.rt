@@ -7,7 +7,6 @@ mod rebuilding;
 mod rolling;
 mod rows;
 
-pub use lookup::counted_fate;
 pub use lookup::fate_at;
 pub use lookup::image_at;
 pub use lookup::is_blank_at;
@@ -22,8 +21,6 @@ pub use rebuilding::rebuild;
 pub use rebuilding::rebuilt_row;
 pub use rebuilding::row_holds_by;
 pub use rebuilding::warm_row;
-pub use rolling::later;
-pub use rolling::raise;
 pub use rolling::raised_row;
 pub use rows::file_count;
 pub use rows::has_file;
@@ -71,8 +68,11 @@ pub struct Done {
 // How many numbers of the lent run a row has.
 pub const ROW_LENGTH: usize = 5;
 
+// A sheet of at most so many pages is small: arrays for its pages are sooner cleared.
+pub const FEW_PAGES: usize = 1024;
+
 // Line 1, by the lengths of sheet, fates and rows.
-pub fn is_sized(size: usize, fates: usize, numbers: usize) -> bool
+pub(crate) fn is_sized(size: usize, fates: usize, numbers: usize) -> bool
     ensures { λ r. ⌜ r ≡ sizesRight size fates numbers ⌝ }
 {
     let pages = size / Page::SIZE;

@@ -2,6 +2,7 @@
 // refused opening leaves those that are lent.
 use crate::Answer;
 use crate::Done;
+use crate::FEW_PAGES;
 use crate::State;
 use crate::is_sized;
 use crate::rows::file_count;
@@ -15,6 +16,7 @@ ghost use lib.ListN.{length, replicate};
 ghost use Rattle.page.specs.Layout.{pageSize, mostPlaces};
 ghost use Rattle.recovery.specs.World.{undecidedOf};
 ghost use Rattle.recovery.specs.Lent.{sizesRight, leftBy, openLeaves};
+ghost use Rattle.recovery.specs.Steps.{fewPages};
 ghost use Rattle.recovery.specs.OpenSteps.{Bounded, good, stepped, Scanned, refusedOpening};
 
 // What the pass has found so far: the end, and the highest bad place up to it, 0 if there is none.
@@ -163,12 +165,12 @@ fn open_with(sheet: &[u8], fates: &mut [u8], rows: &mut [u64], floor: u64, kept:
     }
 }
 
-// With room for up to 1,024 pages: a small array is sooner cleared.
+// With room for a small sheet.
 fn open_few(sheet: &[u8], fates: &mut [u8], rows: &mut [u64], floor: u64) -> Done
-    requires { ⌜ (sizesRight (length (now sheet)) (length (now fates)) (length (now rows)) ≡ true) × (length (now fates) ≤ 1024) ⌝ }
+    requires { ⌜ (sizesRight (length (now sheet)) (length (now fates)) (length (now rows)) ≡ true) × (length (now fates) ≤ fewPages) ⌝ }
     ensures { λ r. ⌜ leftBy r (now (sheet .entry)) (now (fates .exit)) (now (rows .exit)) ≡ openLeaves (now (sheet .entry)) (now (fates .entry)) (now (rows .entry)) floor ⌝ }
 {
-    let mut kept = [0u8; 1024];
+    let mut kept = [0u8; FEW_PAGES];
     let pages = fates.len();
     open_with(sheet, fates, rows, floor, &mut kept[0..pages])
 }
@@ -178,7 +180,7 @@ fn open_many(sheet: &[u8], fates: &mut [u8], rows: &mut [u64], floor: u64) -> Do
     requires { ⌜ sizesRight (length (now sheet)) (length (now fates)) (length (now rows)) ≡ true ⌝ }
     ensures { λ r. ⌜ leftBy r (now (sheet .entry)) (now (fates .exit)) (now (rows .exit)) ≡ openLeaves (now (sheet .entry)) (now (fates .entry)) (now (rows .entry)) floor ⌝ }
 {
-    let mut kept = [0u8; 65536];
+    let mut kept = [0u8; Page::MOST_PLACES as usize];
     let pages = fates.len();
     open_with(sheet, fates, rows, floor, &mut kept[0..pages])
 }
@@ -190,7 +192,7 @@ pub fn open(sheet: &[u8], fates: &mut [u8], rows: &mut [u64], floor: u64) -> Don
     if !is_sized(sheet.len(), fates.len(), rows.len()) {
         return refuse(1, 0);
     }
-    if fates.len() <= 1024 {
+    if fates.len() <= FEW_PAGES {
         return open_few(sheet, fates, rows, floor);
     }
     open_many(sheet, fates, rows, floor)

@@ -5,7 +5,7 @@ ghost use Prim.Native.Nat.{max};
 ghost use Rattle.recovery.specs.RollSteps.{raised};
 
 // The later of two times.
-pub fn later(a: u64, b: u64) -> u64
+fn later(a: u64, b: u64) -> u64
     ensures { λ r. ⌜ r ≡ max a b ⌝ }
 {
     if a < b {
@@ -15,7 +15,7 @@ pub fn later(a: u64, b: u64) -> u64
 }
 
 // Raises the ends of a lent row: the current one to at least `current`, the token's to at least `token`.
-pub fn raise(row: &mut Row, current: u64, token: u64)
+fn raise(row: &mut Row, current: u64, token: u64)
     ensures { λ _. ⌜ now (row .exit) ≡ raised (now (row .entry)) current token ⌝ }
 {
     row.currentend = later(row.currentend, current);

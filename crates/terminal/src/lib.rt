@@ -1,4 +1,6 @@
 // The command program: lines from standard input to the desk, and its replies to standard output, line by line.
+use commands::LONGEST;
+use commands::ROOM;
 use desk::Desk;
 use desk::PAGES;
 use desk::ROWS;
@@ -6,11 +8,12 @@ use desk::SHEET;
 use libc::STDIN_FILENO;
 use libc::STDOUT_FILENO;
 ghost use mathlib.Core.Path.{_≡_};
-ghost use Prim.Native.Nat.{_≤_, _<_};
+ghost use Prim.Native.Nat.{suc, _≤_, _<_};
 ghost use lib.ListN.{length};
+ghost use Rattle.commands.specs.Commands.{longest};
 
 // A line is kept up to one byte more than the longest, so that a longer one is known.
-const KEPT: usize = 256;
+const KEPT: usize = LONGEST + 1;
 
 // The desk, and how many bytes of a line are kept.
 struct Session {
@@ -32,15 +35,15 @@ fn reply(
     rows: &mut [u64],
     session: Session,
 ) -> Desk
-    requires { ⌜ (length (now text) ≡ 256) × (session .len ≤ 256) ⌝ }
+    requires { ⌜ (length (now text) ≡ suc longest) × (session .len ≤ suc longest) ⌝ }
 {
-    let mut out = [0u8; 128];
+    let mut out = [0u8; ROOM];
     let len = session.len;
     let before = session.desk;
     let said = desk::answer(sheet, fates, rows, before, &text[0..len], &mut out);
     let n = said.count;
     let after = said.desk;
-    if n <= 128 {
+    if n <= ROOM {
         io::write_all(STDOUT_FILENO, &out[0..n]);
     }
     after
@@ -55,8 +58,8 @@ fn take_byte(
     session: Session,
     byte: u8,
 ) -> Session
-    requires { ⌜ (length (now text) ≡ 256) × (session .len ≤ 256) ⌝ }
-    ensures { λ r. ⌜ r .len ≤ 256 ⌝ }
+    requires { ⌜ (length (now text) ≡ suc longest) × (session .len ≤ suc longest) ⌝ }
+    ensures { λ r. ⌜ r .len ≤ suc longest ⌝ }
 {
     if byte == b'\n' {
         let after = reply(&text[..], sheet, fates, rows, session);
@@ -86,8 +89,8 @@ fn take_bytes(
     rows: &mut [u64],
     session: Session,
 ) -> Session
-    requires { ⌜ (length (now text) ≡ 256) × (session .len ≤ 256) ⌝ }
-    ensures { λ r. ⌜ r .len ≤ 256 ⌝ }
+    requires { ⌜ (length (now text) ≡ suc longest) × (session .len ≤ suc longest) ⌝ }
+    ensures { λ r. ⌜ r .len ≤ suc longest ⌝ }
 {
     let mut at = session;
     let mut i = 0;
@@ -107,8 +110,8 @@ fn take_some(
     session: Session,
     turns: u64,
 ) -> Read
-    requires { ⌜ (length (now text) ≡ 256) × (session .len ≤ 256) × (0 < turns) ⌝ }
-    ensures { λ r. ⌜ (r .session .len ≤ 256) × (r .turns < turns) ⌝ }
+    requires { ⌜ (length (now text) ≡ suc longest) × (session .len ≤ suc longest) × (0 < turns) ⌝ }
+    ensures { λ r. ⌜ (r .session .len ≤ suc longest) × (r .turns < turns) ⌝ }
 {
     let mut buffer = io::buffer();
     let got = libc::read(STDIN_FILENO, &mut buffer);
@@ -125,7 +128,7 @@ fn take_some(
 
 // All of the input; a last line may have no end of line.
 fn take_all(text: &mut [u8], sheet: &mut [u8], fates: &mut [u8], rows: &mut [u64])
-    requires { ⌜ length (now text) ≡ 256 ⌝ }
+    requires { ⌜ length (now text) ≡ suc longest ⌝ }
 {
     let mut turns = u64::MAX;
     let mut session = Session {
@@ -141,7 +144,7 @@ fn take_all(text: &mut [u8], sheet: &mut [u8], fates: &mut [u8], rows: &mut [u64
 }
 
 fn take_last(text: &[u8], sheet: &mut [u8], fates: &mut [u8], rows: &mut [u64], session: Session)
-    requires { ⌜ (length (now text) ≡ 256) × (session .len ≤ 256) ⌝ }
+    requires { ⌜ (length (now text) ≡ suc longest) × (session .len ≤ suc longest) ⌝ }
 {
     if 0 < session.len {
         reply(text, sheet, fates, rows, session);
