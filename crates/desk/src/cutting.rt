@@ -82,7 +82,7 @@ fn cut_page(sheet: &mut [u8], place: u64, old: &[u8], cut: u64)
     put_back(&mut sheet[a..e], old, cut as usize);
 }
 
-// A call. The page that it may append is kept aside, so that what a cut did not store can be put back.
+// A call. The page that it may append is kept aside, so that what a cut did not store can be put back; none is where the sheet ends.
 pub(crate) fn act(
     sheet: &mut [u8],
     fates: &mut [u8],

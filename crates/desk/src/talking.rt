@@ -30,7 +30,7 @@ pub struct Desk {
 }
 
 // A reply, and the desk after it.
-pub struct Turn {
+pub(crate) struct Turn {
     pub reply: Reply,
     pub desk: Desk,
 }

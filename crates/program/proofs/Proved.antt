@@ -22,7 +22,7 @@ use Rattle.commands.proofs.EveryLine.{every-line}
 use Rattle.desk.specs.Conversation.{spoken, saidTo}
 use Rattle.promises.specs.Runs.{Box, Event, runs, Typed, Allowed, AllAllowed, blankBox}
 use Rattle.promises.proofs.bytes.Mixed.{first-ordered}
-use Rattle.promises.proofs.boxes.Boxes.{runs-join}
+use Rattle.promises.proofs.boxes.BoxRuns.{runs-join}
 use Rattle.program.specs.Program.{Memory, memoryOf, turned, talked, firstMemory, strikes, callEvent, openEvent, eventsOf, eventsIn, Keeps, AllKeep, pageCount, Program}
 use Rattle.program.proofs.Meets.{Met, met-off, met-sheet, AllRows, line-steps}
 

@@ -27,7 +27,7 @@ use Rattle.desk.specs.Wording.{callReply, shown}
 use Rattle.desk.specs.Conversation.{After, conversed}
 use Rattle.calls.specs.Cuts.{firstBytes}
 use Rattle.promises.specs.Runs.{Box, sheetOf, Event, calls, cuts, answerTo, numbered, after, runs, blankBox, Run}
-use Rattle.promises.proofs.boxes.Boxes.{reached}
+use Rattle.promises.proofs.boxes.BoxRuns.{reached}
 use Rattle.promises.proofs.boxes.BoxKept.{box-kept}
 use Rattle.promises.proofs.boxes.BoxShown.{box-shows}
 use Rattle.promises.specs.Promises.{IsWhole, WasWritten}

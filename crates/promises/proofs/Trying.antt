@@ -21,7 +21,8 @@ use Rattle.promises.specs.Runs.{Box, sheetOf, Event, calls, opens, cuts,
 use Rattle.promises.specs.Model.{Model, blankModel, modelHeard, modelRuns}
 use Rattle.promises.specs.Promises.{boxAfter, NoTornOutcome}
 use Rattle.promises.proofs.bytes.Mixed.{first-ordered}
-use Rattle.promises.proofs.boxes.Boxes.{reached-blank, page-above}
+use Rattle.promises.proofs.boxes.Boxes.{page-above}
+use Rattle.promises.proofs.boxes.BoxRuns.{reached-blank}
 use Rattle.promises.proofs.boxes.Lasting.{head-is, tail-is}
 use Rattle.promises.proofs.answers.Fallen.{ends}
 use Rattle.promises.proofs.Proved.{promised}

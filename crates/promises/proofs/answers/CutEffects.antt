@@ -25,7 +25,8 @@ use Rattle.promises.specs.Promises.{IsPageOf, Looks}
 use Rattle.promises.proofs.worlds.LogSays.{withObjects}
 use Rattle.promises.proofs.bytes.Mixed.{mixed-all}
 use Rattle.promises.proofs.bytes.ByteCalls.{page-back}
-use Rattle.promises.proofs.boxes.Boxes.{isOn, Reached, reached-next, answer-is, power-is}
+use Rattle.promises.proofs.boxes.Boxes.{isOn, Reached}
+use Rattle.promises.proofs.boxes.BoxRuns.{reached-next, answer-is, power-is}
 use Rattle.promises.proofs.boxes.Found.{some-is, not-heard}
 use Rattle.promises.proofs.answers.ModelRuns.{heard-alike}
 

@@ -10,7 +10,8 @@ use Rattle.promises.specs.Model.{since, Model, blankModel, modelAfter, m
 use Rattle.promises.proofs.logs.Chains.{Ordered, versions-ordered, chain}
 use Rattle.promises.proofs.logs.Histories.{newest-is}
 use Rattle.promises.proofs.worlds.LogSays.{since-is}
-use Rattle.promises.proofs.boxes.Boxes.{isOn, Reached, reached-next, reached-blank, power-is}
+use Rattle.promises.proofs.boxes.Boxes.{isOn, Reached}
+use Rattle.promises.proofs.boxes.BoxRuns.{reached-next, reached-blank, power-is}
 use Rattle.promises.specs.FromLog.{versionOf}
 use Rattle.promises.specs.Promises.{Falls}
 

@@ -11,7 +11,8 @@ use Rattle.calls.specs.Calls.{Call, begin, write, read, test, decide, rebuild}
 use Rattle.promises.specs.Runs.{Box, Event, calls, opens, cuts, answerTo, after, numbered, heard, AllAllowed}
 use Rattle.promises.specs.Model.{Model, Reply, modelCall, isLent, modelAnswer, modelAfter, modelHeard}
 use Rattle.promises.specs.Promises.{isRebuild, others, othersHeard}
-use Rattle.promises.proofs.boxes.Boxes.{isOn, Reached, reached-next, answer-is, power-is}
+use Rattle.promises.proofs.boxes.Boxes.{isOn, Reached}
+use Rattle.promises.proofs.boxes.BoxRuns.{reached-next, answer-is, power-is}
 
 module _ (n files : ℕ) where
   -- ---- a run

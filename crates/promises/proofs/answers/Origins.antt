@@ -24,7 +24,8 @@ use Rattle.promises.proofs.worlds.Sim.{Writes, Step, stay, add}
 use Rattle.promises.proofs.bytes.Stored.{bytesOf}
 use Rattle.promises.proofs.bytes.Cuts.{cutLog, partialLog}
 use Rattle.promises.proofs.boxes.Found.{writes-page}
-use Rattle.promises.proofs.boxes.Boxes.{Reached, agrees, model-says, logAfter, reached-next, reached-blank, page-lies, log-page, page-above}
+use Rattle.promises.proofs.boxes.Boxes.{Reached, agrees, model-says, page-lies, log-page, page-above}
+use Rattle.promises.proofs.boxes.BoxRuns.{logAfter, reached-next, reached-blank}
 use Rattle.promises.proofs.answers.Heard.{hears}
 
 -- ---- a page that is neither blank nor torn nor bad

@@ -22,7 +22,8 @@ use Rattle.promises.specs.Promises.{NoTornOutcome}
 use Rattle.promises.specs.Model.{Model, Reply, stores, hasRoom, modelCall, modelOpened, modelCut, modelAfter, isLent}
 use Rattle.promises.proofs.logs.Logs.{known-place}
 use Rattle.promises.proofs.worlds.ModelCalls.{begins, writes, reads, tests, decides, rebuilds}
-use Rattle.promises.proofs.boxes.Boxes.{isOn, Reached, reached-next, reached-blank, answer-is}
+use Rattle.promises.proofs.boxes.Boxes.{isOn, Reached}
+use Rattle.promises.proofs.boxes.BoxRuns.{reached-next, reached-blank, answer-is}
 use Rattle.promises.proofs.logs.Fates.{same-fate}
 use Rattle.promises.proofs.boxes.Found.{told-fate}
 use Rattle.promises.proofs.answers.Seen.{status-by}

@@ -32,7 +32,8 @@ use Rattle.promises.proofs.logs.Logs.{Lawful, Known, known-place, openi
 use Rattle.promises.proofs.logs.Fates.{same-fate}
 use Rattle.promises.proofs.worlds.Openings.{top-solid}
 use Rattle.promises.proofs.bytes.Replaced.{unsealed, bad-image}
-use Rattle.promises.proofs.boxes.Boxes.{isOn, bounds, Reached, reached, answer-is}
+use Rattle.promises.proofs.boxes.Boxes.{isOn, bounds, Reached}
+use Rattle.promises.proofs.boxes.BoxRuns.{reached, answer-is}
 use Rattle.promises.proofs.boxes.Found.{told-fate}
 use Rattle.promises.proofs.boxes.BoxShown.{box-all, box-shows}
 use Rattle.promises.proofs.answers.Heard.{answered, hears}

@@ -23,7 +23,8 @@ use Rattle.promises.specs.Runs.{Ordered, Box, on, off, sheetOf, Event, c
 use Rattle.promises.proofs.bytes.Mixed.{mixed-long, mixed-none, none-kept}
 use Rattle.promises.proofs.bytes.ByteCalls.{page-back}
 use Rattle.promises.proofs.boxes.Extends.{ext-refl, event-extends}
-use Rattle.promises.proofs.boxes.Boxes.{Reached, end-is, reached-next, reached-on, page-above}
+use Rattle.promises.proofs.boxes.Boxes.{Reached, end-is, page-above}
+use Rattle.promises.proofs.boxes.BoxRuns.{reached-next, reached-on}
 
 -- sheets as long, with the same bytes up to a place
 pub record SameTo (q : ℕ) (s t : List ℕ) : Type 0 where

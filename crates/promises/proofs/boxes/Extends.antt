@@ -18,7 +18,8 @@ use Rattle.promises.proofs.worlds.Sim.{Step, stay, add}
 use Rattle.promises.proofs.bytes.Cuts.{cutLog}
 use Rattle.promises.specs.Runs.{Box, on, off, sheetOf, Event, calls, opens, cuts, after, runs, Allowed, AllAllowed}
 use Rattle.promises.proofs.bytes.Stored.{bytesOf}
-use Rattle.promises.proofs.boxes.Boxes.{Reached, agrees, logAfter, reached-next, reached-on, log-page}
+use Rattle.promises.proofs.boxes.Boxes.{Reached, agrees, log-page}
+use Rattle.promises.proofs.boxes.BoxRuns.{logAfter, reached-next, reached-on}
 
 -- a log that goes on from another: the same pages, what was decided decided so, what was known known
 pub record Extends (l l′ : List Entry) : Type 0 where

@@ -27,7 +27,8 @@ use Rattle.promises.specs.FromLog.{statusOf}
 use Rattle.promises.proofs.worlds.Sim.{Writes, Step, stay, add}
 use Rattle.promises.proofs.bytes.Stored.{bytesOf}
 use Rattle.promises.proofs.bytes.Cuts.{partialLog, cutLog}
-use Rattle.promises.proofs.boxes.Boxes.{isOn, Reached, agrees, model-says, reached-next, reached-on, answer-is}
+use Rattle.promises.proofs.boxes.Boxes.{isOn, Reached, agrees, model-says}
+use Rattle.promises.proofs.boxes.BoxRuns.{reached-next, reached-on, answer-is}
 use Rattle.promises.proofs.boxes.Extends.{Extends, ext-refl, extends, stays}
 
 -- ---- answers

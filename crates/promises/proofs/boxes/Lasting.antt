@@ -14,7 +14,8 @@ use Rattle.promises.specs.Runs.{Box, on, off, Event, calls, opens, cuts,
 use Rattle.promises.specs.Model.{Version, Object, object, Model, Reply, newest, since, latest, changed, stores, ended, endedBy, modelCall, modelOpened, modelCut, isLent}
 use Rattle.promises.proofs.worlds.LogSays.{currentEnd, given}
 use Rattle.promises.proofs.worlds.ModelCalls.{begins, writes, reads, tests, decides, rebuilds}
-use Rattle.promises.proofs.boxes.Boxes.{isOn, Reached, reached-next, reached-on, power-is}
+use Rattle.promises.proofs.boxes.Boxes.{isOn, Reached}
+use Rattle.promises.proofs.boxes.BoxRuns.{reached-next, reached-on, power-is}
 
 -- a token starts after a time
 abbrev pub Clear : ℕ → Option Version → Type 0

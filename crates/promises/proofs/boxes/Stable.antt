@@ -23,7 +23,8 @@ use Rattle.promises.proofs.logs.Logs.{Lawful, not-unknown, fate-zero}
 use Rattle.promises.proofs.logs.Chains.{token-live}
 use Rattle.promises.proofs.worlds.LogSays.{currentEnd, Says}
 use Rattle.promises.proofs.worlds.ModelCalls.{writes}
-use Rattle.promises.proofs.boxes.Boxes.{isOn, Reached, model-says, reached-next, reached-on}
+use Rattle.promises.proofs.boxes.Boxes.{isOn, Reached, model-says}
+use Rattle.promises.proofs.boxes.BoxRuns.{reached-next, reached-on}
 use Rattle.promises.proofs.boxes.Found.{some-is, not-heard}
 use Rattle.promises.proofs.boxes.Lasting.{Clear, Showing, Lasts, FloorsFrom, lasts}
 

@@ -1,0 +1,106 @@
+-- An opening is refused by line 1 or accepted, and leads from a box that stands for a log and a model to such a box.
+use Prim.Native.Nat.{ℕ, _*_, _/_}
+use mathlib.Core.Path.{_≡_, refl, sym, ap, _∙_, subst}
+use mathlib.Core.List.{List}
+use mathlib.Core.Bool.{Bool, true, false, cond, _&&_}
+use native.Mathlib.Omega.{arith}
+use lib.ListN.{length}
+use lib.Dec.{eqb}
+use borrow.Author.Tests.{eqb-true, eq-eqb}
+use Rattle.encoding.proofs.Logic.{and-true, by-test, bool-ext}
+use Rattle.page.specs.Layout.{pageSize}
+use Rattle.recovery.specs.Sheet.{pages}
+use Rattle.recovery.specs.Numbers.{isRefused}
+use Rattle.recovery.specs.World.{Result, sizes, down, endOf, highestBad, opened}
+use Rattle.recovery.specs.Lent.{Left, rowLength, rowsOf, whole, leaves, closed, openLeaves}
+use Rattle.recovery.specs.declared.Answer.{Answer}
+use Rattle.recovery.specs.declared.Answer.the-variants.{Refused, Opened}
+use Rattle.recovery.proofs.FlatRows.{rows-long, flat-long, flat-rows}
+use Rattle.recovery.proofs.Sizes.{sizes-right}
+use Rattle.recovery.proofs.OpeningLaws.{open-refused}
+use Rattle.promises.specs.Runs.{Box, on, off, sheetOf, opens, boxOf, after, Allowed}
+use Rattle.promises.specs.Model.{Model, modelOpened, isLent}
+use Rattle.promises.proofs.worlds.Sim.{Sim}
+use Rattle.promises.proofs.worlds.Openings.{Holds, sim-open}
+use Rattle.promises.proofs.boxes.Boxes.{sizes-are, isOn, isRight, worldIn, At, Reached}
+
+module _ (n files : ℕ) where
+  -- ---- an opening: refused by line 1, or else accepted
+
+  module _ (b : Box) (r : Reached n files b) (floor : ℕ) (fates rows : List ℕ) (al : Allowed n files (opens floor fates rows)) where
+    abbrev s : List ℕ
+    s = sheetOf b
+
+    abbrev pub opening : Bool → Model
+    opening c = cond c (modelOpened (r .model) floor) (r .model)
+
+    abbrev pub heardAs : Bool → Answer
+    heardAs c = cond c (Opened (r .model .used) (r .model .undecided)) (Refused 1 0)
+
+    pub record Opens (c : Bool) (x : Left) : Type 0 where
+      pub at : At n files (boxOf x) (r .log) (opening c)
+      pub power : isOn (boxOf x) ≡ c
+      pub answer : x .answer ≡ heardAs c
+
+    refuses : isRight n fates rows ≡ false → Opens false (openLeaves s fates rows floor)
+    unfolding isRefused
+    refuses e = subst (Opens false) (open-refused s fates rows floor (rw (r .at .long) e) (record { answer = Refused 1 0; state = closed }) refl) (record {
+      at = record { sized = r .at .sized; long = r .at .long; pages-are = r .at .pages-are; files-are = r .at .files-are; holds = r .at .holds; says = r .at .says; stands = tt };
+      power = refl;
+      answer = refl;
+    })
+
+    open-sheet : opened (pages files n s) fates (rowsOf rows) floor .1 .sheet ≡ pages files n s
+    unfolding opened
+    open-sheet = by-test (λ (x : Result). x .1 .sheet ≡ pages files n s) (sizes (length (pages files n s)) (length fates) (length (rowsOf rows)))
+        (λ e. by-test (λ (x : Result). x .1 .sheet ≡ pages files n s) (eqb (highestBad (down (pages files n s) (endOf (pages files n s) (length (pages files n s))))) 0) (λ e. refl) (λ e. refl)) (λ e. refl)
+
+    accepts : isRight n fates rows ≡ true → Opens true (openLeaves s fates rows floor)
+    unfolding isRefused openLeaves
+    accepts e =
+        let k = sizes-right (pageSize * n) (length fates) (length rows) e in
+        let few : length rows ≡ rowLength * files = al e in
+        let ns : length s / pageSize ≡ n = omega (arith, r .at .long) in
+        let fs : length rows / rowLength ≡ files = omega arith in
+        let w : whole (length s) (length rows) ≡ true = rw (r .at .long) (k .whole-is) in
+        let o = opened (pages files n s) fates (rowsOf rows) floor in
+        let h : Holds (pages files n s) (r .model .pages) (r .log) = rw (r .at .pages-are) (r .at .holds) in
+        let q = sim-open (pages files n s) (r .log) (r .model) h (r .at .says) (rw (r .at .pages-are, r .at .files-are) (r .at .sized)) floor fates (rowsOf rows) (k .fates-are ∙ (omega (arith, r .at .pages-are))) (rows-long rows ∙ fs ∙ sym (r .at .files-are)) in
+        let left : leaves s o ≡ openLeaves s fates rows floor = rw (w, ns, fs) in
+        let on-is : boxOf (leaves s o) ≡ on (leaves s o) = ap (λ x. cond (isRefused x) (off s) (on (leaves s o))) (q .answer) in
+        let here : worldIn n files (leaves s o) ≡ o .1 = λ i. record { sheet = sym open-sheet i; fates = o .1 .fates; rows = flat-rows (o .1 .rows) i; end = o .1 .end; floor = o .1 .floor; undecided = o .1 .undecided } in
+        subst (Opens true) left (record {
+          at = subst (λ c. At n files c (r .log) (opening true)) (sym on-is) (record {
+            sized = r .at .sized;
+            long = r .at .long;
+            pages-are = r .at .pages-are;
+            files-are = r .at .files-are;
+            holds = r .at .holds;
+            says = q .after .says;
+            stands = (subst (λ u. Sim u (r .log) (opening true)) (sym here) (q .after), flat-long (o .1 .rows) ∙ ap (λ x. rowLength * x) (q .after .files ∙ r .at .files-are));
+          });
+          power = ap isOn on-is;
+          answer = q .answer;
+        })
+
+    pub was-opened : Opens (isRight n fates rows) (openLeaves s fates rows floor)
+    was-opened = go (isRight n fates rows) refl
+      where
+        go : (c : Bool) → isRight n fates rows ≡ c → Opens c (openLeaves s fates rows floor)
+        go true e = accepts e
+        go false e = refuses e
+
+    -- line 1 lets an opening pass exactly if it is lent what the model asks for
+    right-is : isLent (r .model) fates rows ≡ isRight n fates rows
+    right-is = rw (r .at .pages-are, r .at .files-are) (bool-ext (eqb (length fates) n && eqb (length rows) (rowLength * files)) (isRight n fates rows)
+        (λ q. let p = and-true (eqb (length fates) n) (eqb (length rows) (rowLength * files)) q in sizes-are n files fates rows (r .at .sized) (eqb-true (length fates) n (p .0)) (eqb-true (length rows) (rowLength * files) (p .1)))
+        (λ q. rw (eq-eqb (length fates) n (sizes-right (pageSize * n) (length fates) (length rows) q .fates-are ∙ (omega arith)), eq-eqb (length rows) (rowLength * files) (al q))))
+
+    pub opened-at : At n files (boxOf (openLeaves s fates rows floor)) (r .log) (opening (isLent (r .model) fates rows))
+    opened-at = subst (λ c. At n files (boxOf (openLeaves s fates rows floor)) (r .log) (opening c)) (sym right-is) (was-opened .at)
+
+    pub opened-answer : openLeaves s fates rows floor .answer ≡ heardAs (isLent (r .model) fates rows)
+    opened-answer = was-opened .answer ∙ ap heardAs (sym right-is)
+
+    pub opened-power : isOn (boxOf (openLeaves s fates rows floor)) ≡ isLent (r .model) fates rows
+    opened-power = was-opened .power ∙ sym right-is
