@@ -82,7 +82,7 @@ fn cut_page(sheet: &mut [u8], place: u64, old: &[u8], cut: u64)
     put_back(&mut sheet[a..e], old, cut as usize);
 }
 
-// A call. The page that it may append is kept aside, so that what a cut did not store can be put back; none is where the sheet ends.
+// A call. The page that it may append is kept aside, so that what a cut did not store can be put back.
 pub(crate) fn act(
     sheet: &mut [u8],
     fates: &mut [u8],
@@ -95,6 +95,7 @@ pub(crate) fn act(
 {
     let mut old = [0u8; Page::SIZE];
     let state = desk.state;
+    // With an end past the sheet no call appends, and there is no page to keep.
     let pages = (sheet.len() / Page::SIZE) as u64;
     encoding::copy(&mut old, part_at(&sheet[..], least(state.end, pages) + 1));
     let done = make(sheet, fates, rows, state, call, value);

@@ -48,7 +48,7 @@ writes-page files l (decide a c) g h = h
 writes-page files l (rebuild f) g h = h
 
 -- the page of a call that was answered with a place, and the log that it ends
-pub record Wrote (files : ℕ) (l : List Entry) (k : Call) (place : ℕ) (l′ : List Entry) : Type 0 where
+record Wrote (files : ℕ) (l : List Entry) (k : Call) (place : ℕ) (l′ : List Entry) : Type 0 where
   pub page : Entry
   pub writes : Writes files l k page
   pub place-is : place ≡ suc (length l)
@@ -57,7 +57,7 @@ pub record Wrote (files : ℕ) (l : List Entry) (k : Call) (place : ℕ) (l′ :
 stored-is : {p q : ℕ} → Stored p ≡ Stored q → p ≡ q
 stored-is e = cc
 
-pub step-wrote : {files : ℕ} {k : Call} {l l′ : List Entry} {x : Answer} (place : ℕ) → Step files k l x l′ → x ≡ Stored place → Wrote files l k place l′
+step-wrote : {files : ℕ} {k : Call} {l l′ : List Entry} {x : Answer} (place : ℕ) → Step files k l x l′ → x ≡ Stored place → Wrote files l k place l′
 step-wrote place (stay n) e = absurd (n place e)
 step-wrote place (add g h q) e = record { page = g; writes = h; place-is = stored-is (sym e ∙ q); log = refl }
 

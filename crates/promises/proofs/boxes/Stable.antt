@@ -29,7 +29,7 @@ use Rattle.promises.proofs.boxes.Found.{some-is, not-heard}
 use Rattle.promises.proofs.boxes.Lasting.{Clear, Showing, Lasts, FloorsFrom, lasts}
 
 -- the first read
-pub record ToldAt (m : Model) (f t : ℕ) : Type 0 where
+record ToldAt (m : Model) (f t : ℕ) : Type 0 where
   pub file : (leb 1 f && leb f (m .files)) ≡ true
   pub says : modelCall m (read f t 0) .0 ≡ shows (latest t (m .object f .history))
   pub lasting : Lasts true (modelCall m (read f t 0) .1) f t (latest t (m .object f .history))

@@ -16,10 +16,10 @@ use Rattle.promises.proofs.logs.Logs.{ImageFits, Lawful, Known, Keeps, 
 use Rattle.promises.proofs.logs.Chains.{Chain, decided-keeps, token-keeps, chain}
 
 -- fates that agree wherever they are known
-abbrev pub Agree : (ℕ → Fate) → (ℕ → Fate) → Type 0
+abbrev Agree : (ℕ → Fate) → (ℕ → Fate) → Type 0
 Agree φ ψ = (a : ℕ) → Known (φ a) → ψ a ≡ φ a
 
-pub agree-keeps : (φ ψ : ℕ → Fate) → Agree φ ψ → Keeps φ ψ
+agree-keeps : (φ ψ : ℕ → Fate) → Agree φ ψ → Keeps φ ψ
 agree-keeps φ ψ k a d = k a (omega arith)
 
 versions-agree : (φ ψ : ℕ → Fate) (xs : List Placed) → Agree φ ψ → Chain φ xs → versionsOf ψ xs ≡ versionsOf φ xs
@@ -33,7 +33,7 @@ token-agree φ ψ [] k h = refl
 token-agree φ ψ (x ∷ xs) k h = rw (k (x .image .action) (h .0), token-keeps φ ψ (agree-keeps φ ψ k) xs (h .2))
 
 -- an opening changes no history
-pub opening-agree : (l : List Entry) → Lawful l → Agree (fateOf l) (fateOf (opening ∷ l))
+opening-agree : (l : List Entry) → Lawful l → Agree (fateOf l) (fateOf (opening ∷ l))
 unfolding fateOf
 opening-agree l w a d = by-test (λ (x : Fate). x ≡ fateOf l a) (eqb a (suc (length l)))
     (λ e. not-unknown (fateOf l a) d (fate-above l a w (omega (arith, eqb-true a (suc (length l)) e))))
@@ -71,11 +71,11 @@ owns a (some x) = eqb (x .image .action) a
 abbrev pub turned : ℕ → Bool → (ℕ → Fate) → ℕ → Fate
 turned a c φ b = cond (eqb b a) (verdict c) (φ b)
 
-pub turn-keeps : (a : ℕ) (c : Bool) (φ : ℕ → Fate) → φ a ≡ undecided → Keeps φ (turned a c φ)
+turn-keeps : (a : ℕ) (c : Bool) (φ : ℕ → Fate) → φ a ≡ undecided → Keeps φ (turned a c φ)
 turn-keeps a c φ h b d = by-test (λ (x : Fate). x ≡ φ b) (eqb b a) (λ e. not-undecided (φ b) d (rw (eqb-true b a e) h)) (λ e. refl)
 
 -- only a file's newest image can be its token
-pub token-other : (φ : ℕ → Fate) (a : ℕ) (x : Placed) (xs : List Placed) → Chain φ (x ∷ xs) → eqb (x .image .action) a ≡ false
+token-other : (φ : ℕ → Fate) (a : ℕ) (x : Placed) (xs : List Placed) → Chain φ (x ∷ xs) → eqb (x .image .action) a ≡ false
     → owns a (tokenOf φ (x ∷ xs)) ≡ false
 unfolding tokenOf
 token-other φ a x xs h e = go (φ (x .image .action))

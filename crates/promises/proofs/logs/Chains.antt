@@ -51,7 +51,7 @@ module _ (φ ψ : ℕ → Fate) (k : Keeps φ ψ) where
   token-keeps [] h = refl
   token-keeps (x ∷ xs) h = rw (k (x .image .action) (h .0), token-keeps xs (h .1))
 
-pub chain-keeps : (φ ψ : ℕ → Fate) → Keeps φ ψ → ((a : ℕ) → Known (φ a) → Known (ψ a)) → (xs : List Placed) → Chain φ xs → Chain ψ xs
+chain-keeps : (φ ψ : ℕ → Fate) → Keeps φ ψ → ((a : ℕ) → Known (φ a) → Known (ψ a)) → (xs : List Placed) → Chain φ xs → Chain ψ xs
 chain-keeps φ ψ k n [] h = tt
 chain-keeps φ ψ k n (x ∷ xs) h =
     (n (x .image .action) (h .0), rw (versions-keep φ ψ k xs (h .2)) (h .1), decided-keeps φ ψ k xs (h .2), chain-keeps φ ψ k n xs (h .3))

@@ -51,7 +51,7 @@ pub since-is : (z : Option Placed) → since (versionIn z) ≡ startOf z
 since-is none = refl
 since-is (some x) = refl
 
-pub placed-is : (z : Option Placed) → placed (versionIn z) ≡ placeOf z
+placed-is : (z : Option Placed) → placed (versionIn z) ≡ placeOf z
 placed-is none = refl
 placed-is (some x) = refl
 
@@ -59,7 +59,7 @@ version-cond : (b : Bool) (x y : Option Placed) → versionIn (cond b x y) ≡ c
 version-cond true x y = refl
 version-cond false x y = refl
 
-pub status-cond : (b : Bool) (x y : Fate) → statusOf (cond b x y) ≡ cond b (statusOf x) (statusOf y)
+status-cond : (b : Bool) (x y : Fate) → statusOf (cond b x y) ≡ cond b (statusOf x) (statusOf y)
 status-cond true x y = refl
 status-cond false x y = refl
 
@@ -70,7 +70,7 @@ verdict-status false = refl
 -- ---- one object changed
 
 module _ {A : Type 0} (P : Object → A) (h : ℕ → Object) (f : ℕ) (x : Object) (k : ℕ → A) (same : (g : ℕ) → P (h g) ≡ k g) where
-  pub changed-at : (v : A) → P x ≡ v → (g : ℕ) → P (changed h f x g) ≡ cond (eqb f g) v (k g)
+  changed-at : (v : A) → P x ≡ v → (g : ℕ) → P (changed h f x g) ≡ cond (eqb f g) v (k g)
   changed-at v e g = go (eqb g f) refl
     where
       go : (b : Bool) → eqb g f ≡ b → P (cond b x (h g)) ≡ cond (eqb f g) v (k g)

@@ -77,32 +77,31 @@ module _ (P : Reply → Type 0) (m : Model) (no : (n p : ℕ) → P (refuses n p
   pub rebuilds : (f : ℕ) → ((x : Answer) → P (x, m)) → P (modelCall m (rebuild f))
   rebuilds f h = of-file f _ (h _)
 
--- ---- how large the store is, and its floor, no call changes
+-- ---- how large the store is, no call changes
 
 pub record Sized (m m′ : Model) : Type 0 where
   pub pages : m′ .pages ≡ m .pages
   pub files : m′ .files ≡ m .files
-  pub floor : m′ .floor ≡ m .floor
 
 module _ (m : Model) where
   abbrev As : Reply → Type 0
   As r = Sized m (r .1)
 
-  as-large : (m′ : Model) → m′ .pages ≡ m .pages → m′ .files ≡ m .files → m′ .floor ≡ m .floor → Sized m m′
-  as-large m′ p f t = record { pages = p; files = f; floor = t }
+  as-large : (m′ : Model) → m′ .pages ≡ m .pages → m′ .files ≡ m .files → Sized m m′
+  as-large m′ p f = record { pages = p; files = f }
 
   pub call-sized : (k : Call) → Sized m (modelCall m k .1)
-  call-sized begin = begins As m (λ n p. as-large _ refl refl refl) (λ e. as-large _ refl refl refl)
-  call-sized (write f start a v) = writes As m (λ n p. as-large _ refl refl refl) f start a v (λ j k e. as-large _ refl refl refl)
-  call-sized (read f time a) = reads As m (λ n p. as-large _ refl refl refl) f time a (as-large _ refl refl refl) (λ x e j k. as-large _ refl refl refl)
-  call-sized (test a) = tests As m (λ n p. as-large _ refl refl refl) a (λ n. as-large _ refl refl refl)
-  call-sized (decide a c) = decides As m (λ n p. as-large _ refl refl refl) a c (λ e. as-large _ refl refl refl)
-  call-sized (rebuild f) = rebuilds As m (λ n p. as-large _ refl refl refl) f (λ x. as-large _ refl refl refl)
+  call-sized begin = begins As m (λ n p. as-large _ refl refl) (λ e. as-large _ refl refl)
+  call-sized (write f start a v) = writes As m (λ n p. as-large _ refl refl) f start a v (λ j k e. as-large _ refl refl)
+  call-sized (read f time a) = reads As m (λ n p. as-large _ refl refl) f time a (as-large _ refl refl) (λ x e j k. as-large _ refl refl)
+  call-sized (test a) = tests As m (λ n p. as-large _ refl refl) a (λ n. as-large _ refl refl)
+  call-sized (decide a c) = decides As m (λ n p. as-large _ refl refl) a c (λ e. as-large _ refl refl)
+  call-sized (rebuild f) = rebuilds As m (λ n p. as-large _ refl refl) f (λ x. as-large _ refl refl)
 
   pub cut-sized : (k : Call) (kept : ℕ → Bool) → Sized m (modelCut m k kept)
   cut-sized k kept = go (eqb (modelCall m k .1 .used) (m .used) || not (kept kindAt)) (kept markAt)
     where
       go : (a b : Bool) → Sized m (cond a m (cond b (modelCall m k .1) (stores m (m .undecided) (m .status) (m .object))))
-      go true b = as-large m refl refl refl
+      go true b = as-large m refl refl
       go false true = call-sized k
-      go false false = as-large _ refl refl refl
+      go false false = as-large _ refl refl
