@@ -13,6 +13,8 @@ pub mod BeginEnds
 pub mod DecideRows
 pub mod DecideEnds
 pub mod ReadImages
+pub mod FewLinks
+pub mod Never14
 pub mod ReadWalks
 pub mod ReadWarming
 pub mod ReadEnds

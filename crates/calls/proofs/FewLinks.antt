@@ -1,0 +1,51 @@
+-- Following links from an image at a place takes fewer links than that place, and so fewer than the sheet has pages, whatever bytes
+-- the sheet holds: a sealed image links below its own place. Shuts out a store whose links may lead upward, or in a ring. Assumes
+-- nothing.
+use Prim.Native.Nat.{ℕ, zero, suc, _/_, _≤_, _<_}
+use mathlib.Core.Path.{_≡_, refl, sym, _∙_}
+use mathlib.Core.Bool.{true}
+use mathlib.Core.List.{List}
+use native.Mathlib.Omega.{arith}
+use lib.ListN.{length}
+use borrow.Author.Tests.{eq-eqb}
+use Rattle.encoding.proofs.Logic.{clash}
+use Rattle.page.specs.declared.Sought as sought
+use Rattle.page.specs.declared.Sought.{Sought}
+use Rattle.page.specs.Layout.{pageSize}
+use Rattle.recovery.specs.Places.{nth}
+use Rattle.recovery.specs.Log.{Image, Entry, blank, image, Placed}
+use Rattle.recovery.specs.Lent.{pagesOf}
+use Rattle.recovery.specs.Steps.{sealedImage, isFound}
+use Rattle.recovery.proofs.Held.{held-in}
+use Rattle.calls.specs.Links.{Links, here, on}
+use Rattle.calls.proofs.ReadImages.{met-at}
+
+module _ (files : ℕ) (s : List ℕ) where
+  abbrev pub page : ℕ → Entry
+  page p = nth blank (pagesOf s files) p
+
+  -- where a sealed image lies, and where it links
+  pub record Lies (p : ℕ) (i : Image) : Type 0 where
+    pub low : 1 ≤ p
+    pub high : p ≤ length s / pageSize
+    pub link : i .link < p
+
+  pub image-lies : (p : ℕ) (i : Image) → page p ≡ image i → Lies p i
+  image-lies zero i e = clash cc
+  image-lies (suc q) i e =
+      go (sealedImage files s (i .file) (suc q)) refl (sym (held-in files s (i .file) (suc q) (omega arith)) ∙ rw e (eq-eqb (i .file) (i .file) refl))
+    where
+      go : (u : Sought) → sealedImage files s (i .file) (suc q) ≡ u → isFound (sealedImage files s (i .file) (suc q)) ≡ true → Lies (suc q) i
+      go (sought.Sought.Image x) h k =
+          let m = met-at files s (i .file) (suc q) x h in
+          let l : i .link ≡ x .link = cc (rw e at (m .page-is)) in
+          record { low = m .low; high = omega arith; link = omega (arith, m .rules .link) }
+      go sought.Sought.Other h k = clash cc
+
+  pub fewer-links : (x y : Placed) (n : ℕ) → page (x .place) ≡ image (x .image) → Links page x n y → n < x .place
+  fewer-links x y n e here = image-lies (x .place) (x .image) e .low
+  fewer-links x y (suc n) e (on j h l) =
+      omega (arith, image-lies (x .place) (x .image) e .link, fewer-links (record { place = x .image .link; image = j }) y n h l)
+
+  pub fewer-than-pages : (x y : Placed) (n : ℕ) → page (x .place) ≡ image (x .image) → Links page x n y → n < length s / pageSize
+  fewer-than-pages x y n e l = omega (arith, image-lies (x .place) (x .image) e .high, fewer-links x y n e l)
