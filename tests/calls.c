@@ -301,7 +301,7 @@ static int large_alike(int wild) {
     return 1;
 }
 
-/* Every answer, every refusal that these calls can give and every cut has come often; 2 is open's, and no sheet leads to 14. */
+/* Every answer, every refusal that these calls can give and every cut has come often; 2 is open's. */
 static int all_seen(void) {
     for (int n = 1; n <= 13; n++)
         if (n != 2 && seen_refusal[n] < 20)

@@ -1,6 +1,6 @@
 /* Document 01's points that the command program cannot show, at the calls themselves: a cold row that stays cold under refusals 1 to
-   6 and is rebuilt under the later ones, damaged rows, a page above the end that is not blank, a link that leads nowhere, and an
-   outcome that is lost on two pages. Prints a line for each and 'N passed, M failed'. */
+   6 and is rebuilt under the later ones, damaged rows, a page above the end that is not blank, a link that leads nowhere, as many
+   links as a sheet can have, and an outcome that is lost on two pages. Prints a line for each and 'N passed, M failed'. */
 #include "door.h"
 #include "plain.h"
 #include "tell.h"
@@ -106,6 +106,52 @@ static void pages_in_the_way(void) {
     told("and no end was raised", rows[2] == 20 && rows[4] == 30);
 }
 
+/* A sheet with as many links as its pages allow: an opening, then images of file 1, each linked to the page below it and starting at
+   its own place, so that a read at time t must end at page t. */
+enum { MOST_PAGES = 65536 };
+static uint8_t chain[MOST_PAGES * PAGE], chain_fates[MOST_PAGES];
+
+static void put_link(uint64_t file, uint64_t place) {
+    plain_pack(chain + PAGE * (place - 1), 2, 0, file, 1, place == 2 ? 0 : place - 1, place, none, place);
+}
+
+static void set_chain(uint64_t pages) {
+    memset(chain, 0, sizeof chain);
+    memset(chain_fates, 0, sizeof chain_fates);
+    plain_pack(chain, 1, 0, 0, 1, 0, 0, none, 1);
+    for (uint64_t place = 2; place <= pages; place++)
+        put_link(1, place);
+    chain_fates[0] = 2;
+}
+
+/* Whether a read of file 1 at a time, its row cold, answers which, with these first values. */
+static int chain_answers(uint64_t pages, uint64_t time, uint64_t which, uint64_t first, uint64_t second) {
+    uint64_t number[NUMBERS] = {0}, told[TOLD];
+    struct lent l = {chain, pages * PAGE, chain_fates, pages, number, NUMBERS, pages, 0, 0};
+    make_call(l, (struct call){.kind = READ, .file = 1, .time = time}, told);
+    return told[WHICH] == which && told[FIRST] == first && told[SECOND] == second && number[0] == 1 && number[1] == pages &&
+           number[2] == (time < pages ? pages : time);
+}
+
+static int walks_end(uint64_t pages, uint64_t step) {
+    int all = chain_answers(pages, 1, NOTHING, 0, 0);
+    for (uint64_t time = 2; time <= pages; time += step)
+        all = all && chain_answers(pages, time, VALUE, time, time);
+    return all && chain_answers(pages, pages + 1, VALUE, pages, pages);
+}
+
+static void most_links(void) {
+    int all = 1;
+    for (uint64_t pages = 2; pages <= 70; pages++)
+        set_chain(pages), all = all && walks_end(pages, 1);
+    told("each page linked to the one below it, 2 to 70 pages: a read at every time is answered", all);
+    set_chain(MOST_PAGES);
+    told("and with 65,534 links on 65,536 pages", walks_end(MOST_PAGES, 5041));
+    put_link(2, 2);
+    told("the last of them to another file's image is refused 13, after 65,533", chain_answers(MOST_PAGES, 2, REFUSED, 13, 3));
+    told("and not followed, where it need not be", chain_answers(MOST_PAGES, 3, VALUE, 3, 3));
+}
+
 /* Two pages, begin, and a commit that is cut after some bytes: with 1 to 63 the action stays undecided for ever. */
 static int outcome_is_lost(int bytes) {
     uint8_t two[2 * PAGE] = {0}, two_fates[2] = {0};
@@ -137,6 +183,7 @@ int main(void) {
     cold_rows();
     damaged_rows();
     pages_in_the_way();
+    most_links();
     outcomes();
     printf("%d passed, %d failed\n", passed, failed);
     return failed != 0;

@@ -17,8 +17,7 @@ use Rattle.page.specs.declared.Unpacked.the-variants.{Refused, Blank, Torn, Ope
 use Rattle.page.specs.declared.Sought as sought
 use Rattle.page.specs.declared.Sought.{Sought}
 use Rattle.page.specs.Layout.{pageSize}
-use Rattle.page.specs.Answers.{tested, onImage}
-use Rattle.page.specs.Answers.{imageOfFile}
+use Rattle.page.specs.Answers.{tested, onImage, imageOfFile}
 use Rattle.recovery.specs.Places.{nth}
 use Rattle.recovery.specs.Log.{Entry, blank, bad, image}
 use Rattle.recovery.specs.Sheet.{pageBytes, entryOf, imageFrom, isOpening, seal, decoded, sealed}

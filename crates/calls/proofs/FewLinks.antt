@@ -2,7 +2,7 @@
 -- the sheet holds: a sealed image links below its own place. Shuts out a store whose links may lead upward, or in a ring. Assumes
 -- nothing.
 use Prim.Native.Nat.{ℕ, zero, suc, _/_, _≤_, _<_}
-use mathlib.Core.Path.{_≡_, refl, sym, _∙_}
+use mathlib.Core.Path.{_≡_, refl, sym, ap, _∙_}
 use mathlib.Core.Bool.{true}
 use mathlib.Core.List.{List}
 use native.Mathlib.Omega.{arith}
@@ -13,12 +13,16 @@ use Rattle.page.specs.declared.Sought as sought
 use Rattle.page.specs.declared.Sought.{Sought}
 use Rattle.page.specs.Layout.{pageSize}
 use Rattle.recovery.specs.Places.{nth}
-use Rattle.recovery.specs.Log.{Image, Entry, blank, image, Placed}
+use Rattle.recovery.specs.Log.{Image, Entry, blank, image, Placed, imagesOf}
+use Rattle.recovery.specs.World.{down}
+use Rattle.recovery.specs.Sheet.{pageBytes, imageFrom}
 use Rattle.recovery.specs.Lent.{pagesOf}
 use Rattle.recovery.specs.Steps.{sealedImage, isFound}
 use Rattle.recovery.proofs.Held.{held-in}
+use Rattle.calls.specs.Walk.{imagesBelow, follow}
 use Rattle.calls.specs.Links.{Links, here, on}
 use Rattle.calls.proofs.ReadImages.{met-at}
+use Rattle.calls.proofs.LinkByLink.{same-among}
 
 module _ (files : ℕ) (s : List ℕ) where
   abbrev pub page : ℕ → Entry
@@ -38,7 +42,8 @@ module _ (files : ℕ) (s : List ℕ) where
       go : (u : Sought) → sealedImage files s (i .file) (suc q) ≡ u → isFound (sealedImage files s (i .file) (suc q)) ≡ true → Lies (suc q) i
       go (sought.Sought.Image x) h k =
           let m = met-at files s (i .file) (suc q) x h in
-          let l : i .link ≡ x .link = cc (rw e at (m .page-is)) in
+          let j : i ≡ imageFrom (pageBytes s (suc q)) x = cc (sym e ∙ m .page-is) in
+          let l : i .link ≡ x .link = ap (λ (k : Image). k .link) j in
           record { low = m .low; high = omega arith; link = omega (arith, m .rules .link) }
       go sought.Sought.Other h k = clash cc
 
@@ -49,3 +54,8 @@ module _ (files : ℕ) (s : List ℕ) where
 
   pub fewer-than-pages : (x y : Placed) (n : ℕ) → page (x .place) ≡ image (x .image) → Links page x n y → n < length s / pageSize
   fewer-than-pages x y n e l = omega (arith, image-lies (x .place) (x .image) e .high, fewer-links x y n e l)
+
+  -- so a walk among more of the file's images than those below its own place comes to the same
+  pub same-walk : (f t : ℕ) (x : Placed) (n : ℕ) → page (x .place) ≡ image (x .image) → x .place ≤ n
+      → follow t x (imagesOf (down (pagesOf s files) n) f) ≡ follow t x (imagesBelow (pagesOf s files) (x .place) f)
+  same-walk f t x n e l = same-among (pagesOf s files) f t x n (image-lies (x .place) (x .image) e .link) l

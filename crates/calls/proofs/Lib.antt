@@ -14,7 +14,7 @@ pub mod DecideRows
 pub mod DecideEnds
 pub mod ReadImages
 pub mod FewLinks
-pub mod Never14
+pub mod LinkByLink
 pub mod ReadWalks
 pub mod ReadWarming
 pub mod ReadEnds

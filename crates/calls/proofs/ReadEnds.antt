@@ -9,7 +9,6 @@ use borrow.Author.Tests.{eq-eqb, ne-eqb, le-leb, lt-leb}
 use Rattle.page.specs.declared.Page.{Page}
 use Rattle.page.specs.declared.Sought as sought
 use Rattle.page.specs.declared.Sought.{Sought}
-use Rattle.page.specs.Layout.{pageSize}
 use Rattle.recovery.specs.Places.{nth, put}
 use Rattle.recovery.specs.Log.{blank}
 use Rattle.recovery.specs.Sheet.{pageBytes, imageFrom}
@@ -21,17 +20,17 @@ use Rattle.recovery.specs.World.{World, isFile, withRow, warmRow, rowHolds, ref
 use Rattle.recovery.specs.Lent.{rowLength, rowsOf, pagesOf, lent, refused}
 use Rattle.recovery.specs.Steps.{lineOne, sealedImage, rowHoldsBy, rowHoldsIn, withRowOf, Warmed}
 use Rattle.recovery.proofs.Held.{row-held}
-use Rattle.recovery.proofs.Pages.{pages-long}
 use Rattle.recovery.proofs.FlatRows.{rows-long}
 use Rattle.calls.specs.declared.reading.Reading.{Reading}
-use Rattle.calls.specs.Walk.{Walk, met, nothing, lost, endless, follow}
+use Rattle.calls.specs.Walk.{Walk, met, nothing, lost, imagesBelow, follow}
 use Rattle.calls.specs.Calls.{read, on, onRead, onToken, answerWalk, imageOf, readCurrent, readToken}
 use Rattle.calls.specs.Leaves.{callLeaves}
 use Rattle.calls.specs.ReadSteps.{readLine, imageBy, Looked, walkAnswer, walkAt, world, Versions, Reads}
 use Rattle.calls.proofs.Ends.{ends-same, ends-row}
 use Rattle.calls.proofs.ActionLines.{read-by}
 use Rattle.calls.proofs.ReadImages.{met-at, looked-token}
-use Rattle.calls.proofs.ReadWalks.{follow-met, met-long}
+use Rattle.calls.proofs.LinkByLink.{reached}
+use Rattle.calls.proofs.ReadWalks.{met-long}
 use Rattle.calls.proofs.ReadWarming.{warm-is, put-twice, put-over}
 
 -- ---- the versions
@@ -49,22 +48,21 @@ module _ (files : ℕ) (s : List ℕ) (f t : ℕ) (r : Row) (u : Sought) (l : Lo
     pub walk-from : sealedImage files s f (r .current) ≡ sought.Sought.Image x
     walk-from = sym (l .found) ∙ i
 
-    module _ (q : Answer) (hq : q ≡ walkAt files s f t (length s / pageSize) (r .current) x) where
+    module _ (q : Answer) (hq : q ≡ walkAt files s f t (r .current) x) where
       abbrev steps : Walk
-      steps = follow (λ p. nth blank (pagesOf s files) p) f t (length s / pageSize) (record { place = r .current; image = imageFrom (pageBytes s (r .current)) x })
+      steps = follow t (record { place = r .current; image = imageFrom (pageBytes s (r .current)) x }) (imagesBelow (pagesOf s files) (r .current) f)
 
       still : (e : ℕ) (fs : List ℕ) (rs : List Row) (fl n : ℕ) → put rs f r ≡ rs → (k : Walk)
           → answerWalk (world files s e fs rs fl n) f r k ≡ (walkAnswer k, withRow (world files s e fs rs fl n) f r)
       still e fs rs fl n h (met y) = refl
       still e fs rs fl n h nothing = refl
       still e fs rs fl n h (lost p) = rw h
-      still e fs rs fl n h endless = rw h
 
       pub versions-early : t < x .start → Versions files s f t r (record { answer = q; row = r })
       unfolding walkAt
       versions-early b = record {
         is = λ e fs rs fl n h.
-            rw (current-is (sought.Sought.Image x) i, lt-leb (x .start) t b, pages-long files (length s / pageSize) s) (still e fs rs fl n h steps)
+            rw (current-is (sought.Sought.Image x) i, lt-leb (x .start) t b) (still e fs rs fl n h steps)
             ∙ ap (λ (y : Answer). (y, withRow (world files s e fs rs fl n) f r)) (sym hq);
       }
 
@@ -72,14 +70,14 @@ module _ (files : ℕ) (s : List ℕ) (f t : ℕ) (r : Row) (u : Sought) (l : Lo
       unfolding walkAt
       versions-met y hy b = record {
         is = λ e fs rs fl n h.
-            rw (current-is (sought.Sought.Image x) i, le-leb (x .start) t b, pages-long files (length s / pageSize) s) (go e fs rs fl n)
+            rw (current-is (sought.Sought.Image x) i, le-leb (x .start) t b) (go e fs rs fl n)
             ∙ ap (λ (z : Row). (q, withRow (world files s e fs rs fl n) f z)) (sym hy);
       }
         where
           go : (e : ℕ) (fs : List ℕ) (rs : List Row) (fl n : ℕ)
               → answerWalk (world files s e fs rs fl n) f (readCurrent t true r) steps ≡ (q, withRow (world files s e fs rs fl n) f (readCurrent t true r))
           go e fs rs fl n =
-              let k : steps ≡ met (record { place = r .current; image = imageFrom (pageBytes s (r .current)) x }) = follow-met files s f t (length s / pageSize) (r .current) x walk-from b in
+              let k : steps ≡ met (record { place = r .current; image = imageFrom (pageBytes s (r .current)) x }) = reached (pagesOf s files) f t (record { place = r .current; image = imageFrom (pageBytes s (r .current)) x }) b in
               ap (answerWalk (world files s e fs rs fl n) f (readCurrent t true r)) k
               ∙ ap (λ (z : Answer). (z, withRow (world files s e fs rs fl n) f (readCurrent t true r))) (sym (hq ∙ ap walkAnswer k))
 

@@ -3,7 +3,7 @@ use Prim.Native.Nat.{ℕ, zero, suc, _*_, _/_, _≤_}
 use mathlib.Core.Path.{_≡_, refl, sym, ap, _∙_}
 use mathlib.Core.Bool.{Bool, true, false, cond, _&&_, _||_}
 use mathlib.Core.List.{List}
-use mathlib.Core.Option.{some, none}
+use mathlib.Core.Option.{none}
 use native.Mathlib.Omega.{arith}
 use lib.ListN.{length, drop, length-take, length-drop}
 use lib.Dec.{eqb, leb}
@@ -18,7 +18,7 @@ use Rattle.page.specs.Layout.{pageSize}
 use Rattle.page.specs.Answers.{tested, onImage}
 use Rattle.page.proofs.Found.{ImageIs, image-is, found}
 use Rattle.recovery.specs.Places.{nth}
-use Rattle.recovery.specs.Log.{blank}
+use Rattle.recovery.specs.Log.{blank, image}
 use Rattle.recovery.specs.Sheet.{pageBytes, entryOf, imageFrom, isOpening, seal, decoded}
 use Rattle.recovery.specs.World.{isImageOf}
 use Rattle.recovery.specs.Lent.{pagesOf}
@@ -32,7 +32,7 @@ use Rattle.calls.specs.ReadSteps.{Looked}
 -- ---- what a find tells
 
 pub record Met (files : ℕ) (s : List ℕ) (f p : ℕ) (x : Page) : Type 0 where
-  pub page-is : imageOf (nth blank (pagesOf s files) p) ≡ some (imageFrom (pageBytes s p) x)
+  pub page-is : nth blank (pagesOf s files) p ≡ image (imageFrom (pageBytes s p) x)
   pub file-is : x .file ≡ f
   pub rules : ImageIs x p files
   pub low : 1 ≤ p
@@ -53,9 +53,9 @@ module _ (files : ℕ) (s : List ℕ) (f p : ℕ) (x : Page) where
   from-image y q true ea true eo k =
       let z : y ≡ x = cc in
       let l = in-room s p files y q in
-      let e : imageOf (seal (decoded files s) (entryOf (pageBytes s p) (Image y))) ≡ some (imageFrom (pageBytes s p) x) = rw (eo, z) in
+      let e : seal (decoded files s) (entryOf (pageBytes s p) (Image y)) ≡ image (imageFrom (pageBytes s p) x) = rw (eo, z) in
       record {
-        page-is = ap imageOf (page-at-place files (length s / pageSize) s p (l .0) (omega arith)) ∙ ap imageOf (sym (sealed-is s p files (Image y) q)) ∙ e;
+        page-is = page-at-place files (length s / pageSize) s p (l .0) (omega arith) ∙ sym (sealed-is s p files (Image y) q) ∙ e;
         file-is = rw z at (eqb-true (y .file) f ea);
         rules = rw z at (image-is (pageBytes s p) p files y q);
         low = l .0;
@@ -89,7 +89,7 @@ module _ (files : ℕ) (s : List ℕ) (e f p : ℕ) where
   -- what was found at a place that line 7 lets through
   pub looked : (u : Sought) → u ≡ sealedImage files s f p → placeHoldsBy e p u ≡ true → Looked files s f p u
   unfolding placeHoldsBy
-  looked (sought.Sought.Image x) h k = record { found = h; image-is = met-at files s f p x (sym h) .page-is }
+  looked (sought.Sought.Image x) h k = record { found = h; image-is = ap imageOf (met-at files s f p x (sym h) .page-is) }
   looked sought.Sought.Other h k = record { found = h; image-is = go p k }
     where
       go : (p : ℕ) → (eqb p 0 || (leb p e && false)) ≡ true → imageOf (nth blank (pagesOf s files) p) ≡ none

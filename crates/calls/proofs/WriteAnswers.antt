@@ -11,7 +11,7 @@ use Rattle.page.specs.declared.Page.{Page}
 use Rattle.page.specs.declared.Sought as sought
 use Rattle.page.specs.declared.Sought.{Sought}
 use Rattle.recovery.specs.Places.{nth}
-use Rattle.recovery.specs.Log.{blank}
+use Rattle.recovery.specs.Log.{Entry, blank}
 use Rattle.recovery.specs.declared.Row.{Row}
 use Rattle.recovery.specs.declared.State.{State}
 use Rattle.recovery.specs.declared.Answer.{Answer}
@@ -64,7 +64,7 @@ module _ (s : List ℕ) (files : ℕ) (st : State) (f t : ℕ) (r : Row) (u v : 
     unfolding writeAnswer
     write-8 x i =
         let m = met-at files s f (r .token) x (sym hv ∙ i) in
-        let k : actionOf (imageOf (nth blank (pagesOf s files) (r .token))) ≡ x .action = ap actionOf (m .page-is) in
+        let k : actionOf (imageOf (nth blank (pagesOf s files) (r .token))) ≡ x .action = ap (λ (g : Entry). actionOf (imageOf g)) (m .page-is) in
         simp (held, ne-eqb (r .token) 0 (λ z. omega arith), k)
 
     pub write-store : v ≡ sought.Sought.Other → (q : Answer) → q ≡ storeAnswer s files st t r → q ≡ writeAnswer s files st f t r

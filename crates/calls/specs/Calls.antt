@@ -13,7 +13,7 @@ use Rattle.recovery.specs.declared.Row.{Row}
 use Rattle.recovery.specs.declared.Answer.{Answer}
 use Rattle.recovery.specs.declared.Answer.the-variants.{Refused, Stored, Value, Nothing, Told}
 use Rattle.recovery.specs.World.{World, Result, refuse, entryAt, fateNumber, fateAt, isBlank, withRow, warmRow, rowHolds, lentRight, isFile, rebuilt}
-use Rattle.calls.specs.Walk.{Walk, met, nothing, lost, endless, follow}
+use Rattle.calls.specs.Walk.{Walk, met, nothing, lost, imagesBelow, follow}
 
 -- write: file, start, action, value; read: file, time, action or 0; decide: action, and whether it commits
 pub data Call : Type 0 where
@@ -98,12 +98,12 @@ onWrite w f start a v r =
     (refuse 8 (actionOf (imageOf (entryAt w (r .token)))) w))
     (refuse 7 0 w)
 
--- ---- read, on a warm row: lines 7, 9, 13, 14
+-- ---- read, on a warm row: lines 7, 9, 13
 
 -- from the current version down the links
 abbrev pub walkFrom : World → ℕ → ℕ → ℕ → Option Image → Walk
 walkFrom w f time place none = nothing
-walkFrom w f time place (some i) = follow (entryAt w) f time (length (w .sheet)) (record { place = place; image = i })
+walkFrom w f time place (some i) = follow time (record { place = place; image = i }) (imagesBelow (w .sheet) place f)
 
 abbrev pub versionAnswer : Placed → Answer
 versionAnswer x = Value (x .place) (x .image .start) (length (x .image .value))
@@ -112,7 +112,6 @@ abbrev pub answerWalk : World → ℕ → Row → Walk → Result
 answerWalk w f r (met x) = (versionAnswer x, withRow w f r)
 answerWalk w f r nothing = (Nothing, withRow w f r)
 answerWalk w f r (lost place) = refuse 13 place w
-answerWalk w f r endless = refuse 14 0 w
 
 -- the time is at least the current start, or there is no current version
 abbrev pub reaches : ℕ → Option Image → Bool

@@ -20,7 +20,7 @@ use Rattle.recovery.specs.Lent.{pagesOf}
 use Rattle.recovery.specs.Steps.{sealedImage, rowHoldsIn}
 use Rattle.calls.specs.declared.reading.Reading.{Reading}
 use Rattle.calls.specs.LineSteps.{actionLine, roomLine}
-use Rattle.calls.specs.Walk.{Walk, met, nothing, lost, endless, follow}
+use Rattle.calls.specs.Walk.{Walk, met, nothing, lost, imagesBelow, follow}
 use Rattle.calls.specs.Calls.{imageOf, actionOf, versionAnswer, onVersions, onRead}
 
 -- lines 5 and 6 of read, which passes over them for action 0
@@ -37,16 +37,15 @@ pub record Looked (files : ℕ) (s : List ℕ) (file place : ℕ) (u : Sought) :
   pub found : u ≡ sealedImage files s file place
   pub image-is : imageOf (nth blank (pagesOf s files) place) ≡ imageBy (pageBytes s place) u
 
--- what a walk answers, and the walk from a place whose page has these fields, with room for so many links
+-- what a walk answers, and the walk from a place whose page has these fields
 abbrev pub walkAnswer : Walk → Answer
 walkAnswer (met x) = versionAnswer x
 walkAnswer nothing = Nothing
 walkAnswer (lost place) = Refused 13 place
-walkAnswer endless = Refused 14 0
 
-unfoldable pub walkAt : ℕ → List ℕ → ℕ → ℕ → ℕ → ℕ → Page → Answer
-walkAt files s file time n place x =
-    walkAnswer (follow (λ p. nth blank (pagesOf s files) p) file time n (record { place = place; image = imageFrom (pageBytes s place) x }))
+unfoldable pub walkAt : ℕ → List ℕ → ℕ → ℕ → ℕ → Page → Answer
+walkAt files s file time place x =
+    walkAnswer (follow time (record { place = place; image = imageFrom (pageBytes s place) x }) (imagesBelow (pagesOf s files) place file))
 
 -- a read of a warm row: its answer and the row that it leaves, in any world whose row it is
 abbrev pub world : ℕ → List ℕ → ℕ → List ℕ → List Row → ℕ → ℕ → World

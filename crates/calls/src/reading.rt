@@ -19,7 +19,6 @@ ghost use mathlib.Core.Bool.{true};
 ghost use mathlib.Core.Path.{_≡_};
 ghost use Prim.Native.Nat.{_/_};
 ghost use lib.ListN.{length};
-ghost use Rattle.page.specs.Layout.{pageSize};
 ghost use Rattle.page.specs.declared.Sought as sought;
 ghost use Rattle.recovery.specs.World.{isFile};
 ghost use Rattle.recovery.specs.Lent.{leftBy, rowLength};
@@ -60,11 +59,10 @@ fn read_line(fates: &[u8], end: u64, action: u64) -> u64
 // The first image from a place down the links whose start is not above a time.
 fn walk(sheet: &[u8], from: u64, files: u64, file: u64, time: u64, first: Page) -> Answer
     requires { ⌜ sealedImage files (now sheet) file from ≡ sought.Sought.Image first ⌝ }
-    ensures { λ r. ⌜ r ≡ walkAt files (now (sheet .entry)) file time (length (now (sheet .entry)) / pageSize) from first ⌝ }
+    ensures { λ r. ⌜ r ≡ walkAt files (now (sheet .entry)) file time from first ⌝ }
 {
     let mut place = from;
     let mut x = first;
-    let mut left = sheet.len() / Page::SIZE;
     loop {
         if x.start <= time {
             return Answer::Value(place, x.start, x.small);
@@ -77,10 +75,6 @@ fn walk(sheet: &[u8], from: u64, files: u64, file: u64, time: u64, first: Page) 
         let Sought::Image(y) = found else {
             return Answer::Refused(13, place);
         };
-        if left == 0 {
-            return Answer::Refused(14, 0);
-        }
-        left -= 1;
         place = next;
         x = y;
     }
@@ -115,7 +109,7 @@ fn read_versions(
     }
 }
 
-// Lines 7 to 14 of read on a warm row. Each place of the row is looked at once.
+// Lines 7 to 13 of read on a warm row. Each place of the row is looked at once.
 fn read_row(
     sheet: &[u8],
     end: u64,

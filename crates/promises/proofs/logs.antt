@@ -3,6 +3,5 @@ pub mod Logs
 pub mod Chains
 pub mod Appends
 pub mod Versions
-pub mod Links
 pub mod Fates
 pub mod Histories

@@ -3,27 +3,32 @@ use mathlib.Core.Path.{_≡_, refl, sym, ap, _∙_, subst}
 use mathlib.Core.List.{List, [], _∷_, head?}
 use mathlib.Core.Bool.{Bool, true, false, cond}
 use mathlib.Core.Option.{Option, some, none}
-use Prim.Native.Nat.{ℕ, max}
+use Prim.Native.Nat.{ℕ, max, _<_}
 use native.Mathlib.Omega.{arith}
-use lib.ListN.{length}
 use lib.Dec.{eqb, leb}
-use borrow.Author.Tests.{eq-eqb, ne-eqb, le-leb}
+use borrow.Author.Tests.{eq-eqb, ne-eqb, le-leb, leb-true, leb-false}
 use Rattle.encoding.proofs.Logic.{clash}
 use Rattle.recovery.specs.Log.{Entry, Placed, fateOf, imagesOf, placeOf, startOf}
 use Rattle.recovery.specs.World.{World, entryAt, withRow, isFile}
 use Rattle.recovery.specs.declared.Row.{Row}
 use Rattle.recovery.specs.declared.Answer.the-variants.{Stored}
 use Rattle.inspection.specs.Lawful.{versions, current, token}
+use Rattle.calls.specs.Walk.{Walk, met, nothing, imagesBelow, follow}
 use Rattle.calls.specs.Calls.{read, imageOf, walkFrom, answerWalk, reaches, readCurrent, readToken, onVersions, onToken, onRead}
 use Rattle.recovery.proofs.Spots.{Spots, spots, Lies, versions-lie}
+use Rattle.calls.proofs.LinkByLink.{reached, unlinked, linked}
 use Rattle.promises.specs.Model.{Version, Object, object, Model, newest, since, latest, shows, changed, withObject, readHistory, reading}
 use Rattle.promises.specs.FromLog.{versionIn, history}
 use Rattle.promises.proofs.logs.Chains.{Ordered, versions-ordered, chain}
 use Rattle.promises.proofs.logs.Versions.{latestOf, version}
 use Rattle.promises.proofs.logs.Histories.{latest-is}
-use Rattle.promises.proofs.logs.Links.{walked, AllSeen, walk-finds}
 use Rattle.promises.proofs.worlds.LogSays.{currentEnd, tokenEnd, changed-not, newest-since}
 use Rattle.promises.proofs.worlds.Sim.{rowFor, Sim, Agrees, agrees-cond, answers, refused, current-lies, token-lies, lies-at, row-holds, sim-set}
+
+-- what a walk comes to that finds a version, or none
+abbrev walked : Option Placed → Walk
+walked none = nothing
+walked (some x) = met x
 
 -- the time is at least the start of the current version, or there is none
 abbrev within : ℕ → Option Placed → Bool
@@ -41,16 +46,30 @@ not-stored (some x) p e = clash cc
 module _ (w : World) (l : List Entry) (m : Model) (s : Sim w l m) where
   -- ---- the walk
 
-  all-seen : (f : ℕ) (xs : List Placed) → Spots l f xs → AllSeen (entryAt w) f xs
-  all-seen f [] h = tt
-  all-seen f (x ∷ xs) h = (record { here = lies-at w l m s f x (h .0); mine = h .0 .mine; low = h .0 .low }, all-seen f xs (h .1))
+  module _ (f t : ℕ) where
+    abbrev walk : Placed → Walk
+    walk x = follow t x (imagesBelow (w .sheet) (x .place) f)
 
-  walk-eq : (f t : ℕ) (vs : List Placed) → Ordered vs → Spots l f vs
-      → walkFrom w f t (placeOf (head? vs)) (imageOf (entryAt w (placeOf (head? vs)))) ≡ walked (latestOf t vs)
-  unfolding latestOf
-  walk-eq f t [] o h = refl
-  walk-eq f t (x ∷ vs) o h =
-      rw (lies-at w l m s f x (h .0)) (walk-finds (entryAt w) f t x vs (length (w .sheet)) o (all-seen f (x ∷ vs) h) (omega (arith, h .0 .high, s .long, s .room)))
+    -- a version, or what is found below it
+    found-by : (x : Placed) (z : Option Placed) → (t < x .image .start → walk x ≡ walked z) → walk x ≡ walked (cond (leb (x .image .start) t) (some x) z)
+    found-by x z h = go (leb (x .image .start) t) refl
+      where
+        go : (b : Bool) → leb (x .image .start) t ≡ b → walk x ≡ walked (cond b (some x) z)
+        go true e = reached (w .sheet) f t x (leb-true (x .image .start) t e)
+        go false e = h (leb-false (x .image .start) t e)
+
+    walk-finds : (x : Placed) (vs : List Placed) → Ordered (x ∷ vs) → Spots l f vs → walk x ≡ walked (latestOf t (x ∷ vs))
+    unfolding latestOf
+    walk-finds x [] o h = found-by x none (λ b. unlinked (w .sheet) f t x b (o .0 .links))
+    walk-finds x (y ∷ vs) o h =
+        found-by x (latestOf t (y ∷ vs)) (λ b.
+        linked (w .sheet) f t x b (rw (o .0 .links) (o .0 .higher)) (y .image) (rw (o .0 .links) (lies-at w l m s f y (h .0))) (h .0 .mine)
+        ∙ rw (o .0 .links) (walk-finds y vs (o .1) (h .1)))
+
+    walk-eq : (vs : List Placed) → Ordered vs → Spots l f vs → walkFrom w f t (placeOf (head? vs)) (imageOf (entryAt w (placeOf (head? vs)))) ≡ walked (latestOf t vs)
+    unfolding latestOf
+    walk-eq [] o h = refl
+    walk-eq (x ∷ vs) o h = rw (lies-at w l m s f x (h .0)) (walk-finds x vs o (h .1))
 
   reach-eq : (f t : ℕ) (z : Option Placed) → Lies l f z → reaches t (imageOf (entryAt w (placeOf z))) ≡ within t z
   reach-eq f t none h = refl

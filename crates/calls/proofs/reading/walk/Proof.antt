@@ -1,22 +1,18 @@
--- `calls::reading::walk`: the loop holds a sealed image of the file, from which the walk comes to what the first one comes to; the room for links falls. Assumes nothing.
-use Rattle.calls.proofs.ReadWalks.{walk-met, walk-end, walk-lost, walk-endless, walk-on, next-is}
+-- `calls::reading::walk`: the loop holds a sealed image of the file, from which the walk comes to what the first one comes to; its place falls. Assumes nothing.
+use Rattle.calls.proofs.ReadWalks.{falls, walk-met, walk-end, walk-lost, walk-on, next-is}
 use Rattle.calls.specs.ReadSteps.{walkAt}
 use Rattle.recovery.specs.Steps.{sealedImage}
 use Rattle.page.specs.declared.Sought as sought
-use Rattle.page.specs.Layout.{pageSize}
-use denote.Ref.{now}
-use lib.ListN.{length}
 use mathlib.Core.Path.{_≡_, refl, _∙_}
-use Prim.Native.Nat.{_/_}
 use borrow.Author.Needs.{needs}
 use Rattle.calls.proofs.reading.walk.Statement.{statement}
 use Rattle.calls.proofs.reading.walk.Tie as tie
 
 abbrev Inv-loop : tie.InvT-loop
-Inv-loop sheet from files file time place₀ x₀ left₀ place x left = (sealedImage files sheet file place ≡ sought.Sought.Image x) × (walkAt files sheet file time left place x ≡ walkAt files sheet file time (length sheet / pageSize) from x₀)
+Inv-loop sheet from files file time place₀ x₀ place x = (sealedImage files sheet file place ≡ sought.Sought.Image x) × (walkAt files sheet file time place x ≡ walkAt files sheet file time from x₀)
 
 abbrev μ-loop : tie.MeasureT-loop
-μ-loop sheet from files file time place₀ x₀ left₀ place x left = left
+μ-loop sheet from files file time place₀ x₀ place x = place
 
 loop-holds : tie.Need-loop-holds Inv-loop μ-loop
 loop-holds c = (c .before .pre, refl)
@@ -24,12 +20,12 @@ loop-holds c = (c .before .pre, refl)
 returns : tie.Need-returns Inv-loop μ-loop
 returns c =
     let l = c .before .before .loop in
-    walk-met _ _ _ _ _ _ _ (l .inv .0) (c .if1 .taken) ∙ l .inv .1
+    walk-met _ _ _ _ _ _ (l .inv .0) (c .if1 .taken) ∙ l .inv .1
 
 returns-2 : tie.Need-returns-2 Inv-loop μ-loop
 returns-2 c =
     let l = c .before .before .before .loop in
-    walk-end _ _ _ _ _ _ _ (l .inv .0) (c .before .if1 .left) (c .if2 .taken) ∙ l .inv .1
+    walk-end _ _ _ _ _ _ (l .inv .0) (c .before .if1 .left) (c .if2 .taken) ∙ l .inv .1
 
 image-at-requires : tie.Need-image-at-requires Inv-loop μ-loop
 image-at-requires c κs = search needs
@@ -43,26 +39,20 @@ enum-told c = search needs
 returns-3 : tie.Need-returns-3 Inv-loop μ-loop
 returns-3 c =
     let l = c .before .before .before .before .before .before .loop in
-    walk-lost _ _ _ _ _ _ _ (l .inv .0) (c .before .before .before .before .if1 .left) (c .before .before .before .if2 .left) _ (c .before .before .image-at .ensures) (c .enum-told .given .1) ∙ l .inv .1
-
-returns-4 : tie.Need-returns-4 Inv-loop μ-loop
-returns-4 c =
-    let l = c .before .before .before .before .before .before .before .before .loop in
-    walk-endless _ _ _ _ _ _ _ (l .inv .0) (c .before .before .before .before .before .before .if1 .left) (c .before .before .before .before .before .if2 .left) _ (c .before .before .before .before .image-at .ensures) _ (c .before .before .found .given .1) (c .if3 .taken) ∙ l .inv .1
-
-sub-left : tie.Need-sub-left Inv-loop μ-loop
-sub-left c = search needs
+    walk-lost _ _ _ _ _ _ (l .inv .0) (c .before .before .before .before .if1 .left) (c .before .before .before .if2 .left) _ (c .before .before .image-at .ensures) (c .enum-told .given .1) ∙ l .inv .1
 
 loop-less : tie.Need-loop-less Inv-loop μ-loop
-loop-less c = search needs
+loop-less c =
+    let l = c .before .before .before .before .before .before .before .loop in
+    falls _ _ _ _ _ (l .inv .0)
 
 loop-again : tie.Need-loop-again Inv-loop μ-loop
 loop-again c =
-    let l = c .before .before .before .before .before .before .before .before .loop in
-    let a = c .before .before .before .before .before .before .before .before .before .before .args in (
-      next-is (a .files) (now (a .sheet)) (a .file) (a .time) (l .left) (l .place) (l .x) (l .inv .0) (c .before .before .before .before .before .before .if1 .left) (c .before .before .before .before .before .if2 .left) _ (c .before .before .before .before .image-at .ensures) _ (c .before .before .found .given .1),
-      walk-on (a .files) (now (a .sheet)) (a .file) (a .time) (l .left) (l .place) (l .x) (l .inv .0) (c .before .before .before .before .before .before .if1 .left) (c .before .before .before .before .before .if2 .left) _ (c .before .before .before .before .image-at .ensures) _ (c .before .before .found .given .1) (c .if3 .left) ∙ l .inv .1,
-    )
+    let l = c .before .before .before .before .before .before .before .loop in
+    let early = c .before .before .before .before .before .if1 .left in
+    let some = c .before .before .before .before .if2 .left in
+    let found = c .before .before .before .image-at .ensures in
+    (next-is _ _ _ _ _ _ (l .inv .0) early some _ found _ (c .before .found .given .1), walk-on _ _ _ _ _ _ (l .inv .0) early some _ found _ (c .before .found .given .1) ∙ l .inv .1)
 
 pub walk-spec : {M : Type 1} → statement M
 walk-spec =
@@ -77,7 +67,5 @@ walk-spec =
     enum-known-found
     enum-told
     returns-3
-    returns-4
-    sub-left
     loop-less
     loop-again)

@@ -1,0 +1,110 @@
+-- The walk goes link by link. It ends at an image that starts by the time, at link 0, and at a link to no image of the file; else it
+-- goes on from the page that the link names. Shuts out a walk that passes over a version. Assumes nothing.
+use Prim.Native.Nat.{ℕ, zero, suc, pred, _≤_, _<_}
+use mathlib.Core.Path.{_≡_, refl, sym, ap, _∙_}
+use mathlib.Core.Bool.{Bool, true, false, cond}
+use mathlib.Core.List.{List, [], _∷_}
+use native.Mathlib.Omega.{arith}
+use lib.ListN.{getD}
+use lib.Dec.{eqb, leb}
+use borrow.Author.Tests.{eq-eqb, ne-eqb, le-leb, lt-leb, eqb-true, eqb-false}
+use Rattle.encoding.proofs.Logic.{by-test, clash}
+use Rattle.recovery.specs.Places.{nth}
+use Rattle.recovery.specs.Log.{Image, Entry, blank, torn, bad, opening, image, outcome, Placed, imagesStep, imagesOf}
+use Rattle.recovery.specs.World.{down, isImageOf}
+use Rattle.recovery.proofs.Pages.{length-down}
+use Rattle.calls.specs.Walk.{Walk, met, nothing, lost, imagesBelow, follow}
+
+-- ---- one image
+
+module _ (t : ℕ) (x : Placed) where
+  stops : (xs : List Placed) → leb (x .image .start) t ≡ true → follow t x xs ≡ met x
+  unfolding follow
+  stops [] e = rw e
+  stops (y ∷ xs) e = rw e
+
+  tested-once : (xs : List Placed) → cond (leb (x .image .start) t) (met x) (follow t x xs) ≡ follow t x xs
+  tested-once xs = go (leb (x .image .start) t) refl
+    where
+      go : (b : Bool) → leb (x .image .start) t ≡ b → cond b (met x) (follow t x xs) ≡ follow t x xs
+      go true e = sym (stops xs e)
+      go false e = refl
+
+  -- a page that the link does not name
+  passed-over : (f p : ℕ) (g : Entry) (xs : List Placed) → (x .image .link ≡ p → ⊥) → follow t x (imagesStep g p f xs) ≡ follow t x xs
+  unfolding follow
+  passed-over f p blank xs h = refl
+  passed-over f p torn xs h = refl
+  passed-over f p bad xs h = refl
+  passed-over f p opening xs h = refl
+  passed-over f p (outcome a c) xs h = refl
+  passed-over f p (image i) xs h = by-test (λ (ys : List Placed). follow t x ys ≡ follow t x xs) (eqb (i .file) f) (λ e. rw (ne-eqb (x .image .link) p h) (tested-once xs)) (λ e. refl)
+
+not-added : (f p : ℕ) (g : Entry) (xs : List Placed) → isImageOf f g ≡ false → imagesStep g p f xs ≡ xs
+not-added f p blank xs h = refl
+not-added f p torn xs h = refl
+not-added f p bad xs h = refl
+not-added f p opening xs h = refl
+not-added f p (outcome a c) xs h = refl
+not-added f p (image i) xs h = rw h
+
+-- ---- the file's images at places 1 to n
+
+module _ (sheet : List Entry) (f t : ℕ) (x : Placed) where
+  abbrev upTo : ℕ → List Placed
+  upTo n = imagesOf (down sheet n) f
+
+  up-to-suc : (q : ℕ) → upTo (suc q) ≡ imagesStep (getD sheet q blank) (suc q) f (upTo q)
+  unfolding down imagesOf
+  up-to-suc q = rw (length-down sheet q)
+
+  -- pages from m + 1 to n, if the link names none of them
+  skipped : (n m : ℕ) → m ≤ n → ((p : ℕ) → m < p → p ≤ n → x .image .link ≡ p → ⊥) → follow t x (upTo n) ≡ follow t x (upTo m)
+  skipped zero m l h = let e : m ≡ 0 = omega arith in rw e
+  skipped (suc q) m l h =
+      go (eqb m (suc q)) refl (λ k. skipped q m k (λ p u v. h p u (omega arith)))
+    where
+      go : (b : Bool) → eqb m (suc q) ≡ b → (m ≤ q → follow t x (upTo q) ≡ follow t x (upTo m)) → follow t x (upTo (suc q)) ≡ follow t x (upTo m)
+      go true e r = rw (eqb-true m (suc q) e)
+      go false e r =
+          let k : m ≤ q = omega (arith, eqb-false m (suc q) e) in
+          ap (follow t x) (up-to-suc q) ∙ passed-over t x f (suc q) (getD sheet q blank) (upTo q) (h (suc q) (omega arith) (omega arith)) ∙ r k
+
+  -- among the images up to any place that is not below its own, an image's walk is the same
+  pub same-among : (n : ℕ) → x .image .link < x .place → x .place ≤ n → follow t x (upTo n) ≡ follow t x (imagesBelow sheet (x .place) f)
+  same-among n l h = skipped n (pred (x .place)) (omega arith) (λ p u v e. omega arith)
+
+  abbrev walk : Walk
+  walk = follow t x (imagesBelow sheet (x .place) f)
+
+  pub reached : x .image .start ≤ t → walk ≡ met x
+  reached h = stops t x (imagesBelow sheet (x .place) f) (le-leb (x .image .start) t h)
+
+  module _ (early : t < x .image .start) where
+    pub unlinked : x .image .link ≡ 0 → walk ≡ nothing
+    unfolding follow imagesOf down
+    unlinked e =
+        skipped (pred (x .place)) 0 (omega arith) (λ p u v q. omega arith) ∙ rw (lt-leb (x .image .start) t early, eq-eqb (x .image .link) 0 e)
+
+    module _ (low : x .image .link < x .place) where
+      to-link : walk ≡ follow t x (upTo (x .image .link))
+      to-link = skipped (pred (x .place)) (x .image .link) (omega arith) (λ p u v e. omega arith)
+
+      pub linked : (j : Image) → nth blank sheet (x .image .link) ≡ image j → j .file ≡ f
+          → walk ≡ follow t (record { place = x .image .link; image = j }) (imagesBelow sheet (x .image .link) f)
+      unfolding follow
+      linked j h mine = to-link ∙ go (x .image .link) refl h
+        where
+          go : (p : ℕ) → x .image .link ≡ p → nth blank sheet p ≡ image j → follow t x (upTo p) ≡ follow t (record { place = p; image = j }) (imagesBelow sheet p f)
+          go zero e k = clash cc
+          go (suc q) e k = ap (follow t x) (up-to-suc q) ∙ rw (k, eq-eqb (j .file) f mine, lt-leb (x .image .start) t early, eq-eqb (x .image .link) (suc q) e)
+
+      pub mislinked : (x .image .link ≡ 0 → ⊥) → isImageOf f (nth blank sheet (x .image .link)) ≡ false → walk ≡ lost (x .place)
+      unfolding follow imagesOf down
+      mislinked some h = to-link ∙ go (x .image .link) refl h
+        where
+          go : (p : ℕ) → x .image .link ≡ p → isImageOf f (nth blank sheet p) ≡ false → follow t x (upTo p) ≡ lost (x .place)
+          go zero e k = absurd (some e)
+          go (suc q) e k =
+              ap (follow t x) (up-to-suc q ∙ not-added f (suc q) (getD sheet q blank) (upTo q) k)
+              ∙ skipped q 0 (omega arith) (λ p u v z. omega arith) ∙ rw (lt-leb (x .image .start) t early, ne-eqb (x .image .link) 0 some)
