@@ -10,7 +10,7 @@ use Rattle.page.specs.declared.Page.{Page}
 use Rattle.page.specs.declared.Sought as sought
 use Rattle.page.specs.declared.Sought.{Sought}
 use Rattle.recovery.specs.Places.{nth, put}
-use Rattle.recovery.specs.Log.{blank}
+use Rattle.recovery.specs.Log.{blank, Placed}
 use Rattle.recovery.specs.Sheet.{pageBytes, imageFrom}
 use Rattle.recovery.specs.declared.Row.{Row}
 use Rattle.recovery.specs.declared.State.{State}
@@ -48,38 +48,33 @@ module _ (files : ℕ) (s : List ℕ) (f t : ℕ) (r : Row) (u : Sought) (l : Lo
     pub walk-from : sealedImage files s f (r .current) ≡ sought.Sought.Image x
     walk-from = sym (l .found) ∙ i
 
-    module _ (q : Answer) (hq : q ≡ walkAt files s f t (r .current) x) where
-      abbrev steps : Walk
-      steps = follow t (record { place = r .current; image = imageFrom (pageBytes s (r .current)) x }) (imagesBelow (pagesOf s files) (r .current) f)
+    abbrev newest : Placed
+    newest = record { place = r .current; image = imageFrom (pageBytes s (r .current)) x }
 
-      still : (e : ℕ) (fs : List ℕ) (rs : List Row) (fl n : ℕ) → put rs f r ≡ rs → (k : Walk)
-          → answerWalk (world files s e fs rs fl n) f r k ≡ (walkAnswer k, withRow (world files s e fs rs fl n) f r)
-      still e fs rs fl n h (met y) = refl
-      still e fs rs fl n h nothing = refl
-      still e fs rs fl n h (lost p) = rw h
+    abbrev steps : Walk
+    steps = follow t newest (imagesBelow (pagesOf s files) (r .current) f)
 
-      pub versions-early : t < x .start → Versions files s f t r (record { answer = q; row = r })
-      unfolding walkAt
-      versions-early b = record {
-        is = λ e fs rs fl n h.
-            rw (current-is (sought.Sought.Image x) i, lt-leb (x .start) t b) (still e fs rs fl n h steps)
-            ∙ ap (λ (y : Answer). (y, withRow (world files s e fs rs fl n) f r)) (sym hq);
-      }
+    pub versions-met : (y : Row) → y ≡ readCurrent t true r → x .start ≤ t → Versions files s f t r (record { answer = Value (r .current) (x .start) (x .small); row = y })
+    versions-met y hy b = record {
+      is = λ e fs rs fl n h.
+          let k : steps ≡ met newest = reached (pagesOf s files) f t newest b in
+          rw (current-is (sought.Sought.Image x) i, le-leb (x .start) t b, k, met-long files s f (r .current) x (met-at files s f (r .current) x walk-from))
+          (ap (λ (z : Row). (Value (r .current) (x .start) (x .small), withRow (world files s e fs rs fl n) f z)) (sym hy));
+    }
 
-      pub versions-met : (y : Row) → y ≡ readCurrent t true r → x .start ≤ t → Versions files s f t r (record { answer = q; row = y })
-      unfolding walkAt
-      versions-met y hy b = record {
-        is = λ e fs rs fl n h.
-            rw (current-is (sought.Sought.Image x) i, le-leb (x .start) t b) (go e fs rs fl n)
-            ∙ ap (λ (z : Row). (q, withRow (world files s e fs rs fl n) f z)) (sym hy);
-      }
-        where
-          go : (e : ℕ) (fs : List ℕ) (rs : List Row) (fl n : ℕ)
-              → answerWalk (world files s e fs rs fl n) f (readCurrent t true r) steps ≡ (q, withRow (world files s e fs rs fl n) f (readCurrent t true r))
-          go e fs rs fl n =
-              let k : steps ≡ met (record { place = r .current; image = imageFrom (pageBytes s (r .current)) x }) = reached (pagesOf s files) f t (record { place = r .current; image = imageFrom (pageBytes s (r .current)) x }) b in
-              ap (answerWalk (world files s e fs rs fl n) f (readCurrent t true r)) k
-              ∙ ap (λ (z : Answer). (z, withRow (world files s e fs rs fl n) f (readCurrent t true r))) (sym (hq ∙ ap walkAnswer k))
+    still : (e : ℕ) (fs : List ℕ) (rs : List Row) (fl n : ℕ) → put rs f r ≡ rs → (k : Walk)
+        → answerWalk (world files s e fs rs fl n) f r k ≡ (walkAnswer k, withRow (world files s e fs rs fl n) f r)
+    still e fs rs fl n h (met y) = refl
+    still e fs rs fl n h nothing = refl
+    still e fs rs fl n h (lost p) = rw h
+
+    pub versions-early : (q : Answer) → q ≡ walkAt files s f t (r .current) x → t < x .start → Versions files s f t r (record { answer = q; row = r })
+    unfolding walkAt
+    versions-early q hq b = record {
+      is = λ e fs rs fl n h.
+          rw (current-is (sought.Sought.Image x) i, lt-leb (x .start) t b) (still e fs rs fl n h steps)
+          ∙ ap (λ (y : Answer). (y, withRow (world files s e fs rs fl n) f r)) (sym hq);
+    }
 
 -- ---- the token
 

@@ -99,14 +99,14 @@ fn read_versions(
             row: reached,
         };
     };
+    if newest.start <= time {
+        return Reading {
+            answer: Answer::Value(row.current, newest.start, newest.small),
+            row: reached,
+        };
+    }
     let answer = walk(sheet, row.current, files, file, time, newest);
-    if time < newest.start {
-        return Reading { answer, row };
-    }
-    Reading {
-        answer,
-        row: reached,
-    }
+    Reading { answer, row }
 }
 
 // Lines 7 to 13 of read on a warm row. Each place of the row is looked at once.

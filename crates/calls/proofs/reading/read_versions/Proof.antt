@@ -19,20 +19,20 @@ returns c =
     let b = c .before .before .before .before in
     versions-none (b .args .files) (now (b .args .sheet)) (b .args .file) (b .args .time) (b .args .row) _ (b .pre) _ (c .before .before .current-read .ensures) (c .enum-told .given .1)
 
-walk-requires : tie.Need-walk-requires
-walk-requires c κs =
-    let b = c .before .before .before .before .before in
-    walk-from (b .args .files) (now (b .args .sheet)) (b .args .file) (b .args .time) (b .args .row) _ (b .pre) _ (c .before .current .given .1)
-
 returns-2 : tie.Need-returns-2
 returns-2 c =
-    let b = c .before .before .before .before .before .before .before .before in
-    versions-early (b .args .files) (now (b .args .sheet)) (b .args .file) (b .args .time) (b .args .row) _ (b .pre) _ (c .before .before .before .before .current .given .1) _ (c .before .before .walk .ensures) (c .if1 .taken)
+    let b = c .before .before .before .before .before .before .before in
+    versions-met (b .args .files) (now (b .args .sheet)) (b .args .file) (b .args .time) (b .args .row) _ (b .pre) _ (c .before .before .before .current .given .1) _ (c .before .before .before .before .before .current-read .ensures) (c .if1 .taken)
+
+walk-requires : tie.Need-walk-requires
+walk-requires c κs =
+    let b = c .before .before .before .before .before .before .before in
+    walk-from (b .args .files) (now (b .args .sheet)) (b .args .file) (b .args .time) (b .args .row) _ (b .pre) _ (c .before .before .before .current .given .1)
 
 returns-3 : tie.Need-returns-3
 returns-3 c =
     let b = c .before .before .before .before .before .before .before .before in
-    versions-met (b .args .files) (now (b .args .sheet)) (b .args .file) (b .args .time) (b .args .row) _ (b .pre) _ (c .before .before .before .before .current .given .1) _ (c .before .before .walk .ensures) _ (c .before .before .before .before .before .before .current-read .ensures) (c .if1 .left)
+    versions-early (b .args .files) (now (b .args .sheet)) (b .args .file) (b .args .time) (b .args .row) _ (b .pre) _ (c .before .before .before .before .current .given .1) _ (c .walk .ensures) (c .before .if1 .left)
 
 pub read-versions-spec : {M : Type 1} → statement M
 read-versions-spec =
@@ -42,6 +42,6 @@ read-versions-spec =
     enum-known-current
     enum-told
     returns
-    walk-requires
     returns-2
+    walk-requires
     returns-3)
