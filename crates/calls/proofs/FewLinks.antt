@@ -22,7 +22,7 @@ use Rattle.recovery.proofs.Held.{held-in}
 use Rattle.calls.specs.Walk.{imagesBelow, follow}
 use Rattle.calls.specs.Links.{Links, here, on}
 use Rattle.calls.proofs.ReadImages.{met-at}
-use Rattle.calls.proofs.LinkByLink.{same-among}
+use Rattle.calls.proofs.LinkByLink.{same-among, walk-ends}
 
 module _ (files : ℕ) (s : List ℕ) where
   abbrev pub page : ℕ → Entry
@@ -55,7 +55,11 @@ module _ (files : ℕ) (s : List ℕ) where
   pub fewer-than-pages : (x y : Placed) (n : ℕ) → page (x .place) ≡ image (x .image) → Links page x n y → n < length s / pageSize
   fewer-than-pages x y n e l = omega (arith, image-lies (x .place) (x .image) e .high, fewer-links x y n e l)
 
-  -- so a walk among more of the file's images than those below its own place comes to the same
+  -- a walk ends at an image that links lead to, and so follows no more
+  pub walk-few : (f t : ℕ) (x : Placed) → page (x .place) ≡ image (x .image) → walk-ends (pagesOf s files) f t x .count < x .place
+  walk-few f t x e = let w = walk-ends (pagesOf s files) f t x in fewer-links x (w .last) (w .count) e (w .led)
+
+  -- among more of the file's images than those below its own place it comes to the same
   pub same-walk : (f t : ℕ) (x : Placed) (n : ℕ) → page (x .place) ≡ image (x .image) → x .place ≤ n
       → follow t x (imagesOf (down (pagesOf s files) n) f) ≡ follow t x (imagesBelow (pagesOf s files) (x .place) f)
   same-walk f t x n e l = same-among (pagesOf s files) f t x n (image-lies (x .place) (x .image) e .link) l

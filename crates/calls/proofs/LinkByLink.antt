@@ -13,7 +13,9 @@ use Rattle.recovery.specs.Places.{nth}
 use Rattle.recovery.specs.Log.{Image, Entry, blank, torn, bad, opening, image, outcome, Placed, imagesStep, imagesOf}
 use Rattle.recovery.specs.World.{down, isImageOf}
 use Rattle.recovery.proofs.Pages.{length-down}
+use Rattle.recovery.proofs.Spots.{Spots, spots, entry-down}
 use Rattle.calls.specs.Walk.{Walk, met, nothing, lost, imagesBelow, follow}
+use Rattle.calls.specs.Links.{Links, here, on}
 
 -- ---- one image
 
@@ -108,3 +110,30 @@ module _ (sheet : List Entry) (f t : ℕ) (x : Placed) where
           go (suc q) e k =
               ap (follow t x) (up-to-suc q ∙ not-added f (suc q) (getD sheet q blank) (upTo q) k)
               ∙ skipped q 0 (omega arith) (λ p u v z. omega arith) ∙ rw (lt-leb (x .image .start) t early, ne-eqb (x .image .link) 0 some)
+
+-- ---- where it ends
+
+module _ (sheet : List Entry) (f t : ℕ) where
+  -- at an image that links lead to, it comes to what that image comes to alone: the image, none, or a link that leads nowhere
+  pub record Ends (x : Placed) (w : Walk) : Type 0 where
+    pub last : Placed
+    pub count : ℕ
+    pub led : Links (λ p. nth blank sheet p) x count last
+    pub comes : w ≡ follow t last []
+
+  ends-at : (x z : Placed) (xs : List Placed) → nth blank sheet (z .place) ≡ image (z .image) → Ends z (follow t z xs) → Ends x (follow t x xs)
+      → (b : Bool) → leb (x .image .start) t ≡ b → (c : Bool) → eqb (x .image .link) (z .place) ≡ c → Ends x (follow t x (z ∷ xs))
+  unfolding follow
+  ends-at x z xs h e d true b c k = record { last = x; count = 0; led = here; comes = rw b }
+  ends-at x z xs h e d false b true k =
+      let l : x .image .link ≡ z .place = eqb-true (x .image .link) (z .place) k in
+      record { last = e .last; count = suc (e .count); led = on {x = x} {y = e .last} {n = e .count} (z .image) (rw l h) (rw l (e .led)); comes = rw (b, k) (e .comes) }
+  ends-at x z xs h e d false b false k = record { last = d .last; count = d .count; led = d .led; comes = rw (b, k) (d .comes) }
+
+  ends : (n : ℕ) (x : Placed) (xs : List Placed) → Spots (down sheet n) f xs → Ends x (follow t x xs)
+  ends n x [] h = record { last = x; count = 0; led = here; comes = refl }
+  ends n x (z ∷ xs) h =
+      ends-at x z xs (sym (entry-down sheet n (z .place) (rw (length-down sheet n) at (h .0 .high))) ∙ h .0 .here) (ends n z xs (h .1)) (ends n x xs (h .1)) (leb (x .image .start) t) refl (eqb (x .image .link) (z .place)) refl
+
+  pub walk-ends : (x : Placed) → Ends x (follow t x (imagesBelow sheet (x .place) f))
+  walk-ends x = ends (pred (x .place)) x (imagesBelow sheet (x .place) f) (spots (down sheet (pred (x .place))) f)
