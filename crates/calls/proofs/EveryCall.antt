@@ -23,9 +23,9 @@ use Rattle.calls.specs.Lines.{lines, among}
 use Rattle.calls.specs.Leaves.{padded, valueAt}
 use Rattle.calls.specs.Calls.{Call, begin, write, read, test, decide, rebuild, forFile, forAction, forUndecided, hasAction, isDecided, hasRoom, append, store, onBegin, onWrite, onRead, onToken, onVersions, answerWalk, actionOf, versionAnswer, readCurrent, readToken, reaches, walkFrom, imageOf, settled, eachRow, onDecide, on, call}
 
--- the four ways, from one world, with the lines that may be said
-pub record Ways (P : Result → Type 0) (L : List ℕ) (w : World) : Type 0 where
-  pub refusing : (n p : ℕ) → among L n ≡ true → P (refuse n p w)
+-- the four ways of a call, from one world
+pub record Ways (P : Result → Type 0) (asked : Call) (w : World) : Type 0 where
+  pub refusing : (n p : ℕ) → among (lines asked) n ≡ true → P (refuse n p w)
   pub answering : (a : Answer) → isRefused a ≡ false → P (a, w)
   pub changing : (a : Answer) (f : ℕ) (r : Row) → isRefused a ≡ false → P (a, withRow w f r)
   pub growing : (g : Entry) (fates : List ℕ) (rows : List Row) (n : ℕ) → w .end < length (w .sheet) → length (valueAt g) ≡ valueSize → P (Stored (suc (w .end)), append w g fates rows n)
@@ -34,9 +34,13 @@ module _ (P : Result → Type 0) where
   either : (b : Bool) (x y : Result) → P x → P y → P (cond b x y)
   either b x y f g = by-test P b (λ e. f) (λ e. g)
 
-  module _ (L : List ℕ) (w : World) (h : Ways P L w) where
+  module _ (asked : Call) (w : World) (h : Ways P asked w) where
+    -- it has this line
+    abbrev Has : ℕ → Type 0
+    Has n = among (lines asked) n ≡ true
+
     -- lines 11 and 12
-    stores : among L 11 ≡ true → among L 12 ≡ true → (m : ℕ) → 1 ≤ m → (g : Entry) (fates : List ℕ) (rows : List Row) (n : ℕ) → length (valueAt g) ≡ valueSize
+    stores : Has 11 → Has 12 → (m : ℕ) → 1 ≤ m → (g : Entry) (fates : List ℕ) (rows : List Row) (n : ℕ) → length (valueAt g) ≡ valueSize
         → P (cond (hasRoom w m) (store w g fates rows n) (refuse 11 0 w))
     stores l11 l12 m l g fates rows n v =
         by-test P (hasRoom w m) {x = store w g fates rows n} {y = refuse 11 0 w} (λ e.
@@ -45,33 +49,33 @@ module _ (P : Result → Type 0) where
         (h .growing g fates rows n (omega arith) v) (h .refusing 12 0 l12)) (λ e. h .refusing 11 0 l11)
 
     -- line 7
-    holds : among L 7 ≡ true → (f : ℕ) (r : Row) (k : Result) → P k → P (cond (rowHolds w f r) k (refuse 7 0 w))
+    holds : Has 7 → (f : ℕ) (r : Row) (k : Result) → P k → P (cond (rowHolds w f r) k (refuse 7 0 w))
     holds l7 f r k q = either (rowHolds w f r) k (refuse 7 0 w) q (h .refusing 7 0 l7)
 
     -- lines 5 and 6
-    actions : among L 5 ≡ true → (a : ℕ) (k : Result) → P k → P (forAction w a k)
+    actions : Has 5 → (a : ℕ) (k : Result) → P k → P (forAction w a k)
     actions l5 a k q = either (hasAction w a) k (refuse 5 0 w) q (h .refusing 5 0 l5)
 
-    undecideds : among L 5 ≡ true → among L 6 ≡ true → (a : ℕ) (k : Result) → P k → P (forUndecided w a k)
+    undecideds : Has 5 → Has 6 → (a : ℕ) (k : Result) → P k → P (forUndecided w a k)
     undecideds l5 l6 a k q =
         actions l5 a (cond (isDecided (fateAt w a)) (refuse 6 0 w) k) (either (isDecided (fateAt w a)) (refuse 6 0 w) k (h .refusing 6 0 l6) q)
 
     -- line 3
-    files : among L 3 ≡ true → (f : ℕ) (k : Result) → P k → P (forFile w f k)
+    files : Has 3 → (f : ℕ) (k : Result) → P k → P (forFile w f k)
     files l3 f k q = either (isFile (length (w .rows)) f) k (refuse 3 0 w) q (h .refusing 3 0 l3)
 
   module _ (w : World) where
-    begins : Ways P (lines begin) w → P (onBegin w)
+    begins : Ways P begin w → P (onBegin w)
     begins h =
-        stores (lines begin) w h refl refl (w .undecided + 2) (omega arith) opening (put (w .fates) (suc (w .end)) 1) (w .rows) (suc (w .undecided))
+        stores begin w h refl refl (w .undecided + 2) (omega arith) opening (put (w .fates) (suc (w .end)) 1) (w .rows) (suc (w .undecided))
         (length-replicate {A = ℕ} valueSize 0)
 
-    decides : (a : ℕ) (c : Bool) → Ways P (lines (decide a c)) w → P (onDecide w a c)
+    decides : (a : ℕ) (c : Bool) → Ways P (decide a c) w → P (onDecide w a c)
     decides a c h =
-        stores (lines (decide a c)) w h refl refl 1 (omega arith) (outcome a c) (put (w .fates) a (fateNumber (verdict c))) (eachRow (settled w a c) 0 (w .rows))
+        stores (decide a c) w h refl refl 1 (omega arith) (outcome a c) (put (w .fates) a (fateNumber (verdict c))) (eachRow (settled w a c) 0 (w .rows))
         (pred (w .undecided)) (length-replicate {A = ℕ} valueSize 0)
 
-    writes : (f start a : ℕ) (v : List ℕ) (r : Row) → Ways P (lines (write f start a v)) w → length v ≤ valueSize → P (onWrite w f start a v r)
+    writes : (f start a : ℕ) (v : List ℕ) (r : Row) → Ways P (write f start a v) w → length v ≤ valueSize → P (onWrite w f start a v r)
     writes f start a v r h short =
         let g : Entry = image (record { file = f; action = a; link = r .current; start = start; value = v }) in
         let rows : List Row = put (w .rows) f (record { mark = 1; current = r .current; currentend = r .currentend; token = suc (w .end); tokenend = start }) in
@@ -80,16 +84,16 @@ module _ (P : Result → Type 0) where
         let late : Bool = ltb (r .currentend) start && ltb (w .floor) start in
         let timely : Result = cond late room (refuse 10 0 w) in
         let other : ℕ = actionOf (imageOf (entryAt w (r .token))) in
-        holds (lines (write f start a v)) w h refl f r (cond (eqb (r .token) 0) timely (refuse 8 other w)) (either (eqb (r .token) 0) timely (refuse 8 other w)
-        (either late room (refuse 10 0 w) (stores (lines (write f start a v)) w h refl refl (w .undecided + 1) (omega arith) g (w .fates) rows (w .undecided) long)
+        holds (write f start a v) w h refl f r (cond (eqb (r .token) 0) timely (refuse 8 other w)) (either (eqb (r .token) 0) timely (refuse 8 other w)
+        (either late room (refuse 10 0 w) (stores (write f start a v) w h refl refl (w .undecided + 1) (omega arith) g (w .fates) rows (w .undecided) long)
         (h .refusing 10 0 refl)) (h .refusing 8 other refl))
 
-    row-answers : (f : ℕ) (r : Row) → Ways P (lines (rebuild f)) w → P (answerRow w f r)
+    row-answers : (f : ℕ) (r : Row) → Ways P (rebuild f) w → P (answerRow w f r)
     unfolding isRefused
     row-answers f r h =
-        let x : Answer = Rebuilt (r .current) (r .currentend) (r .token) (r .tokenend) in holds (lines (rebuild f)) w h refl f r (x, w) (h .answering x refl)
+        let x : Answer = Rebuilt (r .current) (r .currentend) (r .token) (r .tokenend) in holds (rebuild f) w h refl f r (x, w) (h .answering x refl)
 
-    module _ (f time a : ℕ) (h : Ways P (lines (read f time a)) w) where
+    module _ (f time a : ℕ) (h : Ways P (read f time a) w) where
       walks : (r : Row) (x : Walk) → P (answerWalk w f r x)
       unfolding isRefused
       walks r (met x) = h .changing (versionAnswer x) f r refl
@@ -110,7 +114,7 @@ module _ (P : Result → Type 0) where
           (either (eqb (i .action) a) own (refuse 9 (i .action) w) (h .changing x f (readToken time r) refl) (h .refusing 9 (i .action) refl)) (versions r)
 
       reads : (r : Row) → P (onRead w f time a r)
-      reads r = let x : Option Image = imageOf (entryAt w (r .token)) in holds (lines (read f time a)) w h refl f r (onToken w f time a r x) (tokens r x)
+      reads r = let x : Option Image = imageOf (entryAt w (r .token)) in holds (read f time a) w h refl f r (onToken w f time a r x) (tokens r x)
 
 -- the file that a call asks for, 0 if it asks for none
 unfoldable pub fileOf : Call → ℕ
@@ -134,26 +138,26 @@ abbrev pub warmed : World → ℕ → World
 warmed w f = withRow w f (warmRow w f)
 
 module _ (P : Result → Type 0) (w : World) where
-  past-line-1 : (k : Call) → Ways P (lines k) w → Ways P (lines k) (warmed w (fileOf k)) → lentRight w ≡ true → P (on w k)
+  past-line-1 : (k : Call) → Ways P k w → Ways P k (warmed w (fileOf k)) → lentRight w ≡ true → P (on w k)
   unfolding fileOf isRefused rebuilt
   past-line-1 begin h g l = begins P w h
   past-line-1 (write f start a v) h g l =
       let x : Result = onWrite (warmed w f) f start a v (warmRow w f) in
-      files P (lines (write f start a v)) w h refl f (cond (leb (length v) valueSize) (forUndecided w a x) (refuse 4 0 w))
+      files P (write f start a v) w h refl f (cond (leb (length v) valueSize) (forUndecided w a x) (refuse 4 0 w))
       (by-test P (leb (length v) valueSize) {x = forUndecided w a x} {y = refuse 4 0 w}
-      (λ e. undecideds P (lines (write f start a v)) w h refl refl a x (writes P (warmed w f) f start a v (warmRow w f) g (leb-true (length v) valueSize e)))
+      (λ e. undecideds P (write f start a v) w h refl refl a x (writes P (warmed w f) f start a v (warmRow w f) g (leb-true (length v) valueSize e)))
       (λ e. h .refusing 4 0 refl))
   past-line-1 (read f time a) h g l =
       let x : Result = onRead (warmed w f) f time a (warmRow w f) in
       let q : P x = reads P (warmed w f) f time a g (warmRow w f) in
-      files P (lines (read f time a)) w h refl f (cond (eqb a 0) x (forUndecided w a x))
-      (either P (eqb a 0) x (forUndecided w a x) q (undecideds P (lines (read f time a)) w h refl refl a x q))
+      files P (read f time a) w h refl f (cond (eqb a 0) x (forUndecided w a x))
+      (either P (eqb a 0) x (forUndecided w a x) q (undecideds P (read f time a) w h refl refl a x q))
   past-line-1 (test a) h g l =
-      actions P (lines (test a)) w h refl a (Told (fateNumber (fateAt w a)), w) (h .answering (Told (fateNumber (fateAt w a))) refl)
-  past-line-1 (decide a c) h g l = undecideds P (lines (decide a c)) w h refl refl a (onDecide w a c) (decides P w a c h)
+      actions P (test a) w h refl a (Told (fateNumber (fateAt w a)), w) (h .answering (Told (fateNumber (fateAt w a))) refl)
+  past-line-1 (decide a c) h g l = undecideds P (decide a c) w h refl refl a (onDecide w a c) (decides P w a c h)
   past-line-1 (rebuild f) h g l =
-      rw l (files P (lines (rebuild f)) w h refl f (answerRow (warmed w f) f (warmRow w f)) (row-answers P (warmed w f) f (warmRow w f) g))
+      rw l (files P (rebuild f) w h refl f (answerRow (warmed w f) f (warmRow w f)) (row-answers P (warmed w f) f (warmRow w f) g))
 
-  pub every-call : (k : Call) → Ways P (lines k) w → Ways P (lines k) (warmed w (fileOf k)) → P (call w k)
+  pub every-call : (k : Call) → Ways P k w → Ways P k (warmed w (fileOf k)) → P (call w k)
   unfolding call
   every-call k h g = by-test P (lentRight w) {x = on w k} {y = refuse 1 0 w} (past-line-1 k h g) (λ e. h .refusing 1 0 (line-1 k))

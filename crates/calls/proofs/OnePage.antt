@@ -20,7 +20,6 @@ use Rattle.recovery.specs.Lent.{lent, whole, rowLength, refused}
 use Rattle.recovery.proofs.Pages.{pages-long}
 use Rattle.calls.specs.Calls.{Call, call}
 use Rattle.calls.specs.Leaves.{packedEntry, withPage, fieldsAt, valueAt, grown, lower, callLeaves}
-use Rattle.calls.specs.Lines.{lines}
 use Rattle.calls.proofs.EveryCall.{Ways, fileOf, warmed, every-call}
 
 -- bytes that are the same but for the page above place q
@@ -55,9 +54,9 @@ Grows : World → Result → Type 0
 Grows w r = (r .1 .end ≡ w .end) ⊎ ((w .end < length (w .sheet)) × (length (valueAt (entryAt (r .1) (suc (w .end)))) ≡ valueSize))
 
 -- from a world with the end and the sheet of the first
-ways : (w : World) (L : List ℕ) (v : World) → v .end ≡ w .end → v .sheet ≡ w .sheet → Ways (Grows w) L v
+ways : (w : World) (k : Call) (v : World) → v .end ≡ w .end → v .sheet ≡ w .sheet → Ways (Grows w) k v
 unfolding Grows
-ways w L v he hs = record {
+ways w k v he hs = record {
   refusing = λ n p l. inl he;
   answering = λ a h. inl he;
   changing = λ a f r h. inl he;
@@ -67,7 +66,7 @@ ways w L v he hs = record {
 }
 
 grows : (w : World) (k : Call) → Grows w (call w k)
-grows w k = every-call (Grows w) w k (ways w (lines k) w refl refl) (ways w (lines k) (warmed w (fileOf k)) refl refl)
+grows w k = every-call (Grows w) w k (ways w k w refl refl) (ways w k (warmed w (fileOf k)) refl refl)
 
 -- ---- the sheet that a call leaves
 

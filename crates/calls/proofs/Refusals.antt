@@ -28,15 +28,16 @@ use Rattle.calls.proofs.EveryCall.{Ways, fileOf, warmed, line-1, every-
 unfoldable pub Same : World → ℕ → World → Type 0
 Same w f w′ = (w′ ≡ w) ⊎ (w′ ≡ warmed w f)
 
-abbrev Quiet : List ℕ → World → ℕ → Result → Type 0
-Quiet L w f r = (n p : ℕ) → r .0 ≡ Refused n p → Same w f (r .1) × (among L n ≡ true)
+-- if a call ends so, refused, it is by one of its lines, and nothing more has changed
+abbrev Quiet : World → Call → Result → Type 0
+Quiet w k r = (n p : ℕ) → r .0 ≡ Refused n p → Same w (fileOf k) (r .1) × (among (lines k) n ≡ true)
 
-module _ (L : List ℕ) (w : World) (f : ℕ) where
-  quiet : (a : Answer) (w′ : World) → isRefused a ≡ false → Quiet L w f (a, w′)
+module _ (w : World) (k : Call) where
+  quiet : (a : Answer) (w′ : World) → isRefused a ≡ false → Quiet w k (a, w′)
   unfolding isRefused
   quiet a w′ h n p e = let z : _≡_ {A = ℕ} 0 1 = ap (λ (b : Bool). cond b 1 0) (sym h ∙ ap isRefused e) in absurd (omega arith)
 
-  ways : (v : World) → Same w f v → Ways (Quiet L w f) L v
+  ways : (v : World) → Same w (fileOf k) v → Ways (Quiet w k) k v
   unfolding isRefused
   ways v s = record {
     refusing = λ n p l m q e. let z : n ≡ m = cc in (s, rw z at l);
@@ -45,10 +46,9 @@ module _ (L : List ℕ) (w : World) (f : ℕ) where
     growing = λ g fates rows n l long. quiet (Stored _) (append v g fates rows n) refl;
   }
 
-quietly : (w : World) (k : Call) → Quiet (lines k) w (fileOf k) (call w k)
-unfolding Same
-quietly w k =
-    every-call (Quiet (lines k) w (fileOf k)) w k (ways (lines k) w (fileOf k) w (inl refl)) (ways (lines k) w (fileOf k) (warmed w (fileOf k)) (inr refl))
+  quietly : Quiet w k (call w k)
+  unfolding Same
+  quietly = every-call (Quiet w k) w k (ways w (inl refl)) (ways (warmed w (fileOf k)) (inr refl))
 
 pub refusals-change-nothing : (w : World) (k : Call) (n p : ℕ) → call w k .0 ≡ Refused n p → Same w (fileOf k) (call w k .1)
 refusals-change-nothing w k n p e = quietly w k n p e .0

@@ -56,7 +56,7 @@ fn read_line(fates: &[u8], end: u64, action: u64) -> u64
     action_line(fates, end, action)
 }
 
-// The first image from a place down the links whose start is not above a time.
+// The first image from a place down the links whose start is not above a time. A link leads to a lower place, so this ends.
 fn walk(sheet: &[u8], from: u64, files: u64, file: u64, time: u64, first: Page) -> Answer
     requires { ⌜ sealedImage files (now sheet) file from ≡ sought.Sought.Image first ⌝ }
     ensures { λ r. ⌜ r ≡ walkAt files (now (sheet .entry)) file time from first ⌝ }
