@@ -207,10 +207,19 @@ static uint64_t older(void) {
     return place && place <= pages ? link_of(place) : 0;
 }
 
+/* An image with another link below its place, packed anew: it stays sealed, whatever lies there. */
+static void relink(uint64_t place) {
+    uint8_t *page = page_at(place), value[32];
+    if (!is_image(place, file_of(place)))
+        return;
+    memcpy(value, page + 24, sizeof value);
+    plain_pack(page, 2, page[1], file_of(place), action_of(place), below(place), start_of(place), value, place);
+}
+
 /* Something lent that no call has left. */
 static void damage(void) {
     uint64_t place = older();
-    switch (below(9)) {
+    switch (below(11)) {
     case 0:
         kept.rows[below(NUMBERS)] = below(pages + 2);
         break;
@@ -231,6 +240,10 @@ static void damage(void) {
     case 7:
         if (place && place <= pages)
             page_at(place)[below(PAGE)] ^= (uint8_t)(1 + below(255));
+        break;
+    case 8:
+    case 9:
+        relink(1 + below(pages));
         break;
     default:
         kept.end = below(pages + 2);

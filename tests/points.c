@@ -124,7 +124,7 @@ static void set_chain(uint64_t pages) {
     chain_fates[0] = 2;
 }
 
-/* Whether a read of file 1 at a time, its row cold, answers which, with these first values. */
+/* Whether a read of file 1 at a time, its row cold, has this answer with these first values, and leaves the row as it must. */
 static int chain_answers(uint64_t pages, uint64_t time, uint64_t which, uint64_t first, uint64_t second) {
     uint64_t number[NUMBERS] = {0}, told[TOLD];
     struct lent l = {chain, pages * PAGE, chain_fates, pages, number, NUMBERS, pages, 0, 0};
@@ -133,6 +133,7 @@ static int chain_answers(uint64_t pages, uint64_t time, uint64_t which, uint64_t
            number[2] == (time < pages ? pages : time);
 }
 
+/* Reads before the first image, at every so many of them, and past the last. */
 static int walks_end(uint64_t pages, uint64_t step) {
     int all = chain_answers(pages, 1, NOTHING, 0, 0);
     for (uint64_t time = 2; time <= pages; time += step)
@@ -142,8 +143,10 @@ static int walks_end(uint64_t pages, uint64_t step) {
 
 static void most_links(void) {
     int all = 1;
-    for (uint64_t pages = 2; pages <= 70; pages++)
-        set_chain(pages), all = all && walks_end(pages, 1);
+    for (uint64_t pages = 2; pages <= 70; pages++) {
+        set_chain(pages);
+        all = all && walks_end(pages, 1);
+    }
     told("each page linked to the one below it, 2 to 70 pages: a read at every time is answered", all);
     set_chain(MOST_PAGES);
     told("and with 65,534 links on 65,536 pages", walks_end(MOST_PAGES, 5041));

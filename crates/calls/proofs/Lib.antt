@@ -13,8 +13,8 @@ pub mod BeginEnds
 pub mod DecideRows
 pub mod DecideEnds
 pub mod ReadImages
-pub mod FewLinks
 pub mod LinkByLink
+pub mod FewLinks
 pub mod ReadWalks
 pub mod ReadWarming
 pub mod ReadEnds

@@ -28,14 +28,14 @@ use Rattle.calls.specs.Leaves.{callLeaves}
 use Rattle.calls.specs.ReadSteps.{readLine, imageBy, Looked, walkAnswer, walkAt, world, Versions, Reads}
 use Rattle.calls.proofs.Ends.{ends-same, ends-row}
 use Rattle.calls.proofs.ActionLines.{read-by}
-use Rattle.calls.proofs.ReadImages.{met-at, looked-token}
+use Rattle.calls.proofs.ReadImages.{met-at, RowHeld, looked-token}
 use Rattle.calls.proofs.LinkByLink.{reached}
 use Rattle.calls.proofs.ReadWalks.{met-long}
 use Rattle.calls.proofs.ReadWarming.{warm-is, put-twice, put-over}
 
 -- ---- the versions
 
-module _ (files : ℕ) (s : List ℕ) (f t : ℕ) (r : Row) (u : Sought) (l : Looked files s f (r .current) u) where
+module _ {files : ℕ} {s : List ℕ} {f : ℕ} {u : Sought} (t : ℕ) (r : Row) (l : Looked files s f (r .current) u) where
   current-is : (o : Sought) → u ≡ o → imageOf (nth blank (pagesOf s files) (r .current)) ≡ imageBy (pageBytes s (r .current)) o
   current-is o i = l .image-is ∙ ap (imageBy (pageBytes s (r .current))) i
 
@@ -44,10 +44,7 @@ module _ (files : ℕ) (s : List ℕ) (f t : ℕ) (r : Row) (u : Sought) (l : Lo
     is = λ e fs rs fl n h. rw (current-is sought.Sought.Other i) (ap (λ (z : Row). (Nothing, withRow (world files s e fs rs fl n) f z)) (sym hy));
   }
 
-  module _ (x : Page) (i : u ≡ sought.Sought.Image x) where
-    pub walk-from : sealedImage files s f (r .current) ≡ sought.Sought.Image x
-    walk-from = sym (l .found) ∙ i
-
+  module _ {x : Page} (i : u ≡ sought.Sought.Image x) where
     abbrev newest : Placed
     newest = record { place = r .current; image = imageFrom (pageBytes s (r .current)) x }
 
@@ -58,7 +55,7 @@ module _ (files : ℕ) (s : List ℕ) (f t : ℕ) (r : Row) (u : Sought) (l : Lo
     versions-met y hy b = record {
       is = λ e fs rs fl n h.
           let k : steps ≡ met newest = reached (pagesOf s files) f t newest b in
-          rw (current-is (sought.Sought.Image x) i, le-leb (x .start) t b, k, met-long files s f (r .current) x (met-at files s f (r .current) x walk-from))
+          rw (current-is (sought.Sought.Image x) i, le-leb (x .start) t b, k, met-long files s f (r .current) x (met-at files s f (r .current) x (sym (l .found) ∙ i)))
           (ap (λ (z : Row). (Value (r .current) (x .start) (x .small), withRow (world files s e fs rs fl n) f z)) (sym hy));
     }
 
@@ -86,32 +83,32 @@ module _ (files : ℕ) (s : List ℕ) (e f t a : ℕ) (r : Row) (u v : Sought) (
   pub reads-7 : rowHoldsBy e r u v ≡ false → Reads files s e f t a r (record { answer = Refused 7 0; row = r })
   reads-7 h = record { is = λ fs rs fl n k. rw (holds-is false h fs rs fl n, k) }
 
-  module _ (h : rowHoldsBy e r u v ≡ true) where
-    on-held : (fs : List ℕ) (rs : List Row) (fl n : ℕ) (o : Sought) → v ≡ o
-        → onRead (world files s e fs rs fl n) f t a r ≡ onToken (world files s e fs rs fl n) f t a r (imageBy (pageBytes s (r .token)) o)
-    on-held fs rs fl n o i =
-        let k : imageOf (nth blank (pagesOf s files) (r .token)) ≡ imageBy (pageBytes s (r .token)) o =
-        looked-token files s e f r u v hu hv h .image-is ∙ ap (imageBy (pageBytes s (r .token))) i in
-        rw (holds-is true h fs rs fl n, k)
+module _ {files : ℕ} {s : List ℕ} {e f : ℕ} {r : Row} {u v : Sought} (t a : ℕ) (h : RowHeld files s e f r u v) where
+  on-held : (fs : List ℕ) (rs : List Row) (fl n : ℕ) (o : Sought) → v ≡ o
+      → onRead (world files s e fs rs fl n) f t a r ≡ onToken (world files s e fs rs fl n) f t a r (imageBy (pageBytes s (r .token)) o)
+  on-held fs rs fl n o i =
+      let k : imageOf (nth blank (pagesOf s files) (r .token)) ≡ imageBy (pageBytes s (r .token)) o =
+      looked-token h .image-is ∙ ap (imageBy (pageBytes s (r .token))) i in
+      rw (holds-is files s e f t a r u v (h .current) (h .token) true (h .holds) fs rs fl n, k)
 
-    pub reads-free : v ≡ sought.Sought.Other → (x : Reading) → Versions files s f t r x → Reads files s e f t a r x
-    reads-free i x vs = record { is = λ fs rs fl n k. on-held fs rs fl n sought.Sought.Other i ∙ vs .is e fs rs fl n k }
+  pub reads-free : v ≡ sought.Sought.Other → (x : Reading) → Versions files s f t r x → Reads files s e f t a r x
+  reads-free i x vs = record { is = λ fs rs fl n k. on-held fs rs fl n sought.Sought.Other i ∙ vs .is e fs rs fl n k }
 
-    module _ (x : Page) (i : v ≡ sought.Sought.Image x) where
-      pub reads-early : t < x .start → (y : Reading) → Versions files s f t r y → Reads files s e f t a r y
-      reads-early k y vs = record { is = λ fs rs fl n q. on-held fs rs fl n (sought.Sought.Image x) i ∙ rw (lt-leb (x .start) t k) (vs .is e fs rs fl n q) }
+  module _ {x : Page} (i : v ≡ sought.Sought.Image x) where
+    pub reads-early : t < x .start → (y : Reading) → Versions files s f t r y → Reads files s e f t a r y
+    reads-early k y vs = record { is = λ fs rs fl n q. on-held fs rs fl n (sought.Sought.Image x) i ∙ rw (lt-leb (x .start) t k) (vs .is e fs rs fl n q) }
 
-      module _ (k : x .start ≤ t) where
-        pub reads-9 : (x .action ≡ a → ⊥) → Reads files s e f t a r (record { answer = Refused 9 (x .action); row = r })
-        reads-9 o = record { is = λ fs rs fl n q. on-held fs rs fl n (sought.Sought.Image x) i ∙ rw (le-leb (x .start) t k, ne-eqb (x .action) a o, q) }
+    module _ (k : x .start ≤ t) where
+      pub reads-9 : (x .action ≡ a → ⊥) → Reads files s e f t a r (record { answer = Refused 9 (x .action); row = r })
+      reads-9 o = record { is = λ fs rs fl n q. on-held fs rs fl n (sought.Sought.Image x) i ∙ rw (le-leb (x .start) t k, ne-eqb (x .action) a o, q) }
 
-        pub reads-own : x .action ≡ a → (y : Row) → y ≡ readToken t r → Reads files s e f t a r (record { answer = Value (r .token) (x .start) (x .small); row = y })
-        reads-own o y hy = record {
-          is = λ fs rs fl n q.
-              on-held fs rs fl n (sought.Sought.Image x) i
-              ∙ rw (le-leb (x .start) t k, eq-eqb (x .action) a o, met-long files s f (r .token) x (met-at files s f (r .token) x (sym hv ∙ i)))
-              (ap (λ (z : Row). (Value (r .token) (x .start) (x .small), withRow (world files s e fs rs fl n) f z)) (sym hy));
-        }
+      pub reads-own : x .action ≡ a → (y : Row) → y ≡ readToken t r → Reads files s e f t a r (record { answer = Value (r .token) (x .start) (x .small); row = y })
+      reads-own o y hy = record {
+        is = λ fs rs fl n q.
+            on-held fs rs fl n (sought.Sought.Image x) i
+            ∙ rw (le-leb (x .start) t k, eq-eqb (x .action) a o, met-long files s f (r .token) x (met-at files s f (r .token) x (sym (h .token) ∙ i)))
+            (ap (λ (z : Row). (Value (r .token) (x .start) (x .small), withRow (world files s e fs rs fl n) f z)) (sym hy));
+      }
 
 -- ---- the ways read ends
 

@@ -96,22 +96,29 @@ module _ (files : ℕ) (s : List ℕ) (e f p : ℕ) where
       go zero q = refl
       go (suc j) q = let y : false ≡ true = simp (ne-eqb (suc j) 0 (λ z. omega arith), and-false (leb (suc j) e) false refl) at q in let r : _≡_ {A = ℕ} 0 1 = cc in absurd (omega arith)
 
-module _ (files : ℕ) (s : List ℕ) (e f : ℕ) (r : Row) (u v : Sought) (hu : u ≡ sealedImage files s f (r .current)) (hv : v ≡ sealedImage files s f (r .token)) where
-  module _ (k : rowHoldsBy e r u v ≡ true) where
-    pub looked-current : Looked files s f (r .current) u
-    unfolding rowHoldsBy
-    looked-current = looked files s e f (r .current) u hu (and-true (leb (r .mark) 1) (placeHoldsBy e (r .current) u) (and-true (leb (r .mark) 1 && placeHoldsBy e (r .current) u) (placeHoldsBy e (r .token) v) k .0) .1)
+-- what was found at the places of a row that line 7 lets through
+pub record RowHeld (files : ℕ) (s : List ℕ) (e f : ℕ) (r : Row) (u v : Sought) : Type 0 where
+  pub current : u ≡ sealedImage files s f (r .current)
+  pub token : v ≡ sealedImage files s f (r .token)
+  pub holds : rowHoldsBy e r u v ≡ true
 
-    pub looked-token : Looked files s f (r .token) v
-    unfolding rowHoldsBy
-    looked-token = looked files s e f (r .token) v hv (and-true (leb (r .mark) 1 && placeHoldsBy e (r .current) u) (placeHoldsBy e (r .token) v) k .1)
+module _ {files : ℕ} {s : List ℕ} {e f : ℕ} {r : Row} {u v : Sought} (k : RowHeld files s e f r u v) where
+  each : (placeHoldsBy e (r .current) u ≡ true) × (placeHoldsBy e (r .token) v ≡ true)
+  unfolding rowHoldsBy
+  each =
+      let h = and-true (leb (r .mark) 1 && placeHoldsBy e (r .current) u) (placeHoldsBy e (r .token) v) (k .holds) in
+      (and-true (leb (r .mark) 1) (placeHoldsBy e (r .current) u) (h .0) .1, h .1)
 
-    pub no-token : v ≡ sought.Sought.Other → r .token ≡ 0
-    unfolding rowHoldsBy placeHoldsBy
-    no-token i =
-        let q : placeHoldsBy e (r .token) v ≡ true = and-true (leb (r .mark) 1 && placeHoldsBy e (r .current) u) (placeHoldsBy e (r .token) v) k .1 in
-        go (eqb (r .token) 0) refl (rw i at q)
-      where
-        go : (b : Bool) → eqb (r .token) 0 ≡ b → (b || (leb (r .token) e && false)) ≡ true → r .token ≡ 0
-        go true p q = eqb-true (r .token) 0 p
-        go false p q = let y : false ≡ true = sym (and-false (leb (r .token) e) false refl) ∙ q in let z : _≡_ {A = ℕ} 0 1 = cc in absurd (omega arith)
+  pub looked-current : Looked files s f (r .current) u
+  looked-current = looked files s e f (r .current) u (k .current) (each .0)
+
+  pub looked-token : Looked files s f (r .token) v
+  looked-token = looked files s e f (r .token) v (k .token) (each .1)
+
+  pub no-token : v ≡ sought.Sought.Other → r .token ≡ 0
+  unfolding placeHoldsBy
+  no-token i = go (eqb (r .token) 0) refl (rw i at (each .1))
+    where
+      go : (b : Bool) → eqb (r .token) 0 ≡ b → (b || (leb (r .token) e && false)) ≡ true → r .token ≡ 0
+      go true p q = eqb-true (r .token) 0 p
+      go false p q = let y : false ≡ true = sym (and-false (leb (r .token) e) false refl) ∙ q in let z : _≡_ {A = ℕ} 0 1 = cc in absurd (omega arith)

@@ -22,7 +22,7 @@ use Rattle.recovery.proofs.Held.{row-held}
 use Rattle.calls.specs.Calls.{imageOf, actionOf}
 use Rattle.calls.specs.LineSteps.{roomLine}
 use Rattle.calls.specs.ReadSteps.{storeAnswer, writeAnswer}
-use Rattle.calls.proofs.ReadImages.{met-at, no-token}
+use Rattle.calls.proofs.ReadImages.{met-at, RowHeld, no-token}
 
 -- ---- lines 10 to 12
 
@@ -69,4 +69,6 @@ module _ (s : List ℕ) (files : ℕ) (st : State) (f t : ℕ) (r : Row) (u v : 
 
     pub write-store : v ≡ sought.Sought.Other → (q : Answer) → q ≡ storeAnswer s files st t r → q ≡ writeAnswer s files st f t r
     unfolding writeAnswer
-    write-store i q hq = simp (held, eq-eqb (r .token) 0 (no-token files s (st .end) f r u v hu hv h i)) hq
+    write-store i q hq =
+        let k : RowHeld files s (st .end) f r u v = record { current = hu; token = hv; holds = h } in
+        simp (held, eq-eqb (r .token) 0 (no-token k i)) hq
