@@ -25,16 +25,16 @@ use Rattle.calls.proofs.ReadImages.{met-at}
 use Rattle.calls.proofs.LinkByLink.{same-among, walk-ends}
 
 module _ (files : ℕ) (s : List ℕ) where
-  abbrev pub page : ℕ → Entry
+  abbrev page : ℕ → Entry
   page p = nth blank (pagesOf s files) p
 
   -- where a sealed image lies, and where it links
-  pub record Lies (p : ℕ) (i : Image) : Type 0 where
-    pub low : 1 ≤ p
-    pub high : p ≤ length s / pageSize
-    pub link : i .link < p
+  record Lies (p : ℕ) (i : Image) : Type 0 where
+    low : 1 ≤ p
+    high : p ≤ length s / pageSize
+    link : i .link < p
 
-  pub image-lies : (p : ℕ) (i : Image) → page p ≡ image i → Lies p i
+  image-lies : (p : ℕ) (i : Image) → page p ≡ image i → Lies p i
   image-lies zero i e = clash cc
   image-lies (suc q) i e =
       go (sealedImage files s (i .file) (suc q)) refl (sym (held-in files s (i .file) (suc q) (omega arith)) ∙ rw e (eq-eqb (i .file) (i .file) refl))
