@@ -6,7 +6,7 @@ use mathlib.Core.Bool.{Bool, true, false, cond, _&&_, false≢true}
 use mathlib.Core.List.{List}
 use native.Mathlib.Omega.{arith}
 use lib.Dec.{eqb, leb}
-use borrow.Author.Tests.{eq-eqb, ne-eqb, le-leb, lt-leb, eqb-true, leb-true}
+use borrow.Author.Tests.{eq-eqb, ne-eqb, le-leb, lt-leb, eqb-true, eqb-false, leb-true}
 use Rattle.encoding.proofs.Logic.{and-true, by-test}
 use Rattle.recovery.specs.Places.{nth}
 use Rattle.recovery.specs.Log.{unknown, undecided, committed, aborted}
@@ -115,6 +115,12 @@ module _ (fates : List ℕ) (end a : ℕ) where
       (λ e. by-test (λ (m : ℕ). m ≡ 0 → Known 1) (eqb (knownFate fates end a) 1)
       (λ o q. fate-some 1 (sym (eqb-true (knownFate fates end a) 1 o)) (λ y. omega arith))
       (λ o q. absurd (omega arith))) h
+
+  pub past-5 : (actionLine fates end a ≡ 5 → ⊥) → acts ≡ true
+  unfolding actionLine
+  past-5 h =
+      by-test (λ (m : ℕ). (m ≡ 5 → ⊥) → acts ≡ true) (eqb (knownFate fates end a) 0) (λ e n. absurd (n refl))
+      (λ e n. fate-some (knownFate fates end a) refl (eqb-false (knownFate fates end a) 0 e) .acts-is) h
 
   pub any-line : a ≡ 0 → 0 ≡ readLine fates end a
   unfolding readLine

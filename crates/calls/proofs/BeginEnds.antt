@@ -19,7 +19,7 @@ use Rattle.recovery.specs.declared.State.{State}
 use Rattle.recovery.specs.declared.Answer.the-variants.{Refused, Stored, Told}
 use Rattle.recovery.specs.World.{World, refuse}
 use Rattle.recovery.specs.Lent.{rowLength, rowsOf, lent, refused}
-use Rattle.recovery.specs.Steps.{lineOne}
+use Rattle.recovery.specs.Steps.{lineOne, outcomeIn}
 use Rattle.recovery.proofs.Leaves.{rows-back, whole-is}
 use Rattle.calls.specs.Calls.{begin, test, on, append}
 use Rattle.calls.specs.Leaves.{packedEntry, withPage, callLeaves}
@@ -35,11 +35,12 @@ module _ (s fs rs : List ℕ) (st : State) (fit : lineOne (length s) (length fs)
   pub test-none : (a x : ℕ) → x ≡ knownFate fs (st .end) a → x ≡ 0 → refused 5 0 s fs rs st ≡ callLeaves s fs rs st (test a)
   test-none a x h z = ends-same s fs rs st (test a) fit (Refused 5 0) (simp (fate-none fs (st .end) a (sym h ∙ z)))
 
-  pub test-told : (a x : ℕ) → x ≡ knownFate fs (st .end) a → (x ≡ 0 → ⊥)
-      → record { answer = Told x; state = st; sheet = s; fates = fs; rows = rs } ≡ callLeaves s fs rs st (test a)
-  test-told a x h z =
+  pub test-told : (a x p : ℕ) → x ≡ knownFate fs (st .end) a → (x ≡ 0 → ⊥) → p ≡ outcomeIn s (length rs / rowLength) (st .end) a
+      → record { answer = Told x p; state = st; sheet = s; fates = fs; rows = rs } ≡ callLeaves s fs rs st (test a)
+  unfolding outcomeIn
+  test-told a x p h z e =
       let k = fate-some fs (st .end) a x h z in
-      ends-same s fs rs st (test a) fit (Told x) (rw (k .acts-is, k .number))
+      ends-same s fs rs st (test a) fit (Told x p) (rw (k .acts-is, k .number, e))
 
   module _ (n : ℕ) (line-is : n ≡ roomLine s (st .end) (length rs / rowLength) (st .undecided + 2)) where
     on-begin : on w begin ≡ cond (eqb n 0) (Stored (suc (st .end)), append w opening (put fs (suc (st .end)) 1) (rowsOf rs) (suc (st .undecided))) (refuse n 0 w)

@@ -1,34 +1,35 @@
 -- Commit and abort: the line that refuses them, what they ask of append and of the rows, and their ends. Assumes nothing.
 use Prim.Native.Nat.{ℕ, zero, suc, pred, _+_, _-_, _*_, _/_, _≤_, _<_}
 use mathlib.Core.Path.{_≡_, refl, sym, ap, _∙_}
-use mathlib.Core.Bool.{Bool, true, false, cond}
+use mathlib.Core.Bool.{Bool, true, false, cond, _&&_}
 use mathlib.Core.List.{List}
 use native.Mathlib.Omega.{arith}
 use native.Mathlib.Numerals.{add-one, sub-one}
 use lib.ListN.{length, set, replicate}
 use lib.Dec.{eqb}
 use borrow.Author.Tests.{eq-eqb, ne-eqb, eqb-true, eqb-false}
-use Rattle.encoding.proofs.Logic.{by-test}
+use Rattle.encoding.proofs.Logic.{by-test, and-true}
 use Rattle.page.specs.declared.Page.{Page}
 use Rattle.page.specs.Layout.{pageSize, mostPlaces, valueSize}
 use Rattle.page.specs.Table.{packed, meetsRules}
 use Rattle.page.specs.Table as table
 use Rattle.page.specs.Answers.{inBounds}
 use Rattle.page.proofs.Obeyed.{outcome-rules}
-use Rattle.recovery.specs.Places.{put}
+use Rattle.recovery.specs.Places.{nth, put}
 use Rattle.recovery.specs.Log.{outcome, verdict}
 use Rattle.recovery.specs.declared.State.{State}
 use Rattle.recovery.specs.declared.Answer.the-variants.{Refused, Stored}
-use Rattle.recovery.specs.World.{World, Result, refuse, fateNumber}
-use Rattle.recovery.specs.Lent.{rowLength, rowsOf, lent, refused}
-use Rattle.recovery.specs.Steps.{lineOne}
-use Rattle.calls.specs.Calls.{decide, on, append, settled, eachRow, onDecide}
+use Rattle.recovery.specs.declared.Done.{Done}
+use Rattle.recovery.specs.World.{World, Result, refuse, fateNumber, fateFrom, outcomeAt}
+use Rattle.recovery.specs.Lent.{rowLength, rowsOf, lent, refused, leftBy}
+use Rattle.recovery.specs.Steps.{lineOne, outcomeIn, refusal}
+use Rattle.calls.specs.Calls.{decide, on, append, settled, eachRow, onDecide, isDecidedAs, isRepeated, forUndecided}
 use Rattle.calls.specs.Leaves.{packedEntry, withPage, callLeaves}
-use Rattle.calls.specs.LineSteps.{actionLine, roomLine}
-use Rattle.calls.specs.DecideSteps.{decideLine, settledRows}
+use Rattle.calls.specs.LineSteps.{knownFate, actionLine, roomLine}
+use Rattle.calls.specs.DecideSteps.{decideLine, decidedAgain, settledRows}
 use Rattle.calls.proofs.Ends.{Lent, lent-is, ends-line-1, ends-same, ends-grown}
-use Rattle.calls.proofs.ActionLines.{Known, acting, undecided-by}
-use Rattle.calls.proofs.RoomLines.{room-is, room-by, append-fits}
+use Rattle.calls.proofs.ActionLines.{acts, Known, acting, past-5, undecided-by}
+use Rattle.calls.proofs.RoomLines.{room-high, room-is, room-by, append-fits}
 
 -- ---- an outcome's page and its fate
 
@@ -41,6 +42,32 @@ abort-page a c h = rw h
 put-index : (l : List ℕ) (a v : ℕ) → 1 ≤ a → set l (a - 1) v ≡ put l a v
 put-index l zero v h = absurd (omega arith)
 put-index l (suc a) v h = rw sub-one
+
+-- ---- the same decision, by the lent fate
+
+other-fate : (c : Bool) (x : ℕ) → 3 < x → isDecidedAs c (fateFrom x) ≡ eqb x (fateNumber (verdict c))
+other-fate true x h = simp (ne-eqb x 1 (λ q. omega arith), ne-eqb x 2 (λ q. omega arith), ne-eqb x 3 (λ q. omega arith))
+other-fate false x h = simp (ne-eqb x 1 (λ q. omega arith), ne-eqb x 2 (λ q. omega arith), ne-eqb x 3 (λ q. omega arith))
+
+decided-as : (c : Bool) (x : ℕ) → isDecidedAs c (fateFrom x) ≡ eqb x (fateNumber (verdict c))
+decided-as true zero = refl
+decided-as false zero = refl
+decided-as true (suc zero) = refl
+decided-as false (suc zero) = refl
+decided-as true (suc (suc zero)) = refl
+decided-as false (suc (suc zero)) = refl
+decided-as true (suc (suc (suc zero))) = refl
+decided-as false (suc (suc (suc zero))) = refl
+decided-as c (suc (suc (suc (suc x)))) = other-fate c (suc (suc (suc (suc x)))) (omega arith)
+
+module _ (s fs : List ℕ) (files : ℕ) (st : State) (a : ℕ) (c : Bool) (x q : ℕ) (hx : x ≡ nth 0 fs a) (hq : q ≡ fateNumber (verdict c)) where
+  pub other-decision : (x ≡ q → ⊥) → refusal 6 st ≡ decidedAgain s fs files st a c
+  unfolding decidedAgain
+  other-decision n = rw (← hx, ← hq, ne-eqb x q n)
+
+  pub same-decision : x ≡ q → (p : ℕ) → p ≡ outcomeIn s files (st .end) a → record { answer = Stored p; state = st } ≡ decidedAgain s fs files st a c
+  unfolding decidedAgain
+  same-decision e p hp = rw (← hx, ← hq, eq-eqb x q e, ← hp)
 
 -- ---- the line that refuses
 
@@ -57,6 +84,23 @@ module _ (s fs rs : List ℕ) (st : State) (a : ℕ) where
     pub line-room : x ≡ 0 → (y : ℕ) → y ≡ roomLine s (st .end) (length rs / rowLength) 1 → y ≡ decideLine s fs rs st a
     unfolding decideLine
     line-room z y hy = rw (h, ← hx, eq-eqb x 0 z) hy
+
+  -- what is known where line 6 refuses
+  pub record Decided : Type 0 where
+    pub fits : lineOne (length s) (length fs) (length rs) (st .end) (st .undecided) ≡ true
+    pub acts-is : acts fs (st .end) a ≡ true
+
+  pub line-6 : decideLine s fs rs st a ≡ 6 → Decided
+  unfolding decideLine
+  line-6 e = go (lineOne (length s) (length fs) (length rs) (st .end) (st .undecided)) refl e
+    where
+      go : (b : Bool) → lineOne (length s) (length fs) (length rs) (st .end) (st .undecided) ≡ b
+          → cond b (cond (eqb (actionLine fs (st .end) a) 0) (roomLine s (st .end) (length rs / rowLength) 1) (actionLine fs (st .end) a)) 1 ≡ 6 → Decided
+      go false h q = absurd (omega arith)
+      go true h q =
+          by-test (λ (m : ℕ). m ≡ 6 → Decided) (eqb (actionLine fs (st .end) a) 0)
+          (λ o r. absurd (omega (arith, room-high s (st .end) (length rs / rowLength) 1 6 r (λ z. omega arith))))
+          (λ o r. record { fits = h; acts-is = past-5 fs (st .end) a (λ z. omega arith) }) q
 
   -- what is known where no line refuses
   pub record Ready : Type 0 where
@@ -94,23 +138,55 @@ module _ (s fs rs : List ℕ) (st : State) (a : ℕ) (c : Bool) where
   abbrev stored : Result
   stored = (Stored (suc (st .end)), append w (outcome a c) (put fs a (fateNumber (verdict c))) (eachRow (settled w a c) 0 (rowsOf rs)) (pred (st .undecided)))
 
-  on-line : lineOne (length s) (length fs) (length rs) (st .end) (st .undecided) ≡ true
-      → on w (decide a c) ≡ cond (eqb (decideLine s fs rs st a) 0) stored (refuse (decideLine s fs rs st a) 0 w)
+  first-line : lineOne (length s) (length fs) (length rs) (st .end) (st .undecided) ≡ true
+      → forUndecided w a (onDecide w a c) ≡ cond (eqb (decideLine s fs rs st a) 0) stored (refuse (decideLine s fs rs st a) 0 w)
   unfolding decideLine
-  on-line h =
+  first-line h =
       rw h
       (undecided-by w a (onDecide w a c)
       ∙ ap (λ (x : Result). cond (eqb (actionLine fs (st .end) a) 0) x (refuse (actionLine fs (st .end) a) 0 w))
       (room-by (length rs / rowLength) s fs (rowsOf rs) (st .end) (st .floor) (st .undecided) 1 (omega arith) stored)
       ∙ two-lines stored w (actionLine fs (st .end) a) (roomLine s (st .end) (length rs / rowLength) 1))
 
+  -- asked again: line 6 would refuse it
+  repeated-by : isRepeated w a c ≡ (acts fs (st .end) a && eqb (nth 0 fs a) (fateNumber (verdict c)))
+  repeated-by = ap (λ b. acts fs (st .end) a && b) (decided-as c (nth 0 fs a))
+
+  repeated-line : lineOne (length s) (length fs) (length rs) (st .end) (st .undecided) ≡ true → isRepeated w a c ≡ true → decideLine s fs rs st a ≡ 6
+  unfolding decideLine actionLine knownFate
+  repeated-line h e =
+      let k = and-true (acts fs (st .end) a) (eqb (nth 0 fs a) (fateNumber (verdict c))) (sym repeated-by ∙ e) in
+      let n : nth 0 fs a ≡ fateNumber (verdict c) = eqb-true _ _ (k .1) in
+      rw (h, k .0, n) (go c)
+    where
+      go : (d : Bool) → cond (eqb (cond (eqb (fateNumber (verdict d)) 0) 5 (cond (eqb (fateNumber (verdict d)) 1) 0 6)) 0) (roomLine s (st .end) (length rs / rowLength) 1) (cond (eqb (fateNumber (verdict d)) 0) 5 (cond (eqb (fateNumber (verdict d)) 1) 0 6)) ≡ 6
+      go true = refl
+      go false = refl
+
+  on-line : lineOne (length s) (length fs) (length rs) (st .end) (st .undecided) ≡ true → (decideLine s fs rs st a ≡ 6 → ⊥)
+      → on w (decide a c) ≡ cond (eqb (decideLine s fs rs st a) 0) stored (refuse (decideLine s fs rs st a) 0 w)
+  on-line h n =
+      by-test (λ (x : Result). x ≡ cond (eqb (decideLine s fs rs st a) 0) stored (refuse (decideLine s fs rs st a) 0 w)) (isRepeated w a c)
+      {x = (Stored (outcomeAt w a), w)} {y = forUndecided w a (onDecide w a c)} (λ e. absurd (n (repeated-line h e))) (λ e. first-line h)
+
+  pub decide-again : (n : ℕ) → n ≡ decideLine s fs rs st a → n ≡ 6 → (d : Done) → d ≡ decidedAgain s fs (length rs / rowLength) st a c → leftBy d s fs rs ≡ callLeaves s fs rs st (decide a c)
+  unfolding decidedAgain outcomeIn
+  decide-again n e z d hd =
+      let k = line-6 s fs rs st a (sym e ∙ z) in
+      ap (λ (y : Done). leftBy y s fs rs) hd ∙ go (k .fits) (eqb (nth 0 fs a) (fateNumber (verdict c))) (repeated-by ∙ rw (k .acts-is))
+    where
+      go : lineOne (length s) (length fs) (length rs) (st .end) (st .undecided) ≡ true → (b : Bool) → isRepeated w a c ≡ b
+          → leftBy (cond b (record { answer = Stored (outcomeAt w a); state = st }) (refusal 6 st)) s fs rs ≡ callLeaves s fs rs st (decide a c)
+      go h true q = ends-same s fs rs st (decide a c) h (Stored (outcomeAt w a)) (rw q)
+      go h false q = ends-same s fs rs st (decide a c) h (Refused 6 0) (rw q (first-line h ∙ rw (sym e ∙ z)))
+
   -- a line refuses
-  pub decide-refused : (n : ℕ) → n ≡ decideLine s fs rs st a → (n ≡ 0 → ⊥) → refused n 0 s fs rs st ≡ callLeaves s fs rs st (decide a c)
-  decide-refused n e z = go (lineOne (length s) (length fs) (length rs) (st .end) (st .undecided)) refl
+  pub decide-refused : (n : ℕ) → n ≡ decideLine s fs rs st a → (n ≡ 6 → ⊥) → (n ≡ 0 → ⊥) → refused n 0 s fs rs st ≡ callLeaves s fs rs st (decide a c)
+  decide-refused n e m z = go (lineOne (length s) (length fs) (length rs) (st .end) (st .undecided)) refl
     where
       go : (b : Bool) → lineOne (length s) (length fs) (length rs) (st .end) (st .undecided) ≡ b → refused n 0 s fs rs st ≡ callLeaves s fs rs st (decide a c)
       go false h = rw (e ∙ sym (line-1 s fs rs st a h)) (ends-line-1 s fs rs st (decide a c) h)
-      go true h = ends-same s fs rs st (decide a c) h (Refused n 0) (on-line h ∙ rw (← e, ne-eqb n 0 z))
+      go true h = ends-same s fs rs st (decide a c) h (Refused n 0) (on-line h (λ q. m (e ∙ q)) ∙ rw (← e, ne-eqb n 0 z))
 
   module _ (r : Ready s fs rs st a) where
     sure : Lent (length s) (length fs) (length rs) (st .end) (st .undecided)
@@ -147,4 +223,4 @@ module _ (s fs rs : List ℕ) (st : State) (a : ℕ) (c : Bool) where
     decide-done page hp s″ rs″ q n hs hq hr hn =
         let e : st .end + 1 ≡ suc (st .end) = add-one (st .end) in
         rw (e, hn) (ends-grown s fs rs st (decide a c) (r .fits) (outcome a c) (put fs a (fateNumber (verdict c))) (eachRow (settled (lent s fs rs st) a c) 0 (rowsOf rs)) (pred (st .undecided))
-        (on-line (r .fits) ∙ rw (r .none-is)) room′ s″ (set fs (a - 1) q) rs″ (rw hp at hs) (ap (λ (v : ℕ). set fs (a - 1) v) hq ∙ put-index fs a (fateNumber (verdict c)) (r .act .low)) hr)
+        (on-line (r .fits) (λ q. omega (arith, r .none-is)) ∙ rw (r .none-is)) room′ s″ (set fs (a - 1) q) rs″ (rw hp at hs) (ap (λ (v : ℕ). set fs (a - 1) v) hq ∙ put-index fs a (fateNumber (verdict c)) (r .act .low)) hr)

@@ -17,11 +17,11 @@ use Rattle.recovery.specs.declared.Row.{Row}
 use Rattle.recovery.specs.declared.Answer.{Answer}
 use Rattle.recovery.specs.declared.Answer.the-variants.{Rebuilt, Stored, Nothing, Told}
 use Rattle.recovery.specs.Numbers.{isRefused}
-use Rattle.recovery.specs.World.{World, Result, refuse, entryAt, isBlank, withRow, warmRow, rowHolds, lentRight, isFile, fateAt, fateNumber, answerRow, rebuilt}
+use Rattle.recovery.specs.World.{World, Result, refuse, entryAt, isBlank, withRow, warmRow, rowHolds, lentRight, isFile, fateAt, outcomeAt, fateNumber, answerRow, rebuilt}
 use Rattle.calls.specs.Walk.{Walk, met, nothing, lost}
 use Rattle.calls.specs.Lines.{lines, among}
 use Rattle.calls.specs.Leaves.{padded, valueAt}
-use Rattle.calls.specs.Calls.{Call, begin, write, read, test, decide, rebuild, forFile, forAction, forUndecided, hasAction, isDecided, hasRoom, append, store, onBegin, onWrite, onRead, onToken, onVersions, answerWalk, actionOf, versionAnswer, readCurrent, readToken, reaches, walkFrom, imageOf, settled, eachRow, onDecide, on, call}
+use Rattle.calls.specs.Calls.{Call, begin, write, read, test, decide, rebuild, forFile, forAction, forUndecided, hasAction, isDecided, hasRoom, append, store, onBegin, onWrite, onRead, onToken, onVersions, answerWalk, actionOf, versionAnswer, readCurrent, readToken, reaches, walkFrom, imageOf, settled, eachRow, onDecide, isRepeated, on, call}
 
 -- the four ways of a call, from one world
 pub record Ways (P : Result → Type 0) (asked : Call) (w : World) : Type 0 where
@@ -153,8 +153,10 @@ module _ (P : Result → Type 0) (w : World) where
       files P (read f time a) w h refl f (cond (eqb a 0) x (forUndecided w a x))
       (either P (eqb a 0) x (forUndecided w a x) q (undecideds P (read f time a) w h refl refl a x q))
   past-line-1 (test a) h g l =
-      actions P (test a) w h refl a (Told (fateNumber (fateAt w a)), w) (h .answering (Told (fateNumber (fateAt w a))) refl)
-  past-line-1 (decide a c) h g l = undecideds P (decide a c) w h refl refl a (onDecide w a c) (decides P w a c h)
+      let x : Answer = Told (fateNumber (fateAt w a)) (outcomeAt w a) in actions P (test a) w h refl a (x, w) (h .answering x refl)
+  past-line-1 (decide a c) h g l =
+      either P (isRepeated w a c) (Stored (outcomeAt w a), w) (forUndecided w a (onDecide w a c)) (h .answering (Stored (outcomeAt w a)) refl)
+      (undecideds P (decide a c) w h refl refl a (onDecide w a c) (decides P w a c h))
   past-line-1 (rebuild f) h g l =
       rw l (files P (rebuild f) w h refl f (answerRow (warmed w f) f (warmRow w f)) (row-answers P (warmed w f) f (warmRow w f) g))
 

@@ -1,6 +1,6 @@
 -- Lines 11 and 12 as the code tests them, the calls that ask them, and what they let through. Assumes nothing.
 use Prim.Native.Nat.{ℕ, suc, _+_, _-_, _*_, _/_, _≤_, _<_}
-use mathlib.Core.Path.{_≡_, refl, ap, _∙_}
+use mathlib.Core.Path.{_≡_, refl, sym, ap, _∙_}
 use mathlib.Core.Bool.{Bool, true, false, cond}
 use mathlib.Core.List.{List}
 use native.Mathlib.Omega.{arith}
@@ -40,6 +40,12 @@ module _ (s : List ℕ) (end files n : ℕ) where
 
     pub line-free : b ≡ true → 0 ≡ roomLine s end files n
     line-free k = rw k at at-blank
+
+  pub room-high : (m : ℕ) → roomLine s end files n ≡ m → (m ≡ 0 → ⊥) → 11 ≤ m
+  unfolding roomLine
+  room-high m h z =
+      by-test (λ (x : ℕ). x ≡ m → 11 ≤ m) (leb n (length s / pageSize - end))
+      (λ e. by-test (λ (x : ℕ). x ≡ m → 11 ≤ m) (isBlank (sealed files s (suc end))) (λ b q. absurd (z (sym q))) (λ b q. omega arith)) (λ e q. omega arith) h
 
   pub room-is : roomLine s end files n ≡ 0 → n ≤ length s / pageSize - end
   unfolding roomLine

@@ -1,7 +1,7 @@
 -- The calls of the store over decoded pages, on all inputs, line by line in the order of document 01. docs/STORE.md has them
 -- in words (The calls), and what each refusal means (Why a call says no).
 use mathlib.Core.List.{List, [], _∷_}
-use mathlib.Core.Bool.{Bool, true, false, cond, _&&_}
+use mathlib.Core.Bool.{Bool, true, false, cond, not, _&&_}
 use mathlib.Core.Option.{Option, some, none}
 use Prim.Native.Nat.{ℕ, zero, suc, pred, max, _+_, _-_}
 use lib.ListN.{length}
@@ -12,7 +12,7 @@ use Rattle.recovery.specs.Log.{Image, Entry, blank, torn, bad, opening, image, 
 use Rattle.recovery.specs.declared.Row.{Row}
 use Rattle.recovery.specs.declared.Answer.{Answer}
 use Rattle.recovery.specs.declared.Answer.the-variants.{Refused, Stored, Value, Nothing, Told}
-use Rattle.recovery.specs.World.{World, Result, refuse, entryAt, fateNumber, fateAt, isBlank, withRow, warmRow, rowHolds, lentRight, isFile, rebuilt}
+use Rattle.recovery.specs.World.{World, Result, refuse, entryAt, fateNumber, fateAt, outcomeAt, isBlank, withRow, warmRow, rowHolds, lentRight, isFile, rebuilt}
 use Rattle.calls.specs.Walk.{Walk, met, nothing, lost, imagesBelow, follow}
 
 -- write: file, start, action, value; read: file, time, action or 0; decide: action, and whether it commits
@@ -139,7 +139,7 @@ onToken w f time a r (some i) =
 abbrev pub onRead : World → ℕ → ℕ → ℕ → Row → Result
 onRead w f time a r = cond (rowHolds w f r) (onToken w f time a r (imageOf (entryAt w (r .token)))) (refuse 7 0 w)
 
--- ---- commit and abort: lines 11, 12; and the rows that they change
+-- ---- commit and abort, of an action that is not decided: lines 11, 12; and the rows that they change
 
 abbrev pub decided : Bool → Row → Row
 decided true r = record { mark = r .mark; current = r .token; currentend = r .tokenend; token = 0; tokenend = 0 }
@@ -166,6 +166,17 @@ onDecide w a c =
     (store w (outcome a c) (put (w .fates) a (fateNumber (verdict c))) (eachRow (settled w a c) 0 (w .rows)) (pred (w .undecided)))
     (refuse 11 0 w)
 
+-- ---- commit and abort, asked again: the action has this fate already
+
+abbrev pub isDecidedAs : Bool → Fate → Bool
+isDecidedAs c unknown = false
+isDecidedAs c undecided = false
+isDecidedAs c committed = c
+isDecidedAs c aborted = not c
+
+abbrev pub isRepeated : World → ℕ → Bool → Bool
+isRepeated w a c = hasAction w a && isDecidedAs c (fateAt w a)
+
 -- ---- a call past line 1, and a call
 
 abbrev pub on : World → Call → Result
@@ -175,8 +186,8 @@ on w (write f start a v) =
 on w (read f time a) =
     forFile w f (cond (eqb a 0) (onRead (withRow w f (warmRow w f)) f time a (warmRow w f))
     (forUndecided w a (onRead (withRow w f (warmRow w f)) f time a (warmRow w f))))
-on w (test a) = forAction w a (Told (fateNumber (fateAt w a)), w)
-on w (decide a c) = forUndecided w a (onDecide w a c)
+on w (test a) = forAction w a (Told (fateNumber (fateAt w a)) (outcomeAt w a), w)
+on w (decide a c) = cond (isRepeated w a c) (Stored (outcomeAt w a), w) (forUndecided w a (onDecide w a c))
 on w (rebuild f) = rebuilt w f
 
 unfoldable pub call : World → Call → Result

@@ -6,9 +6,14 @@ use Prim.Native.Nat.{ℕ, _/_}
 use lib.ListN.{length}
 use lib.Dec.{eqb}
 use Rattle.recovery.specs.Lent.{rowLength, rowsOf, flat}
-use Rattle.recovery.specs.Steps.{rowOf, withRowOf, sheetWorld, lineOne}
+use Rattle.recovery.specs.Places.{nth}
+use Rattle.recovery.specs.Log.{verdict}
+use Rattle.recovery.specs.World.{fateNumber}
+use Rattle.recovery.specs.Steps.{rowOf, withRowOf, sheetWorld, lineOne, outcomeIn, refusal}
 use Rattle.recovery.specs.declared.Row.{Row}
 use Rattle.recovery.specs.declared.State.{State}
+use Rattle.recovery.specs.declared.Done.{Done}
+use Rattle.recovery.specs.declared.Answer.the-variants.{Stored}
 use Rattle.calls.specs.Calls.{decided, holdsToken, settled, eachRow}
 use Rattle.calls.specs.LineSteps.{actionLine, roomLine}
 
@@ -18,6 +23,11 @@ decideLine s fates rows state a =
     cond (lineOne (length s) (length fates) (length rows) (state .end) (state .undecided))
     (cond (eqb (actionLine fates (state .end) a) 0) (roomLine s (state .end) (length rows / rowLength) 1) (actionLine fates (state .end) a))
     1
+
+-- a decision of an action that is decided already: the same one, by the lent fate, is answered with the place of its outcome
+unfoldable pub decidedAgain : List ℕ → List ℕ → ℕ → State → ℕ → Bool → Done
+decidedAgain s fates files state a c =
+    cond (eqb (nth 0 fates a) (fateNumber (verdict c))) (record { answer = Stored (outcomeIn s files (state .end) a); state = state }) (refusal 6 state)
 
 -- whether a row's token is decided with this action, by the sheet and the end alone
 unfoldable pub holdsTokenIn : List ℕ → ℕ → ℕ → ℕ → ℕ → Row → Bool

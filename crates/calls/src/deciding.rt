@@ -8,9 +8,11 @@ use recovery::Answer;
 use recovery::Done;
 use recovery::Row;
 use recovery::State;
+use recovery::fate_at;
 use recovery::file_count;
 use recovery::is_lent_right;
 use recovery::is_opening_at;
+use recovery::outcome_place;
 use recovery::refuse;
 use recovery::row_of;
 use recovery::seek_at;
@@ -26,7 +28,7 @@ ghost use Rattle.recovery.specs.Sheet.{isOpening, decoded};
 ghost use Rattle.recovery.specs.Lent.{rowLength, leftBy};
 ghost use Rattle.calls.specs.Calls.{Call, decided};
 ghost use Rattle.calls.specs.Leaves.{callLeaves};
-ghost use Rattle.calls.specs.DecideSteps.{decideLine, holdsTokenIn, settledRow, settledRows};
+ghost use Rattle.calls.specs.DecideSteps.{decideLine, decidedAgain, holdsTokenIn, settledRow, settledRows};
 
 // The line that refuses commit and abort, 0 if none does.
 fn decide_line(sheet: &[u8], fates: &[u8], rows: &[u64], state: State, action: u64) -> u64
@@ -150,7 +152,28 @@ fn less_one(n: u64) -> u64
     n - 1
 }
 
-// Commits or aborts an action: appends its outcome. The rows are settled first, by the sheet as it was.
+// A decision of an action that is decided already: the same one is answered with the place of its outcome, and the other refused.
+fn decided_again(
+    sheet: &[u8],
+    fates: &[u8],
+    files: u64,
+    state: State,
+    action: u64,
+    committed: bool,
+) -> Done
+    ensures { λ r. ⌜ r ≡ decidedAgain (now (sheet .entry)) (now (fates .entry)) files state action committed ⌝ }
+{
+    if fate_at(fates, action) != outcome_fate(committed) as u64 {
+        return refuse(6, state);
+    }
+    Done {
+        answer: Answer::Stored(outcome_place(sheet, state.end, files, action)),
+        state,
+    }
+}
+
+// Commits or aborts an action: appends its outcome. The rows are settled first, by the sheet as it was. Asked again, it changes
+// nothing.
 fn decide(
     sheet: &mut [u8],
     fates: &mut [u8],
@@ -162,11 +185,14 @@ fn decide(
     ensures { λ r. ⌜ leftBy r (now (sheet .exit)) (now (fates .exit)) (now (rows .exit)) ≡ callLeaves (now (sheet .entry)) (now (fates .entry)) (now (rows .entry)) state (Call.decide action committed) ⌝ }
 {
     let line = decide_line(&sheet[..], &fates[..], &rows[..], state, action);
+    let files = file_count(rows.len());
+    if line == 6 {
+        return decided_again(&sheet[..], &fates[..], files, state, action, committed);
+    }
     if line != 0 {
         return refuse(line, state);
     }
     let end = state.end;
-    let files = file_count(rows.len());
     let opened = is_opening_at(&sheet[..], action, files);
     let decision = Decision {
         action,
@@ -187,7 +213,7 @@ fn decide(
     }
 }
 
-// Commits an action.
+// Commits an action; answers the place of its outcome.
 pub fn commit(
     sheet: &mut [u8],
     fates: &mut [u8],
@@ -200,7 +226,7 @@ pub fn commit(
     decide(sheet, fates, rows, state, action, true)
 }
 
-// Aborts an action.
+// Aborts an action; answers the place of its outcome.
 pub fn abort(
     sheet: &mut [u8],
     fates: &mut [u8],

@@ -1,16 +1,18 @@
-// Test: the fate of an action.
+// Test: the fate of an action, and where its outcome lies.
 use crate::refusing::known_fate;
 use recovery::Answer;
 use recovery::Done;
 use recovery::State;
+use recovery::file_count;
 use recovery::is_lent_right;
+use recovery::outcome_place;
 use recovery::refuse;
 ghost use mathlib.Core.Path.{_≡_};
 ghost use Rattle.recovery.specs.Lent.{leftBy};
 ghost use Rattle.calls.specs.Calls.{Call};
 ghost use Rattle.calls.specs.Leaves.{callLeaves};
 
-// The fate of an action.
+// The fate of an action, and the place of its newest sealed outcome up to the end, 0 if there is none.
 pub fn test(sheet: &[u8], fates: &[u8], rows: &[u64], state: State, action: u64) -> Done
     ensures { λ r. ⌜ leftBy r (now (sheet .entry)) (now (fates .entry)) (now (rows .entry)) ≡ callLeaves (now (sheet .entry)) (now (fates .entry)) (now (rows .entry)) state (Call.test action) ⌝ }
 {
@@ -21,8 +23,9 @@ pub fn test(sheet: &[u8], fates: &[u8], rows: &[u64], state: State, action: u64)
     if fate == 0 {
         return refuse(5, state);
     }
+    let place = outcome_place(sheet, state.end, file_count(rows.len()), action);
     Done {
-        answer: Answer::Told(fate),
+        answer: Answer::Told(fate, place),
         state,
     }
 }

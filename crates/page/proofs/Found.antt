@@ -1,6 +1,6 @@
 -- What an answer of the page test tells: the laws that the layers above cite. Assumes nothing.
 use Prim.Native.Nat.{ℕ, _≤_, _<_}
-use mathlib.Core.Path.{_≡_, refl, sym, subst}
+use mathlib.Core.Path.{_≡_, refl, sym, ap, subst, _∙_}
 use mathlib.Core.Bool.{Bool, true, false, cond}
 use mathlib.Core.List.{List, [], _∷_}
 use native.Mathlib.Omega.{arith}
@@ -15,9 +15,9 @@ use Rattle.page.specs.declared.Page.{Page}
 use Rattle.page.specs.declared.Unpacked.{Unpacked}
 use Rattle.page.specs.declared.Unpacked.the-variants.{Refused, Blank, Torn, Opening, Image, Outcome, Unfit}
 use Rattle.page.proofs.Unpacked.{the-type}
-use Rattle.page.specs.Layout.{valueSize}
+use Rattle.page.specs.Layout.{valueSize, pageSize}
 use Rattle.page.specs.Table.{fieldsOf, opening, lowest, highest, meetsRules, isPageOf, fits, torn}
-use Rattle.page.specs.Answers.{inBounds, tested, onImage}
+use Rattle.page.specs.Answers.{inBounds, tested, onImage, isOutcomeOf}
 use Rattle.page.proofs.Rules.{Between, between-true, InBounds, in-bounds}
 
 -- the fields of a page of one kind that fits
@@ -126,3 +126,41 @@ off-image (Opening p) f d k = refl
 off-image (Image p) f d k = absurd (miss other-tags 4 tt k)
 off-image (Outcome p) f d k = refl
 off-image Unfit f d k = refl
+
+-- and what the other arm of a match on `Unpacked::Outcome(p)` tells
+abbrev pub no-outcome-tags : List ℕ
+no-outcome-tags = 0 ∷ 1 ∷ 2 ∷ 3 ∷ 4 ∷ 6 ∷ []
+
+pub off-outcome : (u : Unpacked) (a : ℕ) → OneOf no-outcome-tags (tagOf the-type u) → false ≡ isOutcomeOf a u
+unfolding isOutcomeOf
+off-outcome Refused a k = refl
+off-outcome Blank a k = refl
+off-outcome Torn a k = refl
+off-outcome (Opening p) a k = refl
+off-outcome (Image p) a k = refl
+off-outcome (Outcome p) a k = absurd (miss no-outcome-tags 5 tt k)
+off-outcome Unfit a k = refl
+
+-- ---- an outcome of an action, by its fields
+
+module _ (s : List ℕ) (place files a : ℕ) where
+  -- a part that does not have its size, its kind or its action is none
+  pub no-outcome : (length s ≡ pageSize → fieldsOf s .kind ≡ 3 → fieldsOf s .action ≡ a → ⊥) → false ≡ isOutcomeOf a (tested s place files)
+  unfolding isOutcomeOf
+  no-outcome h = go (tested s place files) refl
+    where
+      go : (u : Unpacked) → u ≡ tested s place files → false ≡ isOutcomeOf a u
+      go Refused e = refl
+      go Blank e = refl
+      go Torn e = refl
+      go (Opening p) e = refl
+      go (Image p) e = refl
+      go Unfit e = refl
+      go (Outcome p) e =
+          let f = found s place files (Outcome p) e in
+          sym (ne-eqb (p .action) a (λ z. h (f .bounds .size-is) (ap (λ (x : Page). x .kind) (sym (f .fields-are)) ∙ f .kind-is) (ap (λ (x : Page). x .action) (sym (f .fields-are)) ∙ z)))
+
+  -- an outcome that has its action is
+  pub this-outcome : (p : Page) → Outcome p ≡ tested s place files → fieldsOf s .action ≡ a → true ≡ isOutcomeOf a (tested s place files)
+  unfolding isOutcomeOf
+  this-outcome p e h = rw (← e) (sym (eq-eqb (p .action) a (ap (λ (x : Page). x .action) (found s place files (Outcome p) e .fields-are) ∙ h)))

@@ -32,7 +32,7 @@ tested s place files =
     (cond (zeros s) Blank (cond (torn s) Torn (cond (fits s place files) (byKind (fieldsOf s)) Unfit)))
     Refused
 
--- blank, and an opening, of what the page test says
+-- blank, an opening, and an outcome of an action, of what the page test says
 abbrev pub isBlankPage : Unpacked → Bool
 isBlankPage Refused = false
 isBlankPage Blank = true
@@ -50,6 +50,15 @@ isOpeningPage (Opening p) = true
 isOpeningPage (Image p) = false
 isOpeningPage (Outcome p) = false
 isOpeningPage Unfit = false
+
+unfoldable pub isOutcomeOf : ℕ → Unpacked → Bool
+isOutcomeOf a Refused = false
+isOutcomeOf a Blank = false
+isOutcomeOf a Torn = false
+isOutcomeOf a (Opening p) = false
+isOutcomeOf a (Image p) = false
+isOutcomeOf a (Outcome p) = eqb (p .action) a
+isOutcomeOf a Unfit = false
 
 -- the number of an answer: 0 the fields, 1 refused by line 1, 2 unfit, 3 blank, 4 torn
 abbrev pub testNumber : Unpacked → ℕ

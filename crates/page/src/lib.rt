@@ -17,7 +17,7 @@ ghost use Rattle.encoding.specs.Bytes.{bytes, zeros, same, check};
 ghost use Rattle.page.specs.Layout.{valueAt, pageSize, mostPlaces, valueSize};
 ghost use Rattle.page.specs.Table.{head, front, packed, field, fieldsOf, opening, image, outcome, lowest, highest, within, between, used, meetsRules, isPageOf, torn};
 ghost use Rattle.page.specs.Steps.{framed, named};
-ghost use Rattle.page.specs.Answers.{inBounds, byKind, tested, isBlankPage, isOpeningPage, packs, imageOfFile, valueIn};
+ghost use Rattle.page.specs.Answers.{inBounds, byKind, tested, isBlankPage, isOpeningPage, isOutcomeOf, packs, imageOfFile, valueIn};
 
 // The fields of a page (a log record), kind to start. The 32 bytes of the value stay beside it.
 pub struct Page {
@@ -382,6 +382,25 @@ impl Page {
             return false;
         }
         Page::is_packed_opening(part, place)
+    }
+
+    // Whether the page test finds an outcome of this action, by its kind and action before anything else.
+    pub fn is_outcome_of(part: &[u8], place: u64, files: u64, action: u64) -> bool
+        ensures { λ r. ⌜ r ≡ isOutcomeOf action (tested (now (part .entry)) place files) ⌝ }
+    {
+        if part.len() != Page::SIZE {
+            return false;
+        }
+        if byte_at(part, Page::KIND) != 3 {
+            return false;
+        }
+        if field(part, Page::ACTION, Page::LINK) != action {
+            return false;
+        }
+        let Unpacked::Outcome(_) = Page::test(part, place, files) else {
+            return false;
+        };
+        true
     }
 
     // The cheap look: a part with the kind of an image and with this file. No other part is an image of the file.

@@ -3,6 +3,8 @@ pub mod Pages
 pub mod FlatRows
 pub mod Sizes
 pub mod Lookups
+pub mod LogFolds
+pub mod Outcomes
 pub mod WalkDown
 pub mod Held
 pub mod Leaves

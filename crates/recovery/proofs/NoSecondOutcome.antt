@@ -25,7 +25,7 @@ answer-from v =
     (cond (eqb (getD v 0 0) 2) (Rebuilt (getD v 1 0) (getD v 2 0) (getD v 3 0) (getD v 4 0))
     (cond (eqb (getD v 0 0) 3) (Stored (getD v 1 0))
     (cond (eqb (getD v 0 0) 4) (Value (getD v 1 0) (getD v 2 0) (getD v 3 0))
-    (cond (eqb (getD v 0 0) 5) Nothing (Told (getD v 1 0)))))))
+    (cond (eqb (getD v 0 0) 5) Nothing (Told (getD v 1 0) (getD v 2 0)))))))
 
 answer-again : (a : Answer) → answer-from (numbersOf a) ≡ a
 unfolding answer-from
@@ -35,7 +35,7 @@ answer-again (Rebuilt a b c d) = refl
 answer-again (Stored p) = refl
 answer-again (Value p s l) = refl
 answer-again Nothing = refl
-answer-again (Told f) = refl
+answer-again (Told f p) = refl
 
 pub answer-numbers : (a b : Answer) → numbersOf a ≡ numbersOf b → a ≡ b
 answer-numbers a b e = sym (answer-again a) ∙ ap answer-from e ∙ answer-again b

@@ -4,10 +4,9 @@ use mathlib.Core.Path.{_≡_, refl, sym, ap, _∙_}
 use mathlib.Core.Bool.{Bool, true, false, cond, _||_}
 use mathlib.Core.List.{List, _∷_}
 use native.Mathlib.Omega.{arith}
-use native.Mathlib.Numerals.{sub-one}
-use lib.ListN.{length, getD, List·getD-eq-default}
-use lib.Dec.{eqb, leb}
-use borrow.Author.Tests.{ne-eqb, eqb-true, eqb-false, leb-true, leb-false}
+use lib.ListN.{length}
+use lib.Dec.{eqb}
+use borrow.Author.Tests.{ne-eqb, eqb-true}
 use Rattle.encoding.proofs.Logic.{by-test, clash}
 use Rattle.page.specs.declared.Page.{Page}
 use Rattle.page.specs.declared.Unpacked.{Unpacked}
@@ -20,10 +19,10 @@ use Rattle.recovery.specs.Places.{nth}
 use Rattle.recovery.specs.Log.{Entry, blank, torn, bad, opening, image, outcome, Fate, unknown, undecided, committed, aborted, Placed, imagesOf, versionsOf, currentOf, tokenOf, placeOf, startOf}
 use Rattle.recovery.specs.Sheet.{pageBytes, entryOf, imageFrom, isOpening, seal, decoded, sealed, pages}
 use Rattle.recovery.specs.World.{down, rebuiltRow, fateFrom, fateIn}
-use Rattle.recovery.specs.Lent.{pagesOf}
 use Rattle.recovery.specs.Steps.{countedFate, rowFromPages}
 use Rattle.recovery.specs.declared.Row.{Row}
-use Rattle.recovery.proofs.Pages.{page-here, sealed-is, length-down, pages-long}
+use Rattle.recovery.proofs.Pages.{sealed-is}
+use Rattle.recovery.proofs.LogFolds.{one-more, from-end}
 
 -- ---- a row with one page more
 
@@ -100,39 +99,16 @@ module _ (files : ℕ) (s fs : List ℕ) (file : ℕ) where
   rowTo p = rowFromPages s fs files file p
 
   pub row-down : (p : ℕ) → 0 < p → pageSize * p ≤ length s → rowTo p ≡ addPage (fateIn fs) file p (sealed files s p) (rowTo (p - 1))
-  unfolding rowFromPages down
-  row-down zero l h = absurd (omega arith)
-  row-down (suc q) l h =
-      let k : q < length s / pageSize = omega arith in
-      row-cons (getD (pagesOf s files) q blank) (down (pagesOf s files) q) (fateIn fs) file
-      ∙ rw (length-down (pagesOf s files) q, page-here files (length s / pageSize) s q k, sub-one)
+  unfolding rowFromPages
+  row-down = one-more (λ l. rebuiltRow l (fateIn fs) file) (λ g p r. addPage (fateIn fs) file p g r) (λ g l. row-cons g l (fateIn fs) file) files s
+
+  pub row-from : (end : ℕ) → rowTo (min end (length s / pageSize)) ≡ rowTo end
+  unfolding rowFromPages
+  row-from = from-end (λ l. rebuiltRow l (fateIn fs) file) (λ g p r. addPage (fateIn fs) file p g r) (λ g l. row-cons g l (fateIn fs) file) files s (λ p r. refl)
 
   pub row-mark : (p : ℕ) → rowTo p .mark ≡ 1
   unfolding rowFromPages
   row-mark p = refl
-
-  -- pages above the sheet are blank
-  row-above : (p : ℕ) → length s / pageSize ≤ p → rowTo p ≡ rowTo (length s / pageSize)
-  unfolding rowFromPages down imagesOf
-  row-above zero h = let e : length s / pageSize ≡ 0 = omega arith in rw e
-  row-above (suc p) h = go (eqb (length s / pageSize) (suc p)) refl (λ l. row-above p l)
-    where
-      go : (b : Bool) → eqb (length s / pageSize) (suc p) ≡ b → (length s / pageSize ≤ p → rowTo p ≡ rowTo (length s / pageSize)) → rowTo (suc p) ≡ rowTo (length s / pageSize)
-      go true e f = let z : length s / pageSize ≡ suc p = eqb-true _ _ e in ap rowTo (sym z)
-      go false e f =
-          let l : length s / pageSize ≤ p = omega (arith, eqb-false (length s / pageSize) (suc p) e) in
-          let g : getD (pagesOf s files) p blank ≡ blank = List·getD-eq-default (pagesOf s files) blank (omega (arith, pages-long files (length s / pageSize) s)) in
-          rw g (f l)
-
-  pub row-from : (end : ℕ) → rowTo (min end (length s / pageSize)) ≡ rowTo end
-  row-from end = go (leb end (length s / pageSize)) refl
-    where
-      go : (b : Bool) → leb end (length s / pageSize) ≡ b → rowTo (min end (length s / pageSize)) ≡ rowTo end
-      go true e = let z : min end (length s / pageSize) ≡ end = omega (arith, leb-true end (length s / pageSize) e) in ap rowTo z
-      go false e =
-          let k : length s / pageSize ≤ end = omega (arith, leb-false end (length s / pageSize) e) in
-          let z : min end (length s / pageSize) ≡ length s / pageSize = omega arith in
-          ap rowTo z ∙ sym (row-above end k)
 
   -- what the quick look found moves the row as its fate says
   pub of-file : (b : List ℕ) (p : ℕ) (u : Unpacked) (x : Page) (r : Row) (w : ℕ) → sought.Sought.Image x ≡ imageOfFile file u → w ≡ countedFate files s fs (x .action)

@@ -54,6 +54,20 @@ unfoldable pub fateOf : List Entry → ℕ → Fate
 fateOf [] a = unknown
 fateOf (g ∷ l) a = fateStep g (suc (length l)) a (fateOf l a)
 
+-- ---- the place of an action's newest outcome, 0 if there is none
+
+abbrev pub outcomeStep : Entry → ℕ → ℕ → ℕ → ℕ
+outcomeStep blank place a x = x
+outcomeStep torn place a x = x
+outcomeStep bad place a x = x
+outcomeStep opening place a x = x
+outcomeStep (image i) place a x = x
+outcomeStep (outcome b c) place a x = cond (eqb a b) place x
+
+unfoldable pub outcomeOf : List Entry → ℕ → ℕ
+outcomeOf [] a = 0
+outcomeOf (g ∷ l) a = outcomeStep g (suc (length l)) a (outcomeOf l a)
+
 -- ---- the images of a file, the newest first
 
 abbrev pub imagesStep : Entry → ℕ → ℕ → List Placed → List Placed

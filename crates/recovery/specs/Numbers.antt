@@ -15,7 +15,7 @@ numbersOf (Rebuilt a b c d) = 2 ∷ a ∷ b ∷ c ∷ d ∷ []
 numbersOf (Stored p) = 3 ∷ p ∷ 0 ∷ 0 ∷ 0 ∷ []
 numbersOf (Value p s l) = 4 ∷ p ∷ s ∷ l ∷ 0 ∷ []
 numbersOf Nothing = 5 ∷ 0 ∷ 0 ∷ 0 ∷ 0 ∷ []
-numbersOf (Told f) = 6 ∷ f ∷ 0 ∷ 0 ∷ 0 ∷ []
+numbersOf (Told f p) = 6 ∷ f ∷ p ∷ 0 ∷ 0 ∷ []
 
 -- the first of them tells a refusal
 unfoldable pub isRefused : Answer → Bool

@@ -11,6 +11,7 @@ use Rattle.page.specs.declared.Sought.{Sought}
 use Rattle.page.specs.Layout.{pageSize}
 use Rattle.page.specs.Answers.{tested, onImage}
 use Rattle.recovery.specs.Places.{nth}
+use Rattle.recovery.specs.Log.{outcomeOf}
 use Rattle.recovery.specs.Sheet.{pageBytes, isOpening, decoded}
 use Rattle.recovery.specs.World.{World, down, rebuiltRow, fateIn, cold, isFile, rowHolds}
 use Rattle.recovery.specs.Lent.{rowLength, rowsOf, putRow, pagesOf, sizesRight}
@@ -54,6 +55,10 @@ rebuiltWith current currentend token tokenend = record { mark = 1; current = cur
 -- the row that the pages and the lent fates give
 unfoldable pub rowFromPages : List ℕ → List ℕ → ℕ → ℕ → ℕ → Row
 rowFromPages s fates files file end = rebuiltRow (down (pagesOf s files) end) (fateIn fates) file
+
+-- the place of an action's newest sealed outcome, from the pages up to the end
+unfoldable pub outcomeIn : List ℕ → ℕ → ℕ → ℕ → ℕ
+outcomeIn s files end a = outcomeOf (down (pagesOf s files) end) a
 
 -- a row as its numbers stand on the sheet: what line 7 asks needs nothing else of what is lent
 abbrev pub sheetWorld : List ℕ → ℕ → ℕ → World

@@ -7,7 +7,7 @@ use lib.ListN.{length, getD}
 use lib.Dec.{eqb, leb}
 use Rattle.page.specs.Layout.{mostPlaces, mostFiles}
 use Rattle.recovery.specs.Places.{nth, put, tabulate}
-use Rattle.recovery.specs.Log.{Image, Entry, blank, torn, bad, opening, image, outcome, Fate, unknown, undecided, committed, aborted, Placed, fateOf, imagesOf, currentOf, tokenOf, placeOf, startOf}
+use Rattle.recovery.specs.Log.{Image, Entry, blank, torn, bad, opening, image, outcome, Fate, unknown, undecided, committed, aborted, Placed, fateOf, outcomeOf, imagesOf, currentOf, tokenOf, placeOf, startOf}
 use Rattle.recovery.specs.declared.Row.{Row}
 use Rattle.recovery.specs.declared.Answer.{Answer}
 use Rattle.recovery.specs.declared.Answer.the-variants.{Refused, Opened, Rebuilt}
@@ -57,6 +57,10 @@ fateIn fates a = fateFrom (nth 0 fates a)
 
 abbrev pub fateAt : World → ℕ → Fate
 fateAt w a = fateIn (w .fates) a
+
+-- the place of an action's newest sealed outcome up to the end, 0 if there is none: by the pages, whatever its fate
+abbrev pub outcomeAt : World → ℕ → ℕ
+outcomeAt w a = outcomeOf (logOf w) a
 
 -- line 1: pages, fates and files in number
 abbrev pub sizes : ℕ → ℕ → ℕ → Bool

@@ -11,6 +11,7 @@ pub use lookup::fate_at;
 pub use lookup::image_at;
 pub use lookup::is_blank_at;
 pub use lookup::is_opening_at;
+pub use lookup::outcome_place;
 pub use lookup::page_at;
 pub use lookup::part_at;
 pub use lookup::seek_at;
@@ -49,7 +50,8 @@ pub struct State {
 }
 
 // What a call answers: a refusal's number and place; open's end and open count; the last four numbers of a row; the place that
-// was stored; place, start and length of a value; none; a fate.
+// was stored; place, start and length of a value; none; a fate, and the place of
+// the newest outcome.
 pub enum Answer {
     Refused(u64, u64),
     Opened(u64, u64),
@@ -57,7 +59,7 @@ pub enum Answer {
     Stored(u64),
     Value(u64, u64, u64),
     Nothing,
-    Told(u64),
+    Told(u64, u64),
 }
 
 pub struct Done {

@@ -1,14 +1,15 @@
 // Look-ups in what is lent: the page at a place, the fate of an action, the sealed image of a file. They take every number.
+use encoding::least;
 use page::Page;
 use page::Sought;
 use page::Unpacked;
 ghost use mathlib.Core.Bool.{_||_};
 ghost use mathlib.Core.Path.{_≡_};
 ghost use lib.Dec.{eqb};
-ghost use Rattle.page.specs.Answers.{tested, isBlankPage, imageOfFile};
+ghost use Rattle.page.specs.Answers.{tested, isBlankPage, isOutcomeOf, imageOfFile};
 ghost use Rattle.recovery.specs.Places.{nth};
 ghost use Rattle.recovery.specs.Sheet.{pageBytes, isOpening, decoded};
-ghost use Rattle.recovery.specs.Steps.{hasPlace, partAt, countedFate, sealedImage};
+ghost use Rattle.recovery.specs.Steps.{hasPlace, partAt, countedFate, outcomeIn, sealedImage};
 
 // Whether the sheet has such a place.
 fn has_place(sheet: &[u8], place: u64) -> bool
@@ -59,6 +60,35 @@ pub fn is_opening_at(sheet: &[u8], place: u64, files: u64) -> bool
     ensures { λ r. ⌜ r ≡ isOpening (decoded files (now (sheet .entry)) place) ⌝ }
 {
     Page::is_opening(part_at(sheet, place), place, files)
+}
+
+// Whether the page at a place is an outcome of an action.
+fn is_outcome_at(sheet: &[u8], place: u64, files: u64, action: u64) -> bool
+    ensures { λ r. ⌜ r ≡ isOutcomeOf action (tested (pageBytes (now (sheet .entry)) place) place files) ⌝ }
+{
+    // Asked here too, as in seek_at.
+    if !has_place(sheet, place) {
+        return false;
+    }
+    Page::is_outcome_of(part_at(sheet, place), place, files, action)
+}
+
+// The place of an action's newest sealed outcome up to the end, 0 if there is none: going down from the end as far as the
+// action's opening, past any other page at once.
+pub fn outcome_place(sheet: &[u8], end: u64, files: u64, action: u64) -> u64
+    ensures { λ r. ⌜ r ≡ outcomeIn (now (sheet .entry)) files end action ⌝ }
+{
+    if !is_opening_at(sheet, action, files) {
+        return 0;
+    }
+    let mut place = least(end, (sheet.len() / Page::SIZE) as u64);
+    while action < place {
+        if is_outcome_at(sheet, place, files, action) {
+            return place;
+        }
+        place -= 1;
+    }
+    0
 }
 
 // The fields of a sealed image of a file at a place.

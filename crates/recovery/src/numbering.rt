@@ -16,6 +16,6 @@ pub fn numbers_of(answer: Answer) -> [u64; 5]
         Answer::Stored(place) => [3, place, 0, 0, 0],
         Answer::Value(place, start, size) => [4, place, start, size, 0],
         Answer::Nothing => [5, 0, 0, 0, 0],
-        Answer::Told(fate) => [6, fate, 0, 0, 0],
+        Answer::Told(fate, place) => [6, fate, place, 0, 0],
     }
 }
