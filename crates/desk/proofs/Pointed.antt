@@ -9,7 +9,7 @@ use Rattle.page.specs.Layout.{pageSize, mostPlaces}
 use Rattle.page.specs.Table.{head, front, packed, fieldsOf, lowest, highest, within, between, meetsRules, isPageOf, torn}
 use Rattle.page.specs.Answers.{inBounds, tested}
 use Rattle.recovery.specs.Places.{tabulate}
-use Rattle.recovery.specs.Log.{opening, outcome, fateOf, imagesOf, versionsOf, tokenOf}
+use Rattle.recovery.specs.Log.{opening, outcome, fateOf, outcomeOf, imagesOf, versionsOf, tokenOf}
 use Rattle.recovery.specs.Sheet.{decoded, sealed, pages}
 use Rattle.recovery.specs.World.{down, warmRow, rowHolds, lentRight, endOf, highestBad, undecidedOf, coldRows, opened}
 use Rattle.recovery.specs.Lent.{Left, rowLength, rowsOf, flat, sizesRight, openLeaves}
@@ -76,14 +76,14 @@ record Computed : Type 0 where
   begins : point.then two begin ≡ begun
   writes-not : point.then begun (write 1 1 1 []) ≡ unwritten
   commits : point.then unwritten (decide 1 true) ≡ decided
-  commits-once : point.then decided (decide 1 true) .answer ≡ Refused 6 0
+  commits-once : point.then decided (decide 1 true) ≡ decided
   one-page : point.after 1 (begin ∷ []) ≡ point.refused 11
   cut-none : cutPage 0 ≡ 0
   cut-most : cutPage 63 ≡ 1
   cut-all : cutPage 64 ≡ 3
 
 computed : Computed
-unfolding head front packed fieldsOf lowest highest within between meetsRules isPageOf torn inBounds tested tabulate fateOf imagesOf versionsOf tokenOf decoded sealed pages down warmRow rowHolds lentRight endOf highestBad undecidedOf coldRows opened rowsOf flat sizesRight openLeaves follow eachRow call packedEntry withPage callLeaves mixed point.opened
+unfolding head front packed fieldsOf lowest highest within between meetsRules isPageOf torn inBounds tested tabulate fateOf outcomeOf imagesOf versionsOf tokenOf decoded sealed pages down warmRow rowHolds lentRight endOf highestBad undecidedOf coldRows opened rowsOf flat sizesRight openLeaves follow eachRow call packedEntry withPage callLeaves mixed point.opened
 computed = record { opens = refl; begins = refl; writes-not = refl; commits = refl; commits-once = refl; one-page = refl; cut-none = refl; cut-most = refl; cut-all = refl }
 
 step : {x y : Left} (k : Call) → x ≡ y → point.then x k ≡ point.then y k
@@ -98,6 +98,9 @@ second = step (write 1 1 1 []) first ∙ computed .writes-not
 third : point.then (point.then (point.then (point.opened 128) begin) (write 1 1 1 [])) (decide 1 true) ≡ decided
 third = step (decide 1 true) second ∙ computed .commits
 
+fourth : point.then (point.then (point.then (point.then (point.opened 128) begin) (write 1 1 1 [])) (decide 1 true)) (decide 1 true) ≡ decided
+fourth = step (decide 1 true) third ∙ computed .commits-once
+
 cut-at : (n k : ℕ) → cutPage n ≡ k → point.cutBegin n ≡ k ∷ []
 cut-at n k e = (λ i. point.kindOf (sealed 8 (storedOf (firstBytes n) 0 (first i .sheet) (computed .opens i .sheet)) 1) ∷ []) ∙ ap (λ x. x ∷ []) e
 
@@ -110,11 +113,12 @@ runs-hold =
     (row (numbers first)
     (row (numbers second)
     (row (numbers third)
-    (row (numbers (step (decide 1 true) third) ∙ ap numbersOf (computed .commits-once))
+    (row (numbers fourth)
+    (row (ap (λ (x : Left). x .sheet) (fourth ∙ sym third))
     (row (cut-at 0 0 (computed .cut-none))
     (row (cut-at 63 1 (computed .cut-most))
     (row (cut-at 64 3 (computed .cut-all))
-    refl)))))))
+    refl))))))))
 
 words-hold : point.given point.words ≡ point.stated point.words
 words-hold = refl

@@ -28,6 +28,9 @@ calls x (k ∷ ks) = calls (then x k) ks
 abbrev pub after : ℕ → List Call → List ℕ
 after pages ks = numbersOf (calls (opened (pageSize * pages)) ks .answer)
 
+abbrev pub sheetAfter : ℕ → List Call → List ℕ
+sheetAfter pages ks = calls (opened (pageSize * pages)) ks .sheet
+
 -- the first page of two when a begin is cut after so many bytes: 0 blank, 1 torn, 2 bad, 3 sealed
 abbrev pub kindOf : Entry → ℕ
 kindOf blank = 0
@@ -74,11 +77,12 @@ abbrev pub runs : List (List ℕ × List ℕ)
 runs =
     -- one page: begin refused 11
     (after 1 (begin ∷ []), refused 11)
-    -- two pages: begin accepted, write refused 11, commit accepted; and a second commit refused 6
+    -- two pages: begin accepted, write refused 11, commit accepted; a second commit answered alike, nothing written
     ∷ (after 2 (begin ∷ []), stored 1)
     ∷ (after 2 (begin ∷ write 1 1 1 [] ∷ []), refused 11)
     ∷ (after 2 (begin ∷ write 1 1 1 [] ∷ decide 1 true ∷ []), stored 2)
-    ∷ (after 2 (begin ∷ write 1 1 1 [] ∷ decide 1 true ∷ decide 1 true ∷ []), refused 6)
+    ∷ (after 2 (begin ∷ write 1 1 1 [] ∷ decide 1 true ∷ decide 1 true ∷ []), stored 2)
+    ∷ (sheetAfter 2 (begin ∷ write 1 1 1 [] ∷ decide 1 true ∷ decide 1 true ∷ []), sheetAfter 2 (begin ∷ write 1 1 1 [] ∷ decide 1 true ∷ []))
     -- cut after 0 bytes: blank; after 63: torn; after 64: sealed
     ∷ (cutBegin 0, 0 ∷ [])
     ∷ (cutBegin 63, 1 ∷ [])

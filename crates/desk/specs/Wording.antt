@@ -11,7 +11,7 @@ use Rattle.calls.specs.declared.making.Call.{Call}
 use Rattle.commands.specs.declared.printing.Reply.{Reply}
 use Rattle.commands.specs.declared.printing.Reply.the-variants.{What, Closed, Lost, Cut, Opened, Begun, Written, Shown, Nothing, Told, Committed, Aborted, No}
 
--- a place that was stored, in the call's own word; read and test store none
+-- the place of a call's page, in the call's own word; read and test have none
 abbrev pub storedBy : Call → ℕ → Reply
 storedBy call.Call.Begin place = Begun place
 storedBy (call.Call.Write file start action) place = Written place
@@ -26,7 +26,7 @@ callReply k ns =
     cond (eqb (getD ns 0 0) 0) (No (getD ns 1 0) (getD ns 2 0))
     (cond (eqb (getD ns 0 0) 3) (storedBy k (getD ns 1 0))
     (cond (eqb (getD ns 0 0) 4) (Shown (getD ns 1 0) (getD ns 2 0) (getD ns 3 0))
-    (cond (eqb (getD ns 0 0) 5) Nothing (Told (getD ns 1 0)))))
+    (cond (eqb (getD ns 0 0) 5) Nothing (Told (getD ns 1 0) (getD ns 2 0)))))
 
 unfoldable pub openReply : List ℕ → Reply
 openReply ns = cond (eqb (getD ns 0 0) 0) (No (getD ns 1 0) (getD ns 2 0)) (Opened (getD ns 1 0) (getD ns 2 0))
@@ -42,7 +42,7 @@ shown (Begun place) s = []
 shown (Written place) s = []
 shown (Shown place start size) s = take size (valueIn (pageBytes s place))
 shown Nothing s = []
-shown (Told fate) s = []
+shown (Told fate place) s = []
 shown (Committed place) s = []
 shown (Aborted place) s = []
 shown (No number place) s = []

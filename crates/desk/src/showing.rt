@@ -10,7 +10,7 @@ ghost use Rattle.recovery.specs.Sheet.{pageBytes};
 ghost use Rattle.commands.specs.Replies.{prints};
 ghost use Rattle.desk.specs.Wording.{storedBy, callReply, openReply, shown};
 
-// A place that was stored, in the call's own word.
+// The place of a call's page, in the call's own word.
 fn stored_by(call: Call, place: u64) -> Reply
     ensures { λ r. ⌜ r ≡ storedBy call place ⌝ }
 {
@@ -41,7 +41,7 @@ pub(crate) fn call_reply(call: Call, numbers: [u64; 5]) -> Reply
     if kind == 5 {
         return Reply::Nothing;
     }
-    Reply::Told(numbers[1])
+    Reply::Told(numbers[1], numbers[2])
 }
 
 // The reply to an opening, by the numbers of its answer.

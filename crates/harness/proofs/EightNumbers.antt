@@ -35,7 +35,7 @@ five-numbers (Rebuilt a b c d) xs = refl
 five-numbers (Stored p) xs = refl
 five-numbers (Value p s n) xs = refl
 five-numbers Nothing xs = refl
-five-numbers (Told f) xs = refl
+five-numbers (Told f p) xs = refl
 
 pub eight-are : (out ns : List ℕ) (a : Answer) (st : State) → length out ≡ numberCount → ns ≡ numbersOf a
     → set (set (set (set (set (set (set (set out 0 (getD ns 0 0)) 1 (getD ns 1 0)) 2 (getD ns 2 0)) 3 (getD ns 3 0)) 4 (getD ns 4 0)) 5 (st .end)) 6 (st .floor)) 7 (st .undecided) ≡ eightNumbers a st

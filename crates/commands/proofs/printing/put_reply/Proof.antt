@@ -86,14 +86,23 @@ put-word-requires-4 c κs = search needs
 enum-known-reply-6 : tie.Need-enum-known-reply-6
 enum-known-reply-6 c = search needs
 
+slice-aggregate-put-two-2 : tie.Need-slice-aggregate-put-two-2
+slice-aggregate-put-two-2 c = search needs
+
+put-two-requires-2 : tie.Need-put-two-requires-2
+put-two-requires-2 c κs = search needs
+
+enum-known-reply-7 : tie.Need-enum-known-reply-7
+enum-known-reply-7 c = search needs
+
 slice-aggregate-put-one-4 : tie.Need-slice-aggregate-put-one-4
 slice-aggregate-put-one-4 c = search needs
 
 put-one-requires-4 : tie.Need-put-one-requires-4
 put-one-requires-4 c κs = search needs
 
-enum-known-reply-7 : tie.Need-enum-known-reply-7
-enum-known-reply-7 c = search needs
+enum-known-reply-8 : tie.Need-enum-known-reply-8
+enum-known-reply-8 c = search needs
 
 slice-aggregate-put-one-5 : tie.Need-slice-aggregate-put-one-5
 slice-aggregate-put-one-5 c = search needs
@@ -101,23 +110,14 @@ slice-aggregate-put-one-5 c = search needs
 put-one-requires-5 : tie.Need-put-one-requires-5
 put-one-requires-5 c κs = search needs
 
-enum-known-reply-8 : tie.Need-enum-known-reply-8
-enum-known-reply-8 c = search needs
-
-slice-aggregate-put-one-6 : tie.Need-slice-aggregate-put-one-6
-slice-aggregate-put-one-6 c = search needs
-
-put-one-requires-6 : tie.Need-put-one-requires-6
-put-one-requires-6 c κs = search needs
-
 enum-known-reply-9 : tie.Need-enum-known-reply-9
 enum-known-reply-9 c = search needs
 
-slice-aggregate-put-two-2 : tie.Need-slice-aggregate-put-two-2
-slice-aggregate-put-two-2 c = search needs
+slice-aggregate-put-two-3 : tie.Need-slice-aggregate-put-two-3
+slice-aggregate-put-two-3 c = search needs
 
-put-two-requires-2 : tie.Need-put-two-requires-2
-put-two-requires-2 c κs = search needs
+put-two-requires-3 : tie.Need-put-two-requires-3
+put-two-requires-3 c κs = search needs
 
 same-length : tie.Need-same-length
 same-length c = search needs
@@ -187,28 +187,28 @@ same-length-10 c = search needs
 
 returns-10 : tie.Need-returns-10
 unfolding printed testName
-returns-10 c = rw (c .before .before .before .before .before .before .reply6 .given .1) (c .before .before .put-one4 .ensures)
+returns-10 c = rw (c .before .before .before .before .before .before .reply6 .given .1) (c .before .before .put-two2 .ensures)
 
 same-length-11 : tie.Need-same-length-11
 same-length-11 c = search needs
 
 returns-11 : tie.Need-returns-11
 unfolding printed commitName
-returns-11 c = rw (c .before .before .before .before .before .before .reply7 .given .1) (c .before .before .put-one5 .ensures)
+returns-11 c = rw (c .before .before .before .before .before .before .reply7 .given .1) (c .before .before .put-one4 .ensures)
 
 same-length-12 : tie.Need-same-length-12
 same-length-12 c = search needs
 
 returns-12 : tie.Need-returns-12
 unfolding printed abortName
-returns-12 c = rw (c .before .before .before .before .before .before .reply8 .given .1) (c .before .before .put-one6 .ensures)
+returns-12 c = rw (c .before .before .before .before .before .before .reply8 .given .1) (c .before .before .put-one5 .ensures)
 
 same-length-13 : tie.Need-same-length-13
 same-length-13 c = search needs
 
 returns-13 : tie.Need-returns-13
 unfolding printed noName
-returns-13 c = rw (c .before .before .before .before .before .before .reply9 .given .1) (c .before .before .put-two2 .ensures)
+returns-13 c = rw (c .before .before .before .before .before .before .reply9 .given .1) (c .before .before .put-two3 .ensures)
 
 pub put-reply-spec : {M : Type 1} → statement M
 put-reply-spec =
@@ -241,17 +241,17 @@ put-reply-spec =
     slice-aggregate-put-word-4
     put-word-requires-4
     enum-known-reply-6
-    slice-aggregate-put-one-4
-    put-one-requires-4
-    enum-known-reply-7
-    slice-aggregate-put-one-5
-    put-one-requires-5
-    enum-known-reply-8
-    slice-aggregate-put-one-6
-    put-one-requires-6
-    enum-known-reply-9
     slice-aggregate-put-two-2
     put-two-requires-2
+    enum-known-reply-7
+    slice-aggregate-put-one-4
+    put-one-requires-4
+    enum-known-reply-8
+    slice-aggregate-put-one-5
+    put-one-requires-5
+    enum-known-reply-9
+    slice-aggregate-put-two-3
+    put-two-requires-3
     same-length
     returns
     same-length-2

@@ -48,6 +48,9 @@ returns-4 c = search (eq-eqb, ne-eqb)
 array-read-t7 : tie.Need-array-read-t7
 array-read-t7 c = search needs
 
+array-read-t31 : tie.Need-array-read-t31
+array-read-t31 c = search needs
+
 returns-5 : tie.Need-returns-5
 unfolding callReply
 returns-5 c = search (eq-eqb, ne-eqb)
@@ -69,4 +72,5 @@ call-reply-spec =
     returns-3
     returns-4
     array-read-t7
+    array-read-t31
     returns-5)
