@@ -1,5 +1,5 @@
 -- Runs that meet the premises of each promise, with what they hear: document 01's listing, a change of two locks that is cut with any
--- of its bytes stored, one life of a box with each promise asked of it, rows rebuilt in two orders, the reserve kept and used up, a
+-- of its bytes stored, a commit whose reply is lost, one life of a box with each promise asked of it, rows rebuilt in two orders, the reserve kept and used up, a
 -- floor that is too low, and a lawful sheet that no run of this store makes. Each premise is proved, so no promise is empty.
 use Prim.Native.Nat.{ℕ, _≤_, _<_}
 use mathlib.Core.Path.{_≡_, refl, sym, _∙_}
@@ -13,7 +13,7 @@ use Rattle.encoding.proofs.Logic.{clash}
 use Rattle.page.specs.Table as table
 use Rattle.page.specs.Table.{head, front, packed, fieldsOf, lowest, highest, within, between, meetsRules, isPageOf}
 use Rattle.page.specs.Answers.{tested, inBounds}
-use Rattle.recovery.specs.Log.{Image, blank, torn, image, fateOf, imagesOf, tokenOf, versionsOf}
+use Rattle.recovery.specs.Log.{Image, blank, torn, image, fateOf, outcomeOf, imagesOf, tokenOf, versionsOf}
 use Rattle.recovery.specs.Places.{tabulate}
 use Rattle.recovery.specs.Sheet.{pageBytes, sealed, decoded, pages}
 use Rattle.recovery.specs.World.{down, endOf, undecidedOf}
@@ -65,7 +65,7 @@ pub listing-heard : heard (blankBox 256) (events 256 8 listing) ≡ inNumbers (
     ∷ some (Stored 5)
     ∷ none
     ∷ some (Opened 6 1)
-    ∷ some (Told 1)
+    ∷ some (Told 1 0)
     ∷ some (Value 2 10 2)
     ∷ some (Stored 7)
     ∷ some (Value 2 10 2)
@@ -99,6 +99,31 @@ change-heard kept o = promised 6 2 .as-model (change kept) (change-run kept o) �
         ≡ cond (kept 0) (cond (kept 63) (changed (Opened 4 0) (Refused 6 0) (Refused 6 0) (Value 2 10 1) (Value 3 10 1))
         (changed (Opened 4 1) (Value 2 10 1) (Value 3 10 1) (Refused 9 1) (Refused 9 1)))
         (changed (Opened 3 1) (Value 2 10 1) (Value 3 10 1) (Refused 9 1) (Refused 9 1))
+    go false c e f = rw e
+    go true true e f = rw (e, f)
+    go true false e f = rw (e, f)
+
+-- ---- a commit whose reply is lost, with any of its bytes stored: after the opening it is asked twice, and then its opposite
+
+abbrev asking : (ℕ → Bool) → List Event
+asking kept = events 6 2 (opened 0 ∷ does begin ∷ does (write 1 10 1 (7 ∷ [])) ∷ [])
+    ++ cuts (decide 1 true) kept ∷ events 6 2 (opened 0 ∷ does (decide 1 true) ∷ does (decide 1 true) ∷ does (decide 1 false) ∷ does (test 1) ∷ [])
+
+asking-run : (kept : ℕ → Bool) → Ordered kept → Run 6 2 (asking kept)
+asking-run kept o = record { sized = refl; allowed = (λ e. refl, (tt, (omega arith, ((tt, o), (λ e. refl, (tt, (tt, (tt, (tt, tt))))))))) }
+
+-- the opening's answer, and the place of the outcome
+abbrev answeredAt : Answer → ℕ → List (Option (List ℕ))
+answeredAt o place = inNumbers (some (Opened 0 0) ∷ some (Stored 1) ∷ some (Stored 2) ∷ none ∷ some o ∷ some (Stored place) ∷ some (Stored place) ∷ some (Refused 6 0) ∷ some (Told 2 place) ∷ [])
+
+-- one outcome, always: the stored one if its 64 bytes are there, else one that is stored now
+pub asking-heard : (kept : ℕ → Bool) → Ordered kept
+    → heard (blankBox 6) (asking kept) ≡ cond (kept 0) (cond (kept 63) (answeredAt (Opened 3 0) 3) (answeredAt (Opened 3 1) 4)) (answeredAt (Opened 2 1) 3)
+unfolding modelHeard latest
+asking-heard kept o = promised 6 2 .as-model (asking kept) (asking-run kept o) ∙ go (kept 0) (kept 63) refl refl
+  where
+    go : (b c : Bool) → kept 0 ≡ b → kept 63 ≡ c
+        → modelHeard false (blankModel 6 2) (asking kept) ≡ cond (kept 0) (cond (kept 63) (answeredAt (Opened 3 0) 3) (answeredAt (Opened 3 1) 4)) (answeredAt (Opened 2 1) 3)
     go false c e f = rw e
     go true true e f = rw (e, f)
     go true false e f = rw (e, f)
@@ -174,9 +199,9 @@ writes-token : Told-of before (does token) (Stored 8)
 unfolding modelHeard latest
 writes-token = hears-by 12 2 (at before) (calls token) (Stored 8) (is-run 12 2 life refl) refl
 
-tells-open : Told-of life (does (test 7)) (Told 1)
+tells-open : Told-of life (does (test 7)) (Told 1 0)
 unfolding modelHeard latest
-tells-open = hears-by 12 2 (at life) (calls (test 7)) (Told 1) (is-run 12 2 (life ++ does (test 7) ∷ []) refl) refl
+tells-open = hears-by 12 2 (at life) (calls (test 7)) (Told 1 0) (is-run 12 2 (life ++ does (test 7) ∷ []) refl) refl
 
 would-commit : Told-of life (does (decide 7 true)) (Stored 9)
 unfolding modelHeard latest
@@ -198,13 +223,21 @@ late-none : Told-of late (does (read 1 4 0)) Nothing
 unfolding modelHeard latest
 late-none = hears-by 12 2 (at late) (calls (read 1 4 0)) Nothing (is-run 12 2 (late ++ does (read 1 4 0) ∷ []) refl) refl
 
-late-committed : Told-of late (does (test 1)) (Told 2)
+late-committed : Told-of late (does (test 1)) (Told 2 3)
 unfolding modelHeard latest
-late-committed = hears-by 12 2 (at late) (calls (test 1)) (Told 2) (is-run 12 2 (late ++ does (test 1) ∷ []) refl) refl
+late-committed = hears-by 12 2 (at late) (calls (test 1)) (Told 2 3) (is-run 12 2 (late ++ does (test 1) ∷ []) refl) refl
 
-late-open : Told-of late (does (test 7)) (Told 1)
+late-open : Told-of late (does (test 7)) (Told 1 0)
 unfolding modelHeard latest
-late-open = hears-by 12 2 (at late) (calls (test 7)) (Told 1) (is-run 12 2 (late ++ does (test 7) ∷ []) refl) refl
+late-open = hears-by 12 2 (at late) (calls (test 7)) (Told 1 0) (is-run 12 2 (late ++ does (test 7) ∷ []) refl) refl
+
+late-again : Told-of late (does (decide 1 true)) (Stored 3)
+unfolding modelHeard latest
+late-again = hears-by 12 2 (at late) (calls (decide 1 true)) (Stored 3) (is-run 12 2 (late ++ does (decide 1 true) ∷ []) refl) refl
+
+late-opposite : Told-of late (does (decide 1 false)) (Refused 6 0)
+unfolding modelHeard latest
+late-opposite = hears-by 12 2 (at late) (calls (decide 1 false)) (Refused 6 0) (is-run 12 2 (late ++ does (decide 1 false) ∷ []) refl) refl
 
 late-writes : Told-of late (does (write 1 13 7 [])) (Stored 10)
 unfolding modelHeard latest
@@ -220,7 +253,7 @@ abbrev seen : Image
 seen = record { file = 1; action = 1; link = found-met .0; start = 5; value = 7 ∷ [] }
 
 version-met : IsVersion 12 2 (boxAt late) 1 2 seen
-version-met = (found-met .1, refl, late-committed)
+version-met = (found-met .1, refl, (3, late-committed))
 
 pub highest-met : 5 ≤ 5
 highest-met = promised 12 2 .highest (at late) 1 6 0 2 5 1 late-run late-reads 2 seen version-met (omega arith)
@@ -246,7 +279,7 @@ pub found-cut-met : IsPageOf (decide 7 true) (pageIn 12 2 (boxAt (life ++ cut (d
 found-cut-met = promised 12 2 .found-cut (at life) [] (decide 7 true) 9 (firstBytes 64) (is-run 12 2 (life ++ cut (decide 7 true) 64 ∷ []) refl) refl would-commit
 
 pub torn-cut-met : pageIn 12 2 (boxAt late) 9 ≡ torn
-torn-cut-met = promised 12 2 .torn-cut (at life) (at (opened 6 ∷ [])) (decide 7 true) 9 (firstBytes 20) late-run refl refl would-commit
+torn-cut-met = promised 12 2 .torn-cut (at life) (at (opened 6 ∷ [])) (decide 7 true) 9 (firstBytes 20) late-run refl refl would-commit (blank-above 12 2 (at life) (is-run 12 2 life refl) 9 (omega arith) (omega arith))
 
 pub lost-cut-met : sheetOf (boxAt (life ++ cut (decide 7 true) 0 ∷ [])) ≡ sheetOf (boxAt life)
 lost-cut-met = promised 12 2 .lost-cut (at life) (decide 7 true) (firstBytes 0) (is-run 12 2 (life ++ cut (decide 7 true) 0 ∷ []) refl) refl
@@ -267,20 +300,32 @@ as-unasked-met = promised 12 2 .as-unasked (at life) (at looks) (decide 7 true) 
 pub same-count-met : (_≡_ {A = ℕ} 1 1) × (8 ≤ 9) × (9 ≤ 9)
 same-count-met = promised 12 2 .same-count (at life) (decide 7 true) (firstBytes 20) 6 fates rows 8 9 1 1 late-run refl would-open opens-after
 
-pub same-fate-met : (x : Answer) → Hears (boxAt late) (calls (test 7)) x → x ≡ Told 1
-same-fate-met x h = promised 12 2 .same-fate (at life) (decide 7 true) (firstBytes 20) 6 fates rows 7 1 x late-run refl tells-open h
+pub same-fate-met : (x : Answer) → Hears (boxAt late) (calls (test 7)) x → x ≡ Told 1 0
+same-fate-met x h = promised 12 2 .same-fate (at life) (decide 7 true) (firstBytes 20) 6 fates rows 7 1 0 x late-run refl tells-open h
 
-pub begun-met : (fate : ℕ) × (1 ≤ fate) × (fate ≤ 3) × (Told 2 ≡ Told fate)
-begun-met = promised 12 2 .begun (at (opened 0 ∷ [])) (at (does older ∷ does (decide 1 true) ∷ does (read 1 6 0) ∷ newer ++ does token ∷ tail)) 1 (Told 2) late-run begins late-committed
+pub begun-met : (fate : ℕ) × (at : ℕ) × (1 ≤ fate) × (fate ≤ 3) × (Told 2 3 ≡ Told fate at)
+begun-met = promised 12 2 .begun (at (opened 0 ∷ [])) (at (does older ∷ does (decide 1 true) ∷ does (read 1 6 0) ∷ newer ++ does token ∷ tail)) 1 (Told 2 3) late-run begins late-committed
 
-pub decided-met : Told 2 ≡ Told 2
-decided-met = promised 12 2 .decided (at (begun ++ does older ∷ [])) (at (does (read 1 6 0) ∷ newer ++ does token ∷ tail)) 1 3 true (Told 2) late-run commits late-committed
+pub decided-met : Told 2 3 ≡ Told 2 3
+decided-met = promised 12 2 .decided (at (begun ++ does older ∷ [])) (at (does (read 1 6 0) ∷ newer ++ does token ∷ tail)) 1 3 true (Told 2 3) late-run commits late-committed
 
 pub begun-only-met : Did 12 2 (at late) begin 7
-begun-only-met = promised 12 2 .begun-only (at late) 7 1 late-run late-open
+begun-only-met = promised 12 2 .begun-only (at late) 7 1 0 late-run late-open
 
-pub decided-only-met : (place : ℕ) × Did 12 2 (at late) (decide 1 true) place
-decided-only-met = promised 12 2 .decided-only (at late) 1 true late-run late-committed
+pub decided-only-met : Did 12 2 (at late) (decide 1 true) 3
+decided-only-met = promised 12 2 .decided-only (at late) 1 3 true late-run late-committed
+
+-- the first commit asked again, past the cut and the opening; and its opposite
+pub asked-again-met : (Stored 3 ≡ Stored 3) × (sheetOf (after (boxAt late) (calls (decide 1 true))) ≡ sheetOf (boxAt late))
+asked-again-met = promised 12 2 .asked-again (at late) 1 3 true (Stored 3) late-run decided-only-met late-again
+
+pub opposite-refused-met : Refused 6 0 ≡ Refused 6 0
+opposite-refused-met = promised 12 2 .opposite-refused (at late) 1 3 true (Refused 6 0) late-run decided-only-met late-opposite
+
+pub one-outcome-met : _≡_ {A = ℕ} 3 3
+one-outcome-met =
+    let p = promised 12 2 .found (at (begun ++ does older ∷ [])) (at (does (read 1 6 0) ∷ newer ++ does token ∷ tail)) (decide 1 true) 3 late-run commits in
+    promised 12 2 .one-outcome (at late) 1 3 3 true true late-run p p
 
 pub can-be-decided-met : (place : ℕ) × Hears (boxAt late) (calls (decide 7 true)) (Stored place)
 can-be-decided-met = promised 12 2 .can-be-decided (at late) 7 true late-run late-open (blank-above 12 2 (at late) late-run 12 (omega arith) (omega arith))
@@ -289,7 +334,7 @@ pub whole-or-none-met : AllShow 12 2 (boxAt late) 7 ⊎ NoneShows 12 2 (boxAt la
 whole-or-none-met = promised 12 2 .whole-or-none (at late) 7 late-run
 
 pub all-shown-met : ShowsAt 12 2 (boxAt late) 2 seen
-all-shown-met = promised 12 2 .all-shown (at late) 2 seen late-run (found-met .1) late-committed
+all-shown-met = promised 12 2 .all-shown (at late) 2 seen late-run (found-met .1) (3, late-committed)
 
 pub none-shown-met : Shown 12 2 (boxAt late) 1 6 0 2 5 1
 none-shown-met = promised 12 2 .none-shown (at late) 1 6 0 2 5 1 late-run late-reads
@@ -323,9 +368,9 @@ unseen-met = promised 12 2 .unseen (at (first ++ opened 0 ∷ does (rebuild 2) �
 abbrev three : List Step
 three = opened 0 ∷ does begin ∷ does (write 1 1 1 []) ∷ []
 
-three-tells : Hears (boxAfter 3 2 (events 3 2 three)) (calls (test 1)) (Told 1)
+three-tells : Hears (boxAfter 3 2 (events 3 2 three)) (calls (test 1)) (Told 1 0)
 unfolding modelHeard latest
-three-tells = hears-by 3 2 (events 3 2 three) (calls (test 1)) (Told 1) (is-run 3 2 (three ++ does (test 1) ∷ []) refl) refl
+three-tells = hears-by 3 2 (events 3 2 three) (calls (test 1)) (Told 1 0) (is-run 3 2 (three ++ does (test 1) ∷ []) refl) refl
 
 three-full : Hears (boxAfter 3 2 (events 3 2 three)) (calls (write 2 1 1 [])) (Refused 11 0)
 unfolding modelHeard latest
@@ -338,7 +383,7 @@ reserved-met = promised 3 2 .reserved (events 3 2 three) 1 true (is-run 3 2 thre
 abbrev two : List Step
 two = opened 0 ∷ does begin ∷ cut (decide 1 true) 20 ∷ opened 0 ∷ does (test 1) ∷ does (decide 1 true) ∷ does (decide 1 false) ∷ []
 
-pub reserve-gone : heard (blankBox 2) (events 2 1 two) ≡ inNumbers (some (Opened 0 0) ∷ some (Stored 1) ∷ none ∷ some (Opened 2 1) ∷ some (Told 1) ∷ some (Refused 11 0) ∷ some (Refused 11 0) ∷ [])
+pub reserve-gone : heard (blankBox 2) (events 2 1 two) ≡ inNumbers (some (Opened 0 0) ∷ some (Stored 1) ∷ none ∷ some (Opened 2 1) ∷ some (Told 1 0) ∷ some (Refused 11 0) ∷ some (Refused 11 0) ∷ [])
 unfolding modelHeard latest
 reserve-gone = promised 2 1 .as-model (events 2 1 two) (is-run 2 1 two refl) ∙ refl
 
@@ -363,6 +408,6 @@ unfolding head front packed fieldsOf lowest highest within between meetsRules is
 foreign-lawful = refl
 
 pub any-sheet-met : heard (off foreign) (events 2 1 (opened 0 ∷ does (test 2) ∷ does (decide 1 true) ∷ []))
-    ≡ inNumbers (some (Opened 2 2) ∷ some (Told 1) ∷ some (Refused 11 0) ∷ [])
-unfolding head front packed fieldsOf lowest highest within between meetsRules isPageOf table.torn inBounds tested tabulate fateOf imagesOf versionsOf tokenOf decoded sealed pages down endOf undecidedOf modelHeard
+    ≡ inNumbers (some (Opened 2 2) ∷ some (Told 1 0) ∷ some (Refused 11 0) ∷ [])
+unfolding head front packed fieldsOf lowest highest within between meetsRules isPageOf table.torn inBounds tested tabulate fateOf outcomeOf imagesOf versionsOf tokenOf decoded sealed pages down endOf undecidedOf modelHeard
 any-sheet-met = promised 2 1 .any-sheet foreign (events 2 1 (opened 0 ∷ does (test 2) ∷ does (decide 1 true) ∷ [])) refl refl foreign-lawful (is-run 2 1 (opened 0 ∷ does (test 2) ∷ does (decide 1 true) ∷ []) refl .allowed) ∙ refl

@@ -6,6 +6,7 @@ pub mod BoxOpens
 pub mod BoxRuns
 pub mod Extends
 pub mod Found
+pub mod Decisions
 pub mod BoxKept
 pub mod BoxShown
 pub mod Lasting

@@ -3,5 +3,6 @@ pub mod Logs
 pub mod Chains
 pub mod Appends
 pub mod Versions
+pub mod Outcomes
 pub mod Fates
 pub mod Histories

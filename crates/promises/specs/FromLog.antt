@@ -5,17 +5,18 @@ use mathlib.Core.Option.{Option, some, none}
 use lib.ListN.{length}
 use Rattle.page.specs.Layout.{pageSize}
 use Rattle.recovery.specs.Log as log
-use Rattle.recovery.specs.Log.{Entry, Fate, Placed, fateOf}
+use Rattle.recovery.specs.Log.{Entry, Fate, Placed, fateOf, outcomeOf}
 use Rattle.recovery.specs.World.{down, endOf, fatesOf, undecidedOf}
 use Rattle.recovery.specs.Lent.{pagesOf}
 use Rattle.inspection.specs.Lawful.{versions, token}
 use Rattle.promises.specs.Model.{Version, object, Status, pending, committed, aborted, Model}
 
-abbrev pub statusOf : Fate → Option Status
-statusOf log.unknown = none
-statusOf log.undecided = some pending
-statusOf log.committed = some committed
-statusOf log.aborted = some aborted
+-- by an action's fate, and the place of its newest outcome
+abbrev pub statusOf : Fate → ℕ → Option Status
+statusOf log.unknown place = none
+statusOf log.undecided place = some pending
+statusOf log.committed place = some (committed place)
+statusOf log.aborted place = some (aborted place)
 
 abbrev pub versionOf : Placed → Version
 versionOf x = record { place = x .place; action = x .image .action; start = x .image .start; value = x .image .value }
@@ -35,7 +36,7 @@ modelOf pages files l = record {
   used = length l;
   floor = 0;
   undecided = undecidedOf (fatesOf pages l);
-  status = λ a. statusOf (fateOf l a);
+  status = λ a. statusOf (fateOf l a) (outcomeOf l a);
   object = λ f. object (history l f) 0 (versionIn (token l f)) 0;
 }
 

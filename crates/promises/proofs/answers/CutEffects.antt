@@ -86,8 +86,8 @@ module _ (u : ℕ) where
     same-pending : (z : Option Status) {x x′ : Reply} → Same x x′ → Same (ofPending (usedTo u m) z x) (ofPending m z x′)
     same-pending none e = refuses-same 5 0
     same-pending (some pending) e = e
-    same-pending (some committed) e = refuses-same 6 0
-    same-pending (some aborted) e = refuses-same 6 0
+    same-pending (some (committed p)) e = refuses-same 6 0
+    same-pending (some (aborted p)) e = refuses-same 6 0
 
     same-reading : (f t a : ℕ) (x : Object) (z : Option Version) → Same (reading (usedTo u m) f t a x z) (reading m f t a x z)
     same-reading f t a x none = same _ _
@@ -95,9 +95,9 @@ module _ (u : ℕ) where
 
     same-testing : (z : Option Status) → Same (testing (usedTo u m) z) (testing m z)
     same-testing none = refuses-same 5 0
-    same-testing (some pending) = same (Told 1) (m .object)
-    same-testing (some committed) = same (Told 2) (m .object)
-    same-testing (some aborted) = same (Told 3) (m .object)
+    same-testing (some pending) = same (Told 1 0) (m .object)
+    same-testing (some (committed p)) = same (Told 2 p) (m .object)
+    same-testing (some (aborted p)) = same (Told 3 p) (m .object)
 
     same-look : (q : Call) → ((g : Entry) → IsPageOf q g → ⊥) → Same (modelCall (usedTo u m) q) (modelCall m q)
     same-look begin h = absurd (h opening refl)
@@ -183,12 +183,12 @@ module _ (pages files : ℕ) (b : Box) (m : Reached pages files b) (k : Call) (k
       go u true = same-looks u true (modelOpened (m .model) floor) looks a
       go u false = same-looks u false (m .model) looks a
 
-  -- a fate told before is told after
-  pub cut-same-fate : (action fate : ℕ) (x : Answer) → answerTo b (calls (test action)) ≡ some (Told fate)
-      → answerTo (after (after b (cuts k kept)) (opens floor fates rows)) (calls (test action)) ≡ some x → x ≡ Told fate
-  cut-same-fate action fate x e l =
+  -- what test told before is told after
+  pub cut-same-fate : (action fate place : ℕ) (x : Answer) → answerTo b (calls (test action)) ≡ some (Told fate place)
+      → answerTo (after (after b (cuts k kept)) (opens floor fates rows)) (calls (test action)) ≡ some x → x ≡ Told fate place
+  cut-same-fate action fate place x e l =
       let u = cut-used (isOn b) (m .model) k kept h in
-      let before : modelAnswer (isOn b) (m .model) (calls (test action)) ≡ some (Told fate) = sym (answer-is pages files b m (calls (test action)) tt) ∙ e in
+      let before : modelAnswer (isOn b) (m .model) (calls (test action)) ≡ some (Told fate place) = sym (answer-is pages files b m (calls (test action)) tt) ∙ e in
       let later : openedAnswer (usedTo (u .used) (m .model)) ≡ some x = sym (
       answer-is pages files (after (after b (cuts k kept)) (opens floor fates rows)) cut-opened (calls (test action)) tt
       ∙ ap (λ c. modelAnswer c (cut-opened .model) (calls (test action))) (power-is pages files (after b (cuts k kept)) cut-box (opens floor fates rows) o)
@@ -198,16 +198,16 @@ module _ (pages files : ℕ) (b : Box) (m : Reached pages files b) (k : Call) (k
       openedAnswer : Model → Option Answer
       openedAnswer x = modelAnswer (isLent x fates rows) (cond (isLent x fates rows) (modelOpened x floor) x) (calls (test action))
 
-      go : (u : ℕ) (c d : Bool) → modelAnswer c (m .model) (calls (test action)) ≡ some (Told fate)
-          → modelAnswer d (cond d (modelOpened (usedTo u (m .model)) floor) (usedTo u (m .model))) (calls (test action)) ≡ some x → x ≡ Told fate
+      go : (u : ℕ) (c d : Bool) → modelAnswer c (m .model) (calls (test action)) ≡ some (Told fate place)
+          → modelAnswer d (cond d (modelOpened (usedTo u (m .model)) floor) (usedTo u (m .model))) (calls (test action)) ≡ some x → x ≡ Told fate place
       go u true true p q =
           some-is (sym q ∙ ap some (same-testing u (modelOpened (m .model) floor) (m .model .status action) .answer) ∙ status (m .model .status action) ∙ p)
         where
           status : (z : Option Status) → some (testing (modelOpened (m .model) floor) z .0) ≡ some (testing (m .model) z .0)
           status none = refl
           status (some pending) = refl
-          status (some committed) = refl
-          status (some aborted) = refl
+          status (some (committed p)) = refl
+          status (some (aborted p)) = refl
       go u true false p q = not-heard q
       go u false d p q = not-heard p
 

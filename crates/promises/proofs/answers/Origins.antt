@@ -20,6 +20,7 @@ use Rattle.recovery.proofs.Spots.{entryIn, entry-cons, entry-top}
 use Rattle.promises.specs.Runs.{Box, on, off, sheetOf, Event, calls, opens, cuts, answerTo, after, runs, Allowed, AllAllowed, blankBox, Run}
 use Rattle.promises.specs.Promises.{IsPageOf, IsWhole, Did}
 use Rattle.promises.specs.Model.{modelCall}
+use Rattle.promises.proofs.logs.Outcomes.{Lies, lies-cons}
 use Rattle.promises.proofs.worlds.Sim.{Writes, Step, stay, add}
 use Rattle.promises.proofs.bytes.Stored.{bytesOf}
 use Rattle.promises.proofs.bytes.Cuts.{cutLog, partialLog}
@@ -43,22 +44,6 @@ solid-image i = record { not-blank = λ e. clash cc; not-torn = λ e. clash cc; 
 
 pub solid-outcome : (a : ℕ) (c : Bool) → Solid (outcome a c)
 solid-outcome a c = record { not-blank = λ e. clash cc; not-torn = λ e. clash cc; not-bad = λ e. clash cc }
-
--- a log has a page at a place
-pub record Lies (l : List Entry) (p : ℕ) (g : Entry) : Type 0 where
-  pub low : 1 ≤ p
-  pub high : p ≤ length l
-  pub here : entryIn l p ≡ g
-
--- of a log with one page more, it is that page or one of the others
-lies-cons : (x : Entry) (l : List Entry) (p : ℕ) (g : Entry) → Lies (x ∷ l) p g → Lies l p g ⊎ ((p ≡ suc (length l)) × (x ≡ g))
-lies-cons x l p g h = go (leb p (length l)) refl
-  where
-    go : (b : Bool) → leb p (length l) ≡ b → Lies l p g ⊎ ((p ≡ suc (length l)) × (x ≡ g))
-    go true e = let k : p ≤ length l = leb-true p (length l) e in inl (record { low = h .low; high = k; here = sym (entry-cons x l p k) ∙ h .here })
-    go false e =
-        let k : p ≡ suc (length l) = omega (arith, leb-false p (length l) e, h .high) in
-        inr (k, sym (entry-top x l) ∙ ap (entryIn (x ∷ l)) (sym k) ∙ h .here)
 
 -- ---- the pages of a box are those of its log
 

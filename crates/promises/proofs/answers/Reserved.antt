@@ -52,8 +52,8 @@ module _ (m : Model) (h : Left-for m) where
   call-keeps begin = begins Keeps m (λ n p. h) (λ e. omega (arith, room-is m (m .undecided + 2) (omega arith) e))
   call-keeps (write f s a v) = writes Keeps m (λ n p. h) f s a v (λ j k e. omega (arith, room-is m (m .undecided + 1) (omega arith) e))
   call-keeps (read f t a) = reads Keeps m (λ n p. h) f t a h (λ x e j k. h)
-  call-keeps (test a) = tests Keeps m (λ n p. h) a (λ n. h)
-  call-keeps (decide a c) = decides Keeps m (λ n p. h) a c (λ e. fewer (m .undecided) (room-is m 1 (omega arith) e) h)
+  call-keeps (test a) = tests Keeps m (λ n p. h) a (λ n p. h)
+  call-keeps (decide a c) = decides Keeps m (λ n p. h) a c (λ p. h) (λ e. fewer (m .undecided) (room-is m 1 (omega arith) e) h)
   call-keeps (rebuild f) = rebuilds Keeps m (λ n p. h) f (λ x. h)
 
   -- a torn page: none was appended, or there was room for it and the outcomes
@@ -64,7 +64,7 @@ module _ (m : Model) (h : Left-for m) where
   call-tears begin kept w p q = begins Tears m (λ n p. inl refl) (λ e. inr (omega (arith, room-is m (m .undecided + 2) (omega arith) e)))
   call-tears (write f s a v) kept w p q = writes Tears m (λ n p. inl refl) f s a v (λ j k e. inr (omega (arith, room-is m (m .undecided + 1) (omega arith) e)))
   call-tears (read f t a) kept w p q = reads Tears m (λ n p. inl refl) f t a (inl refl) (λ x e j k. inl refl)
-  call-tears (test a) kept w p q = tests Tears m (λ n p. inl refl) a (λ n. inl refl)
+  call-tears (test a) kept w p q = tests Tears m (λ n p. inl refl) a (λ n p. inl refl)
   call-tears (decide a c) kept w p q = absurd (true≢false (sym p ∙ w a c refl ∙ q))
   call-tears (rebuild f) kept w p q = rebuilds Tears m (λ n p. inl refl) f (λ x. inl refl)
 
@@ -138,15 +138,15 @@ module _ (n files : ℕ) where
       let c = counted-at (fatesOf (m .model .pages) (m .log)) a (nth-tabulate (λ x. fateNumber (fateOf (m .log) x)) (m .model .pages) a 0 (p .0) (omega (arith, p .1, m .at .holds .room, m .at .pages-are)) ∙ ap fateNumber u) in
       omega (arith, m .at .says .undecided, c)
 
-  can-decide : (b : Box) → Spared b → (action : ℕ) (c : Bool) → answerTo b (calls (test action)) ≡ some (Told 1) → (place : ℕ) × (answerTo b (calls (decide action c)) ≡ some (Stored place))
+  can-decide : (b : Box) → Spared b → (action : ℕ) (c : Bool) → answerTo b (calls (test action)) ≡ some (Told 1 0) → (place : ℕ) × (answerTo b (calls (decide action c)) ≡ some (Stored place))
   can-decide b k action c e =
       let m = k .with in
-      let t = told-fate n files b m action 1 e in
+      let t = told-fate n files b m action 1 0 e in
       let u : fateOf (m .log) action ≡ undecided = same-fate (t .2) in
       let room : 1 ≤ m .model .pages - m .model .used = omega (arith, some-open b m action u, k .left) in
       (suc (m .model .used), answer-is n files b m (calls (decide action c)) tt ∙ rw (t .0, status-by n files b m action undecided u, le-leb 1 (m .model .pages - m .model .used) room))
 
-  pub run-reserved : (es : List Event) → Run n files es → NoTornOutcome es → (action : ℕ) (c : Bool) → answerTo (runs (blankBox n) es) (calls (test action)) ≡ some (Told 1)
+  pub run-reserved : (es : List Event) → Run n files es → NoTornOutcome es → (action : ℕ) (c : Bool) → answerTo (runs (blankBox n) es) (calls (test action)) ≡ some (Told 1 0)
       → (place : ℕ) × (answerTo (runs (blankBox n) es) (calls (decide action c)) ≡ some (Stored place))
   run-reserved es r w action c e =
       can-decide (runs (blankBox n) es) (spared-on (blankBox n) (record { with = reached-blank n files (r .sized); left = omega arith }) es (r .allowed) w) action c e

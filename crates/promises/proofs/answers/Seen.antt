@@ -18,7 +18,7 @@ use Rattle.page.specs.Layout.{pageSize, valueSize}
 use Rattle.page.specs.Table.{valueOf}
 use Rattle.page.specs.Answers.{tested, valueIn}
 use Rattle.page.proofs.Found.{found, image-is}
-use Rattle.recovery.specs.Log.{Image, Entry, blank, torn, bad, opening, image, outcome, Fate, unknown, undecided, committed, aborted, verdict, fateOf}
+use Rattle.recovery.specs.Log.{Image, Entry, blank, torn, bad, opening, image, outcome, Fate, unknown, undecided, committed, aborted, verdict, fateOf, outcomeOf}
 use Rattle.recovery.specs.Sheet.{pageBytes, entryOf, decoded, sealed}
 use Rattle.recovery.specs.World.{fateNumber, isBlank}
 use Rattle.recovery.specs.declared.Answer.the-variants.{Stored, Value, Told}
@@ -29,6 +29,7 @@ use Rattle.promises.specs.Model as model
 use Rattle.promises.specs.FromLog.{statusOf}
 use Rattle.promises.specs.Promises.{IsPageOf, Did, AllShow, NoneShows, WasWritten}
 use Rattle.promises.proofs.logs.Logs.{Lawful, Known, known-place, opening-at}
+use Rattle.promises.proofs.logs.Outcomes.{Lies, outcome-lies, outcome-only}
 use Rattle.promises.proofs.logs.Fates.{same-fate}
 use Rattle.promises.proofs.worlds.Openings.{top-solid}
 use Rattle.promises.proofs.bytes.Replaced.{unsealed, bad-image}
@@ -37,53 +38,9 @@ use Rattle.promises.proofs.boxes.BoxRuns.{reached, answer-is}
 use Rattle.promises.proofs.boxes.Found.{told-fate}
 use Rattle.promises.proofs.boxes.BoxShown.{box-all, box-shows}
 use Rattle.promises.proofs.answers.Heard.{answered, hears}
-use Rattle.promises.proofs.answers.Origins.{Lies, Solid, solid-opening, solid-image, solid-outcome, lies-page, origin, did}
+use Rattle.promises.proofs.answers.Origins.{Solid, solid-opening, solid-image, solid-outcome, page-lies-in, lies-page, origin, did}
 
 -- ---- the page that tells a fate
-
-lies-more : (x : Entry) (l : List Entry) (p : ℕ) (g : Entry) → Lies l p g → Lies (x ∷ l) p g
-lies-more x l p g h = record { low = h .low; high = omega (arith, h .high); here = entry-cons x l p (h .high) ∙ h .here }
-
-lies-top : (x : Entry) (l : List Entry) → Lies (x ∷ l) (suc (length l)) x
-lies-top x l = record { low = omega arith; high = omega arith; here = entry-top x l }
-
--- a place of a log with this page
-abbrev Somewhere : List Entry → Entry → Type 0
-Somewhere l g = (p : ℕ) × Lies l p g
-
-some-more : (x : Entry) (l : List Entry) (g : Entry) → Somewhere l g → Somewhere (x ∷ l) g
-some-more x l g h = (h .0, lies-more x l (h .0) g (h .1))
-
-not-verdict : {A : Type 0} (c : Bool) (x : Fate) → fateNumber x ≤ 1 → x ≡ verdict c → A
-not-verdict true x h e = let z : fateNumber x ≡ 2 = ap fateNumber e in absurd (omega arith)
-not-verdict false x h e = let z : fateNumber x ≡ 3 = ap fateNumber e in absurd (omega arith)
-
-verdict-same : (c d : Bool) → verdict d ≡ verdict c → d ≡ c
-verdict-same true true e = refl
-verdict-same true false e = clash cc
-verdict-same false true e = clash cc
-verdict-same false false e = refl
-
-outcome-in : (l : List Entry) (a : ℕ) (c : Bool) → fateOf l a ≡ verdict c → Somewhere l (outcome a c)
-unfolding fateOf
-outcome-in [] a c e = not-verdict c unknown (omega arith) e
-outcome-in (blank ∷ l) a c e = some-more blank l (outcome a c) (outcome-in l a c e)
-outcome-in (torn ∷ l) a c e = some-more torn l (outcome a c) (outcome-in l a c e)
-outcome-in (bad ∷ l) a c e = some-more bad l (outcome a c) (outcome-in l a c e)
-outcome-in (image i ∷ l) a c e = some-more (image i) l (outcome a c) (outcome-in l a c e)
-outcome-in (opening ∷ l) a c e = go (eqb a (suc (length l))) e (λ q. outcome-in l a c q)
-  where
-    go : (b : Bool) → cond b undecided (fateOf l a) ≡ verdict c → (fateOf l a ≡ verdict c → Somewhere l (outcome a c)) → Somewhere (opening ∷ l) (outcome a c)
-    go true q r = not-verdict c undecided (omega arith) q
-    go false q r = some-more opening l (outcome a c) (r q)
-outcome-in (outcome x d ∷ l) a c e = go (eqb a x) refl e (λ q. outcome-in l a c q)
-  where
-    go : (b : Bool) → eqb a x ≡ b → cond b (verdict d) (fateOf l a) ≡ verdict c → (fateOf l a ≡ verdict c → Somewhere l (outcome a c)) → Somewhere (outcome x d ∷ l) (outcome a c)
-    go true k q r =
-        let i : x ≡ a = sym (eqb-true a x k) in
-        let j : d ≡ c = verdict-same c d q in
-        (suc (length l), subst (λ g. Lies (outcome x d ∷ l) (suc (length l)) g) (λ t. outcome (i t) (j t)) (lies-top (outcome x d) l))
-    go false k q r = some-more (outcome x d) l (outcome a c) (r q)
 
 -- a known action's opening stands at its place
 opening-in : (l : List Entry) (a : ℕ) → Lawful l → Known (fateOf l a) → Lies l a opening
@@ -124,8 +81,8 @@ call-image (rebuild f) i h = absurd h
 
 module _ (n files : ℕ) (b : Box) (m : Reached n files b) where
   -- an action's status, by its fate
-  pub status-by : (a : ℕ) (x : Fate) → fateOf (m .log) a ≡ x → m .model .status a ≡ statusOf x
-  status-by a x e = m .at .says .status a ∙ ap statusOf e
+  pub status-by : (a : ℕ) (x : Fate) → fateOf (m .log) a ≡ x → m .model .status a ≡ statusOf x (outcomeOf (m .log) a)
+  status-by a x e = m .at .says .status a ∙ ap (λ y. statusOf y (outcomeOf (m .log) a)) e
 
 -- ---- the bytes of a value
 
@@ -175,14 +132,23 @@ module _ (n files : ℕ) (es : List Event) (r : Run n files es) where
       let a = origin n files es r p g s (lies-page n files box m p g h) in
       subst (λ c. Did n files es c p) (only (a .adds .by) (a .adds .page)) (did n files es p g a)
 
-  pub run-begun-only : (action fate : ℕ) → answerTo box (calls (test action)) ≡ some (Told fate) → Did n files es begin action
-  run-begun-only action fate e =
-      done action opening begin solid-opening call-opening (opening-in (m .log) action lawful (told-fate n files box m action fate e .1))
+  pub run-begun-only : (action fate place : ℕ) → answerTo box (calls (test action)) ≡ some (Told fate place) → Did n files es begin action
+  run-begun-only action fate place e =
+      done action opening begin solid-opening call-opening (opening-in (m .log) action lawful (told-fate n files box m action fate place e .1))
 
-  pub run-decided-only : (action : ℕ) (c : Bool) → answerTo box (calls (test action)) ≡ some (Told (cond c 2 3)) → (place : ℕ) × Did n files es (decide action c) place
-  run-decided-only action c e =
-      let o = outcome-in (m .log) action c (same-fate (told-fate n files box m action (cond c 2 3) e .2 ∙ told-number c)) in
-      (o .0, done (o .0) (outcome action c) (decide action c) (solid-outcome action c) (λ k h. call-outcome k action c h) (o .1))
+  pub run-decided-only : (action place : ℕ) (c : Bool) → answerTo box (calls (test action)) ≡ some (Told (cond c 2 3) place) → Did n files es (decide action c) place
+  run-decided-only action place c e =
+      let t = told-fate n files box m action (cond c 2 3) place e in
+      let o = outcome-lies (m .log) action c (same-fate (t .2 ∙ told-number c)) in
+      done place (outcome action c) (decide action c) (solid-outcome action c) (λ k h. call-outcome k action c h) (subst (λ p. Lies (m .log) p (outcome action c)) (t .3) o)
+
+  -- ---- one outcome
+
+  pub run-one-outcome : (action place place′ : ℕ) (c d : Bool) → sealed files (sheetOf box) place ≡ outcome action c → sealed files (sheetOf box) place′ ≡ outcome action d → place ≡ place′
+  run-one-outcome action place place′ c d e f = sym (here place c e) ∙ here place′ d f
+    where
+      here : (p : ℕ) (c : Bool) → sealed files (sheetOf box) p ≡ outcome action c → outcomeOf (m .log) action ≡ p
+      here p c e = outcome-only (m .log) action c p lawful (page-lies-in n files box m p (outcome action c) (solid-outcome action c) e)
 
   -- ---- an undecided action can be decided
 
@@ -200,31 +166,32 @@ module _ (n files : ℕ) (es : List Event) (r : Run n files es) where
           let here : sealed files (sheetOf box) n ≡ entryIn (m .log) n = lies-page n files box m n (entryIn (m .log) n) (record { low = some; high = omega arith; here = refl }) in
           absurd (false≢true (sym (top-solid (m .log) lawful (omega arith)) ∙ ap isBlank (ap (entryIn (m .log)) full ∙ sym here ∙ e)))
 
-  pub run-can-be-decided : (action : ℕ) (c : Bool) → answerTo box (calls (test action)) ≡ some (Told 1) → sealed files (sheetOf box) n ≡ blank
+  pub run-can-be-decided : (action : ℕ) (c : Bool) → answerTo box (calls (test action)) ≡ some (Told 1 0) → sealed files (sheetOf box) n ≡ blank
       → (place : ℕ) × (answerTo box (calls (decide action c)) ≡ some (Stored place))
   run-can-be-decided action c e q =
-      let t = told-fate n files box m action 1 e in
+      let t = told-fate n files box m action 1 0 e in
       let u = status-by n files box m action undecided (same-fate (t .2)) in
       let room : 1 ≤ m .model .pages - m .model .used = omega (arith, room-left q, m .at .pages-are, m .at .says .used) in
       (suc (m .model .used), answer-is n files box m (calls (decide action c)) tt ∙ rw (t .0, u, le-leb 1 (m .model .pages - m .model .used) room))
 
   -- ---- whole or not at all
 
-  told-two : isOn box ≡ true → (action : ℕ) → m .model .status action ≡ some model.committed → answerTo box (calls (test action)) ≡ some (Told 2)
-  told-two o action e = answer-is n files box m (calls (test action)) tt ∙ rw (o, e)
+  told-two : isOn box ≡ true → (action p : ℕ) → m .model .status action ≡ some (model.committed p) → answerTo box (calls (test action)) ≡ some (Told 2 p)
+  told-two o action p e = answer-is n files box m (calls (test action)) tt ∙ rw (o, e)
 
-  all-show : (action : ℕ) → answerTo box (calls (test action)) ≡ some (Told 2) → AllShow n files box action
-  all-show action h place i here mine = hears box (calls (read (i .file) (i .start) 0)) (Value place (i .start) (length (i .value)))
-      (box-all n files box m place i here (subst (λ x. answerTo box (calls (test x)) ≡ some (Told 2)) (sym mine) h))
+  all-show : (action p : ℕ) → answerTo box (calls (test action)) ≡ some (Told 2 p) → AllShow n files box action
+  all-show action p h place i here mine = hears box (calls (read (i .file) (i .start) 0)) (Value place (i .start) (length (i .value)))
+      (box-all n files box m place i here p (subst (λ x. answerTo box (calls (test x)) ≡ some (Told 2 p)) (sym mine) h))
 
-  none-shows : (action : ℕ) → (answerTo box (calls (test action)) ≡ some (Told 2) → ⊥) → NoneShows n files box action
+  none-shows : (action : ℕ) → ((p : ℕ) → answerTo box (calls (test action)) ≡ some (Told 2 p) → ⊥) → NoneShows n files box action
   none-shows action h file time reader place start size i other here mine e =
       let v = box-shows n files box m file time reader place start size (answered box (calls (read file time reader)) (Value place start size) e) in
       let a : v .seen .action ≡ action = ap (λ (x : Image). x .action) (image-same (sym (v .here) ∙ here)) ∙ mine in
-      h (subst (λ x. answerTo box (calls (test x)) ≡ some (Told 2)) a (answered box (calls (test (v .seen .action))) (Told 2) (v .whose (λ q. other (sym q ∙ a)) .2)))
+      let w = v .whose (λ q. other (sym q ∙ a)) .2 in
+      h (w .0) (subst (λ x. answerTo box (calls (test x)) ≡ some (Told 2 (w .0))) a (answered box (calls (test (v .seen .action))) (Told 2 (w .0)) (w .1)))
 
   not-two : (action : ℕ) (x : Fate) → fateOf (m .log) action ≡ x → (fateNumber x ≡ 2 → ⊥) → NoneShows n files box action
-  not-two action x e h = none-shows action (λ q. h (ap fateNumber (sym e) ∙ told-fate n files box m action 2 q .2))
+  not-two action x e h = none-shows action (λ p q. h (ap fateNumber (sym e) ∙ told-fate n files box m action 2 p q .2))
 
   pub run-whole-or-none : (action : ℕ) → AllShow n files box action ⊎ NoneShows n files box action
   run-whole-or-none action = go (isOn box) refl (fateOf (m .log) action) refl
@@ -233,8 +200,8 @@ module _ (n files : ℕ) (es : List Event) (r : Run n files es) where
       go c o unknown e = inr (not-two action unknown e (λ q. omega arith))
       go c o undecided e = inr (not-two action undecided e (λ q. omega arith))
       go c o aborted e = inr (not-two action aborted e (λ q. omega arith))
-      go true o committed e = inl (all-show action (told-two o action (status-by n files box m action committed e)))
-      go false o committed e = inr (none-shows action (λ q. false≢true (sym o ∙ told-fate n files box m action 2 q .0)))
+      go true o committed e = inl (all-show action _ (told-two o action _ (status-by n files box m action committed e)))
+      go false o committed e = inr (none-shows action (λ p q. false≢true (sym o ∙ told-fate n files box m action 2 p q .0)))
 
   -- ---- what is read was written
 

@@ -8,7 +8,7 @@ use lib.ListN.{length}
 use lib.Dec.{leb}
 use borrow.Author.Tests.{leb-true, leb-false, le-leb}
 use Rattle.encoding.proofs.Logic.{clash}
-use Rattle.recovery.specs.Log.{Image, blank, image, committed, fateOf}
+use Rattle.recovery.specs.Log.{Image, blank, image, committed, fateOf, outcomeOf}
 use Rattle.recovery.specs.Sheet.{decoded, sealed}
 use Rattle.recovery.specs.World.{World, entryAt, fateAt, fateNumber, isFile}
 use Rattle.recovery.specs.declared.Answer.{Answer}
@@ -57,36 +57,36 @@ module _ (n files : ℕ) where
     file-is = rw (sim n files m r .files ∙ r .at .files-are, le-leb 1 (i .file) (numbers .2), le-leb (i .file) files (numbers .3))
 
     -- its fate, by the test of its action
-    fate-is : (y : ℕ) → callOn m (test (i .action)) .answer ≡ Told y → fateNumber (fateAt w (i .action)) ≡ y
-    fate-is y t =
+    fate-is : (y q : ℕ) → callOn m (test (i .action)) .answer ≡ Told y q → fateNumber (fateAt w (i .action)) ≡ y
+    fate-is y q t =
         ap fateNumber (fate-eq w (r .log) (r .model) (sim n files m r) (i .action))
-        ∙ told-fate n files (on m) r (i .action) y (ap some t) .2
+        ∙ told-fate n files (on m) r (i .action) y q (ap some t) .2
 
-    all-on : callOn m (test (i .action)) .answer ≡ Told 2 → callOn m (read (i .file) (i .start) 0) .answer ≡ Value place (i .start) (length (i .value))
-    all-on t =
+    all-on : (q : ℕ) → callOn m (test (i .action)) .answer ≡ Told 2 q → callOn m (read (i .file) (i .start) 0) .answer ≡ Value place (i .start) (length (i .value))
+    all-on q t =
         world-says n files m r (read (i .file) (i .start) 0)
-        ∙ committed-shown w (r .log) (r .model) (sim n files m r) place i in-log entry-is file-is (same-fate (fate-is 2 t))
+        ∙ committed-shown w (r .log) (r .model) (sim n files m r) place i in-log entry-is file-is (same-fate (fate-is 2 q t))
 
-    own-on : callOn m (test (i .action)) .answer ≡ Told 1 → (time : ℕ) → i .start ≤ time
+    own-on : callOn m (test (i .action)) .answer ≡ Told 1 0 → (time : ℕ) → i .start ≤ time
         → callOn m (read (i .file) time (i .action)) .answer ≡ Value place (i .start) (length (i .value))
     own-on t time h =
         world-says n files m r (read (i .file) time (i .action))
-        ∙ own-shown w (r .log) (r .model) (sim n files m r) place i time in-log entry-is file-is (same-fate (fate-is 1 t)) h
+        ∙ own-shown w (r .log) (r .model) (sim n files m r) place i time in-log entry-is file-is (same-fate (fate-is 1 0 t)) h
 
   module _ (b : Box) (r : Reached n files b) (place : ℕ) (i : Image) (e : sealed files (sheetOf b) place ≡ image i) where
-    pub box-all : answerTo b (calls (test (i .action))) ≡ some (Told 2) → answerTo b (calls (read (i .file) (i .start) 0)) ≡ some (Value place (i .start) (length (i .value)))
+    pub box-all : (q : ℕ) → answerTo b (calls (test (i .action))) ≡ some (Told 2 q) → answerTo b (calls (read (i .file) (i .start) 0)) ≡ some (Value place (i .start) (length (i .value)))
     box-all = go b r e
       where
-        go : (b : Box) → Reached n files b → sealed files (sheetOf b) place ≡ image i → answerTo b (calls (test (i .action))) ≡ some (Told 2)
+        go : (b : Box) → Reached n files b → sealed files (sheetOf b) place ≡ image i → (q : ℕ) → answerTo b (calls (test (i .action))) ≡ some (Told 2 q)
             → answerTo b (calls (read (i .file) (i .start) 0)) ≡ some (Value place (i .start) (length (i .value)))
-        go (on m) r e t = ap some (all-on m r place i e (some-is t))
-        go (off s) r e t = not-heard t
+        go (on m) r e q t = ap some (all-on m r place i e q (some-is t))
+        go (off s) r e q t = not-heard t
 
-    pub box-own : answerTo b (calls (test (i .action))) ≡ some (Told 1) → (time : ℕ) → i .start ≤ time
+    pub box-own : answerTo b (calls (test (i .action))) ≡ some (Told 1 0) → (time : ℕ) → i .start ≤ time
         → answerTo b (calls (read (i .file) time (i .action))) ≡ some (Value place (i .start) (length (i .value)))
     box-own = go b r e
       where
-        go : (b : Box) → Reached n files b → sealed files (sheetOf b) place ≡ image i → answerTo b (calls (test (i .action))) ≡ some (Told 1) → (time : ℕ) → i .start ≤ time
+        go : (b : Box) → Reached n files b → sealed files (sheetOf b) place ≡ image i → answerTo b (calls (test (i .action))) ≡ some (Told 1 0) → (time : ℕ) → i .start ≤ time
             → answerTo b (calls (read (i .file) time (i .action))) ≡ some (Value place (i .start) (length (i .value)))
         go (on m) r e t time h = ap some (own-on m r place i e (some-is t) time h)
         go (off s) r e t time h = not-heard t
@@ -105,10 +105,10 @@ module _ (n files : ℕ) where
             let z : image i ≡ blank = sym e ∙ sim n files m r .clean (suc q) (leb-false (suc q) (m .state .end) k) in
             clash cc
 
-    committed-told : (i : Image) → Whose (worldIn n files m) a i → (i .action ≡ a → ⊥) → callOn m (test (i .action)) .answer ≡ Told 2
+    committed-told : (i : Image) → Whose (worldIn n files m) a i → (i .action ≡ a → ⊥) → callOn m (test (i .action)) .answer ≡ Told 2 (outcomeOf (r .log) (i .action))
     committed-told i (shared c) o =
         let d : fateOf (r .log) (i .action) ≡ committed = sym (fate-eq (worldIn n files m) (r .log) (r .model) (sim n files m r) (i .action)) ∙ c in
-        test-tells n files m r (i .action) (rw d (omega arith)) ∙ ap (λ x. Told (fateNumber x)) d
+        test-tells n files m r (i .action) (rw d (omega arith)) ∙ ap (λ x. Told (fateNumber x) (outcomeOf (r .log) (i .action))) d
     committed-told i (own h q) o = absurd (o q)
 
     said : (x : Answer) → callOn m (read f t a) .answer ≡ x → call (worldIn n files m) (read f t a) .0 ≡ x
@@ -119,12 +119,12 @@ module _ (n files : ℕ) where
         let v = read-shows (worldIn n files m) (r .log) (r .model) (sim n files m r) f t a p s l (said (Value p s l) e) in
         let inside : (1 ≤ p) × (p ≤ n) = place-in p (v .seen) (v .here) in
         let here : sealed files (m .sheet) p ≡ image (v .seen) = sym (page-in n files (m .sheet) p (inside .0) (inside .1)) ∙ v .here in
-        record { seen = v .seen; here = here; is = (v .file, v .start, v .len, v .inTime, numbers m r p (v .seen) here .1); whose = λ o. (here, v .file, hears (on m) (calls (test (v .seen .action))) (Told 2) (ap some (committed-told (v .seen) (v .whose) o))) }
+        record { seen = v .seen; here = here; is = (v .file, v .start, v .len, v .inTime, numbers m r p (v .seen) here .1); whose = λ o. (here, v .file, (outcomeOf (r .log) (v .seen .action), hears (on m) (calls (test (v .seen .action))) (Told 2 _) (ap some (committed-told (v .seen) (v .whose) o)))) }
 
     -- the highest start that is not above the time
     module _ (q : ℕ) (i : Image) (v : IsVersion n files (on m) f q i) where
       fate : fateAt (worldIn n files m) (i .action) ≡ committed
-      fate = same-fate (fate-is m r q i (v .0) 2 (some-is (answered (on m) (calls (test (i .action))) (Told 2) (v .2))))
+      fate = same-fate (fate-is m r q i (v .0) 2 (v .2 .0) (some-is (answered (on m) (calls (test (i .action))) (Told 2 (v .2 .0)) (v .2 .1))))
 
       highest-on : (p s l : ℕ) → callOn m (read f t a) .answer ≡ Value p s l → i .start ≤ t → i .start ≤ s
       highest-on p s l e k =

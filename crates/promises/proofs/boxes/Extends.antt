@@ -8,10 +8,11 @@ use lib.ListN.{length}
 use lib.Dec.{eqb, ltb}
 use borrow.Author.Tests.{eq-eqb, ne-eqb}
 use Rattle.page.specs.Layout.{pageSize}
-use Rattle.recovery.specs.Log.{Entry, blank, torn, fateOf}
+use Rattle.recovery.specs.Log.{Entry, blank, torn, verdict, fateOf, outcomeOf}
 use Rattle.recovery.specs.Sheet.{sealed}
 use Rattle.recovery.proofs.Spots.{entryIn, entry-cons, entry-top}
-use Rattle.promises.proofs.logs.Logs.{Fits, Lawful, Known, Keeps, fate-keeps, fate-knows}
+use Rattle.promises.proofs.logs.Logs.{Fits, Lawful, Known, Decided, Keeps, verdict-decided, fate-keeps, fate-knows}
+use Rattle.promises.proofs.logs.Outcomes.{DecidedAt, outcome-keeps}
 use Rattle.calls.specs.Calls.{Call}
 use Rattle.recovery.specs.declared.Answer.{Answer}
 use Rattle.promises.proofs.worlds.Sim.{Step, stay, add}
@@ -21,23 +22,29 @@ use Rattle.promises.proofs.bytes.Stored.{bytesOf}
 use Rattle.promises.proofs.boxes.Boxes.{Reached, agrees, log-page}
 use Rattle.promises.proofs.boxes.BoxRuns.{logAfter, reached-next, reached-on}
 
--- a log that goes on from another: the same pages, what was decided decided so, what was known known
+-- a log that goes on from another: the same pages, what was decided decided so and at its place, what was known known
 pub record Extends (l l′ : List Entry) : Type 0 where
   pub longer : length l ≤ length l′
   pub pages : (p : ℕ) → p ≤ length l → entryIn l′ p ≡ entryIn l p
   pub fates : Keeps (fateOf l) (fateOf l′)
+  pub outcomes : (a : ℕ) → Decided (fateOf l a) → outcomeOf l′ a ≡ outcomeOf l a
   pub known : (a : ℕ) → Known (fateOf l a) → Known (fateOf l′ a)
 
 pub ext-refl : (l : List Entry) → Extends l l
-ext-refl l = record { longer = omega arith; pages = λ p h. refl; fates = λ a d. refl; known = λ a d. d }
+ext-refl l = record { longer = omega arith; pages = λ p h. refl; fates = λ a d. refl; outcomes = λ a d. refl; known = λ a d. d }
 
 ext-add : (g : Entry) (l l′ : List Entry) → Fits g l′ → Lawful l′ → Extends l l′ → Extends l (g ∷ l′)
 ext-add g l l′ f w h = record {
   longer = omega (arith, h .longer);
   pages = λ p q. entry-cons g l′ p (omega (arith, h .longer)) ∙ h .pages p q;
   fates = λ a d. fate-keeps g l′ f w a (rw (h .fates a d) d) ∙ h .fates a d;
+  outcomes = λ a d. outcome-keeps g l′ f a (rw (h .fates a d) d) ∙ h .outcomes a d;
   known = λ a d. fate-knows g l′ a (h .known a d);
 }
+
+pub ext-decided : {l l′ : List Entry} {a : ℕ} {c : Bool} {p : ℕ} → Extends l l′ → DecidedAt l a c p → DecidedAt l′ a c p
+ext-decided {l} {l′} {a} {c} x d =
+    let h : Decided (fateOf l a) = rw (d .fate) (verdict-decided c) in record { fate = x .fates a h ∙ d .fate; place = x .outcomes a h ∙ d .place }
 
 ext-step : {files : ℕ} {c : Call} {x : Answer} (l k k′ : List Entry) → Step files c k x k′ → Lawful k′ → Extends l k → Extends l k′
 ext-step l k k′ (stay q) w h = h

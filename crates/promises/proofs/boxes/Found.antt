@@ -9,27 +9,27 @@ use lib.ListN.{length}
 use borrow.Author.Tests.{eq-eqb, ne-eqb}
 use Rattle.encoding.proofs.Logic.{clash}
 use Rattle.page.specs.Layout.{kindAt, markAt}
-use Rattle.recovery.specs.Log.{Entry, torn, opening, outcome, Fate, unknown, undecided, committed, aborted, verdict, fateOf, placeOf}
+use Rattle.recovery.specs.Log.{Entry, blank, torn, outcome, Fate, unknown, undecided, committed, aborted, fateOf, outcomeOf, placeOf}
 use Rattle.recovery.specs.Sheet.{sealed}
 use Rattle.recovery.specs.World.{fateNumber}
 use Rattle.recovery.specs.declared.Answer.{Answer}
 use Rattle.recovery.specs.declared.Answer.the-variants.{Stored, Told}
 use Rattle.recovery.specs.Lent.{Left}
 use Rattle.inspection.specs.Lawful.{current}
-use Rattle.recovery.proofs.LogFates.{undecided-known}
 use Rattle.recovery.proofs.Spots.{entry-top}
 use Rattle.calls.specs.Calls.{Call, begin, write, read, test, decide, rebuild}
 use Rattle.promises.specs.Runs.{Ordered, Box, on, off, sheetOf, Event, calls, cuts, callOn, answerTo, after, runs, Typed, AllAllowed}
 use Rattle.promises.specs.Promises.{IsPageOf}
-use Rattle.promises.proofs.logs.Logs.{Known, verdict-decided}
-use Rattle.promises.specs.Model.{testing, modelAnswer}
+use Rattle.promises.proofs.logs.Logs.{Known, not-undecided}
+use Rattle.promises.proofs.logs.Outcomes.{Lies, lies-top, outcome-lies, nowhere}
+use Rattle.promises.specs.Model.{testing, modelCall, modelAnswer}
 use Rattle.promises.specs.FromLog.{statusOf}
-use Rattle.promises.proofs.worlds.Sim.{Writes, Step, stay, add}
+use Rattle.promises.proofs.worlds.Sim.{Writes, Repeats, Step, stay, add}
 use Rattle.promises.proofs.bytes.Stored.{bytesOf}
-use Rattle.promises.proofs.bytes.Cuts.{partialLog, cutLog}
-use Rattle.promises.proofs.boxes.Boxes.{isOn, Reached, agrees, model-says}
-use Rattle.promises.proofs.boxes.BoxRuns.{reached-next, reached-on, answer-is}
-use Rattle.promises.proofs.boxes.Extends.{Extends, ext-refl, extends, stays}
+use Rattle.promises.proofs.bytes.Cuts.{cutLog}
+use Rattle.promises.proofs.boxes.Boxes.{isOn, Reached, agrees, model-says, log-page}
+use Rattle.promises.proofs.boxes.BoxRuns.{reached-next, answer-is}
+use Rattle.promises.proofs.boxes.Extends.{stays}
 
 -- ---- answers
 
@@ -47,94 +47,117 @@ writes-page files l (test a) g h = h
 writes-page files l (decide a c) g h = h
 writes-page files l (rebuild f) g h = h
 
--- the page of a call that was answered with a place, and the log that it ends
-record Wrote (files : ℕ) (l : List Entry) (k : Call) (place : ℕ) (l′ : List Entry) : Type 0 where
-  pub page : Entry
-  pub writes : Writes files l k page
-  pub place-is : place ≡ suc (length l)
-  pub log : l′ ≡ page ∷ l
+-- ---- the page of a call that was answered with a place lies in the log: it was added, or is that of a decision made before
 
-stored-is : {p q : ℕ} → Stored p ≡ Stored q → p ≡ q
+abbrev Has : List Entry → Call → ℕ → Type 0
+Has l k p = (g : Entry) × Lies l p g × IsPageOf k g
+
+repeats-has : (l : List Entry) (k : Call) (p : ℕ) → Repeats l k p → Has l k p
+repeats-has l begin p h = absurd h
+repeats-has l (write f s a v) p h = absurd h
+repeats-has l (read f t a) p h = absurd h
+repeats-has l (test a) p h = absurd h
+repeats-has l (decide a c) p h = (outcome a c, subst (λ q. Lies l q (outcome a c)) (h .place) (outcome-lies l a c (h .fate)), refl)
+repeats-has l (rebuild f) p h = absurd h
+
+pub stored-is : {p q : ℕ} → Stored p ≡ Stored q → p ≡ q
 stored-is e = cc
 
-step-wrote : {files : ℕ} {k : Call} {l l′ : List Entry} {x : Answer} (place : ℕ) → Step files k l x l′ → x ≡ Stored place → Wrote files l k place l′
-step-wrote place (stay n) e = absurd (n place e)
-step-wrote place (add g h q) e = record { page = g; writes = h; place-is = stored-is (sym e ∙ q); log = refl }
+not-blank : (k : Call) → IsPageOf k blank → ⊥
+not-blank begin h = clash cc
+not-blank (write f s a v) h = let e = h .1 in clash cc
+not-blank (read f t a) h = h
+not-blank (test a) h = h
+not-blank (decide a c) h = clash cc
+not-blank (rebuild f) h = h
 
--- ---- a call that stored a page on a box that is on
+module _ {files : ℕ} {k : Call} {l : List Entry} {x : Answer} (p : ℕ) (e : x ≡ Stored p) where
+  step-has : {l′ : List Entry} → Step files k l x l′ → Has l′ k p
+  step-has (stay r) = repeats-has l k p (r p e)
+  step-has (add g h q) = (g, subst (λ n. Lies (g ∷ l) n g) (sym (stored-is (sym e ∙ q))) (lies-top g l), writes-page files l k g h)
 
-module _ (n files : ℕ) (m : Left) (r : Reached n files (on m)) (k : Call) (t : Typed k) (place : ℕ) (e : callOn m k .answer ≡ Stored place) where
-  wrote : Wrote (r .model .files) (r .log) k place (agrees n files m r k .log)
-  wrote = step-wrote place (agrees n files m r k .step) (sym (model-says n files m r k) ∙ e)
+  module _ (kept : ℕ → Bool) where
+    -- a cut with all bytes stored leaves the log of the call
+    pub whole-log : {l′ : List Entry} → Ordered kept → kept markAt ≡ true → Step files k l x l′ → cutLog l l′ (bytesOf kept) ≡ l′
+    unfolding cutLog
+    whole-log o h (stay r) = rw (eq-eqb (length l) (length l) refl)
+    whole-log o h (add g y q) = rw (ne-eqb (suc (length l)) (length l) (λ e. omega arith), entry-top g l, o .last h kindAt (omega arith), h)
 
-  -- through any run from a box whose log it ends
-  there : (b : Box) (q : Reached n files b) (g : Entry) → q .log ≡ g ∷ r .log → (es : List Event) → AllAllowed n files es → sealed files (sheetOf (runs b es)) place ≡ g
-  there b q g h es al = stays n files b q es al place g (omega (arith, wrote .place-is)) (rw (h, wrote .place-is) (omega arith)) (rw (h, wrote .place-is) (entry-top g (r .log)))
+    -- one with fewer leaves a torn page at a place that was blank
+    torn-log : {l′ : List Entry} → kept kindAt ≡ true → kept markAt ≡ false → ((g : Entry) → Lies l p g → g ≡ blank) → Step files k l x l′ → Lies (cutLog l l′ (bytesOf kept)) p torn
+    unfolding cutLog
+    torn-log h j b (stay r) = let y = repeats-has l k p (r p e) in absurd (not-blank k (subst (IsPageOf k) (b (y .0) (y .1)) (y .2)))
+    torn-log h j b (add g y q) =
+        rw (ne-eqb (suc (length l)) (length l) (λ e. omega arith), entry-top g l, h, j) (subst (λ n. Lies (torn ∷ l) n torn) (sym (stored-is (sym e ∙ q))) (lies-top torn l))
 
-  abbrev made : Reached n files (on (callOn m k))
-  made = reached-next n files (on m) r (calls k) t
+-- ---- a call that was answered with a place, on a box that is on
 
-  found-call : (es : List Event) → AllAllowed n files es → IsPageOf k (sealed files (sheetOf (runs (after (on m) (calls k)) es)) place)
-  found-call es al = subst (IsPageOf k) (sym (there (on (callOn m k)) made (wrote .page) (wrote .log) es al)) (writes-page (r .model .files) (r .log) k (wrote .page) (wrote .writes))
+module _ (n files : ℕ) where
+  -- through any run
+  there : (b : Box) (q : Reached n files b) (es : List Event) → AllAllowed n files es → (p : ℕ) (g : Entry) → Lies (q .log) p g → sealed files (sheetOf (runs b es)) p ≡ g
+  there b q es al p g h = stays n files b q es al p g (h .low) (h .high) (h .here)
 
-  cut-log : (i : ℕ) → cutLog (r .log) (agrees n files m r k .log) i ≡ partialLog i (wrote .page) (r .log)
-  unfolding cutLog
-  cut-log i = rw (wrote .log, ne-eqb (suc (length (r .log))) (length (r .log)) (λ e. omega arith), entry-top (wrote .page) (r .log))
+  had : (b : Box) (q : Reached n files b) (es : List Event) → AllAllowed n files es → (k : Call) (p : ℕ) → Has (q .log) k p → IsPageOf k (sealed files (sheetOf (runs b es)) p)
+  had b q es al k p h = subst (IsPageOf k) (sym (there b q es al p (h .0) (h .1))) (h .2)
 
-  module _ (kept : ℕ → Bool) (o : Ordered kept) where
-    abbrev was-cut : Reached n files (after (on m) (cuts k kept))
-    was-cut = reached-next n files (on m) r (cuts k kept) (t, o)
+  module _ (m : Left) (r : Reached n files (on m)) (k : Call) (t : Typed k) (place : ℕ) (e : callOn m k .answer ≡ Stored place) (es : List Event) (al : AllAllowed n files es) where
+    says : modelCall (r .model) k .0 ≡ Stored place
+    says = sym (model-says n files m r k) ∙ e
 
-    found-whole : kept markAt ≡ true → (es : List Event) → AllAllowed n files es → IsPageOf k (sealed files (sheetOf (runs (after (on m) (cuts k kept)) es)) place)
-    found-whole h es al = subst (IsPageOf k) (sym (there (after (on m) (cuts k kept)) was-cut (wrote .page) (cut-log (bytesOf kept) ∙ rw (o .last h kindAt (omega arith), h)) es al)) (writes-page (r .model .files) (r .log) k (wrote .page) (wrote .writes))
+    found-call : IsPageOf k (sealed files (sheetOf (runs (after (on m) (calls k)) es)) place)
+    found-call = had (on (callOn m k)) (reached-next n files (on m) r (calls k) t) es al k place (step-has place says (agrees n files m r k .step))
 
-    found-torn : kept kindAt ≡ true → kept markAt ≡ false → (es : List Event) → AllAllowed n files es → sealed files (sheetOf (runs (after (on m) (cuts k kept)) es)) place ≡ torn
-    found-torn h j es al = there (after (on m) (cuts k kept)) was-cut torn (cut-log (bytesOf kept) ∙ rw (h, j)) es al
+    module _ (kept : ℕ → Bool) (o : Ordered kept) where
+      abbrev was-cut : Reached n files (after (on m) (cuts k kept))
+      was-cut = reached-next n files (on m) r (cuts k kept) (t, o)
+
+      found-whole : kept markAt ≡ true → IsPageOf k (sealed files (sheetOf (runs (after (on m) (cuts k kept)) es)) place)
+      found-whole h =
+          had (after (on m) (cuts k kept)) was-cut es al k place
+          (subst (λ l. Has l k place) (sym (whole-log place says kept o h (agrees n files m r k .step))) (step-has place says (agrees n files m r k .step)))
+
+      found-torn : kept kindAt ≡ true → kept markAt ≡ false → sealed files (m .sheet) place ≡ blank → sealed files (sheetOf (runs (after (on m) (cuts k kept)) es)) place ≡ torn
+      found-torn h j b =
+          there (after (on m) (cuts k kept)) was-cut es al place torn
+          (torn-log place says kept h j (λ g y. sym (y .here) ∙ sym (log-page n files (on m) r place (y .low) (y .high)) ∙ b) (agrees n files m r k .step))
 
 -- ---- fates
 
-outcome-fate : (a : ℕ) (c : Bool) (l : List Entry) → fateOf (outcome a c ∷ l) a ≡ verdict c
-unfolding fateOf
-outcome-fate a c l = rw (eq-eqb a a refl)
-
-opening-fate : (l : List Entry) → fateOf (opening ∷ l) (suc (length l)) ≡ undecided
-unfolding fateOf
-opening-fate l = rw (eq-eqb (suc (length l)) (suc (length l)) refl)
-
-number-high : (x : Fate) → fateNumber x ≤ 3
-number-high unknown = omega arith
-number-high undecided = omega arith
-number-high committed = omega arith
-number-high aborted = omega arith
-
 module _ (n files : ℕ) where
-  -- a test of a known action tells its fate
-  pub test-tells : (m : Left) (r : Reached n files (on m)) (a : ℕ) → Known (fateOf (r .log) a) → callOn m (test a) .answer ≡ Told (fateNumber (fateOf (r .log) a))
-  test-tells m r a h = model-says n files m r (test a) ∙ ap (λ z. testing (r .model) z .0) (r .at .says .status a) ∙ go (fateOf (r .log) a) h
+  -- a test of a known action tells its fate, and where its outcome lies
+  tells : (b : Box) (r : Reached n files b) (a : ℕ) → Known (fateOf (r .log) a) → testing (r .model) (r .model .status a) .0 ≡ Told (fateNumber (fateOf (r .log) a)) (outcomeOf (r .log) a)
+  tells b r a h = ap (λ z. testing (r .model) z .0) (r .at .says .status a) ∙ go (fateOf (r .log) a) refl h
     where
-      go : (x : Fate) → Known x → testing (r .model) (statusOf x) .0 ≡ Told (fateNumber x)
-      go unknown h = absurd (omega arith)
-      go undecided h = refl
-      go committed h = refl
-      go aborted h = refl
+      go : (x : Fate) → fateOf (r .log) a ≡ x → Known x → testing (r .model) (statusOf x (outcomeOf (r .log) a)) .0 ≡ Told (fateNumber x) (outcomeOf (r .log) a)
+      go unknown e h = absurd (omega arith)
+      go undecided e h = ap (Told 1) (sym (nowhere (r .log) a (r .at .holds .lawful) (λ d. not-undecided (fateOf (r .log) a) d e)))
+      go committed e h = refl
+      go aborted e h = refl
 
-  hears-fate : (b : Box) (r : Reached n files b) (a : ℕ) (x : Answer) → Known (fateOf (r .log) a) → answerTo b (calls (test a)) ≡ some x → x ≡ Told (fateNumber (fateOf (r .log) a))
+  pub test-tells : (m : Left) (r : Reached n files (on m)) (a : ℕ) → Known (fateOf (r .log) a) → callOn m (test a) .answer ≡ Told (fateNumber (fateOf (r .log) a)) (outcomeOf (r .log) a)
+  test-tells m r a h = model-says n files m r (test a) ∙ tells (on m) r a h
+
+  pub hears-fate : (b : Box) (r : Reached n files b) (a : ℕ) (x : Answer) → Known (fateOf (r .log) a) → answerTo b (calls (test a)) ≡ some x → x ≡ Told (fateNumber (fateOf (r .log) a)) (outcomeOf (r .log) a)
   hears-fate (on m) r a x h e = sym (some-is e) ∙ test-tells m r a h
   hears-fate (off s) r a x h e = not-heard e
 
-  -- what a test tells is the fate of a known action, on a box that is on
-  pub told-fate : (b : Box) (r : Reached n files b) (a fate : ℕ) → answerTo b (calls (test a)) ≡ some (Told fate)
-      → (isOn b ≡ true) × Known (fateOf (r .log) a) × (fateNumber (fateOf (r .log) a) ≡ fate)
-  told-fate b r a fate e = go (isOn b) (sym (answer-is n files b r (calls (test a)) tt) ∙ e)
+  -- what a test tells is that, on a box that is on
+  pub told-fate : (b : Box) (r : Reached n files b) (a fate place : ℕ) → answerTo b (calls (test a)) ≡ some (Told fate place)
+      → (isOn b ≡ true) × Known (fateOf (r .log) a) × (fateNumber (fateOf (r .log) a) ≡ fate) × (outcomeOf (r .log) a ≡ place)
+  told-fate b r a fate place e = go (isOn b) (sym (answer-is n files b r (calls (test a)) tt) ∙ e)
     where
-      by-fate : (x : Fate) → testing (r .model) (statusOf x) .0 ≡ Told fate → Known x × (fateNumber x ≡ fate)
-      by-fate unknown q = clash cc
-      by-fate undecided q = (omega arith, cc)
-      by-fate committed q = (omega arith, cc)
-      by-fate aborted q = (omega arith, cc)
+      known : (x : Fate) → testing (r .model) (statusOf x (outcomeOf (r .log) a)) .0 ≡ Told fate place → Known x
+      known unknown q = clash cc
+      known undecided q = omega arith
+      known committed q = omega arith
+      known aborted q = omega arith
 
-      go : (c : Bool) → modelAnswer c (r .model) (calls (test a)) ≡ some (Told fate) → (c ≡ true) × Known (fateOf (r .log) a) × (fateNumber (fateOf (r .log) a) ≡ fate)
-      go true q = let k = by-fate (fateOf (r .log) a) (ap (λ s. testing (r .model) s .0) (sym (r .at .says .status a)) ∙ some-is q) in (refl, k .0, k .1)
+      go : (c : Bool) → modelAnswer c (r .model) (calls (test a)) ≡ some (Told fate place)
+          → (c ≡ true) × Known (fateOf (r .log) a) × (fateNumber (fateOf (r .log) a) ≡ fate) × (outcomeOf (r .log) a ≡ place)
+      go true q =
+          let k : Known (fateOf (r .log) a) = known (fateOf (r .log) a) (ap (λ s. testing (r .model) s .0) (sym (r .at .says .status a)) ∙ some-is q) in
+          let y : Told (fateNumber (fateOf (r .log) a)) (outcomeOf (r .log) a) ≡ Told fate place = sym (tells b r a k) ∙ some-is q in
+          (refl, k, cc, cc)
       go false q = not-heard q
 
   -- ---- by the box
@@ -152,39 +175,13 @@ module _ (n files : ℕ) where
       box-found-cut h = go b r e
         where
           go : (b : Box) → Reached n files b → answerTo b (calls k) ≡ some (Stored place) → IsPageOf k (sealed files (sheetOf (runs (after b (cuts k kept)) es)) place)
-          go (on m) r e = found-whole n files m r k t place (some-is e) kept o h es al
+          go (on m) r e = found-whole n files m r k t place (some-is e) es al kept o h
           go (off s) r e = not-heard e
 
-      pub box-torn : kept kindAt ≡ true → kept markAt ≡ false → sealed files (sheetOf (runs (after b (cuts k kept)) es)) place ≡ torn
+      pub box-torn : kept kindAt ≡ true → kept markAt ≡ false → sealed files (sheetOf b) place ≡ blank → sealed files (sheetOf (runs (after b (cuts k kept)) es)) place ≡ torn
       box-torn h j = go b r e
         where
-          go : (b : Box) → Reached n files b → answerTo b (calls k) ≡ some (Stored place) → sealed files (sheetOf (runs (after b (cuts k kept)) es)) place ≡ torn
-          go (on m) r e = found-torn n files m r k t place (some-is e) kept o h j es al
-          go (off s) r e = not-heard e
+          go : (b : Box) → Reached n files b → answerTo b (calls k) ≡ some (Stored place) → sealed files (sheetOf b) place ≡ blank → sealed files (sheetOf (runs (after b (cuts k kept)) es)) place ≡ torn
+          go (on m) r e y = found-torn n files m r k t place (some-is e) es al kept o h j y
+          go (off s) r e y = not-heard e
 
-  module _ (es : List Event) (al : AllAllowed n files es) (place : ℕ) (x : Answer) where
-    -- a call, and the box that a run has reached after it
-    module _ (m : Left) (r : Reached n files (on m)) (k : Call) (t : Typed k) where
-      abbrev late : Reached n files (runs (after (on m) (calls k)) es)
-      late = reached-on n files (after (on m) (calls k)) (reached-next n files (on m) r (calls k) t) es al
-
-      extended : Extends (agrees n files m r k .log) (late .log)
-      extended = extends n files (after (on m) (calls k)) (reached-next n files (on m) r (calls k) t) es al (agrees n files m r k .log) (ext-refl (agrees n files m r k .log))
-
-    pub box-begun : (b : Box) → Reached n files b → answerTo b (calls begin) ≡ some (Stored place) → answerTo (runs (after b (calls begin)) es) (calls (test place)) ≡ some x
-        → (fate : ℕ) × (1 ≤ fate) × (fate ≤ 3) × (x ≡ Told fate)
-    box-begun (on m) r e h =
-        let q = wrote n files m r begin tt place (some-is e) in
-        let z : fateOf (agrees n files m r begin .log) place ≡ undecided = rw (q .log, q .writes, q .place-is) (opening-fate (r .log)) in
-        let f = extended m r begin tt .known place (undecided-known z) in
-        (fateNumber (fateOf (late m r begin tt .log) place), f, number-high (fateOf (late m r begin tt .log) place), hears-fate (runs (after (on m) (calls begin)) es) (late m r begin tt) place x f h)
-    box-begun (off s) r e h = not-heard e
-
-    pub box-decided : (b : Box) → Reached n files b → (a : ℕ) (c : Bool) → answerTo b (calls (decide a c)) ≡ some (Stored place) → answerTo (runs (after b (calls (decide a c))) es) (calls (test a)) ≡ some x
-        → x ≡ Told (fateNumber (verdict c))
-    box-decided (on m) r a c e h =
-        let q = wrote n files m r (decide a c) tt place (some-is e) in
-        let z : fateOf (agrees n files m r (decide a c) .log) a ≡ verdict c = rw (q .log, q .writes) (outcome-fate a c (r .log)) in
-        let f : fateOf (late m r (decide a c) tt .log) a ≡ verdict c = extended m r (decide a c) tt .fates a (rw z (verdict-decided c)) ∙ z in
-        hears-fate (runs (after (on m) (calls (decide a c))) es) (late m r (decide a c) tt) a x (rw f (omega (arith, verdict-decided c))) h ∙ ap (λ x. Told (fateNumber x)) f
-    box-decided (off s) r a c e h = not-heard e

@@ -82,8 +82,8 @@ module _ (m : Model) (f t : ℕ) (v : Option Version) (h : Lasts true m f t v) w
   call-lasts (read g s a) = reads Goes m (λ n p. h) g s a
       (object-goes g _ (asked-goes g _ (m .object g .tokenasked) (asked-more (leb (since (newest (m .object g .history))) s) (m .object g .asked) s)))
       (λ x e j k. object-goes g _ (asked-goes g (m .object g .asked) _ (omega arith)))
-  call-lasts (test a) = tests Goes m (λ n p. h) a (λ n. h)
-  call-lasts (decide a c) = decides Goes m (λ n p. h) a c (λ e. decide-goes a c (m .object f .token) refl)
+  call-lasts (test a) = tests Goes m (λ n p. h) a (λ n p. h)
+  call-lasts (decide a c) = decides Goes m (λ n p. h) a c (λ p. h) (λ e. decide-goes a c (m .object f .token) refl)
   call-lasts (rebuild g) = rebuilds Goes m (λ n p. h) g (λ x. h)
 
   cut-lasts : (k : Call) (kept : ℕ → Bool) → Lasts false (modelCut m k kept) f t v

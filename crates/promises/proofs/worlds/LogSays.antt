@@ -7,10 +7,10 @@ use mathlib.Core.Option.{Option, some, none}
 use lib.ListN.{length}
 use lib.Dec.{eqb}
 use borrow.Author.Tests.{eqb-true, eqb-false, eq-eqb, ne-eqb}
-use Rattle.recovery.specs.Log.{Image, Entry, torn, opening, image, outcome, Fate, undecided, Placed, fateOf, imagesOf, verdict, placeOf, startOf}
+use Rattle.recovery.specs.Log.{Image, Entry, torn, opening, image, outcome, Fate, undecided, Placed, fateOf, outcomeOf, imagesOf, verdict, placeOf, startOf}
 use Rattle.recovery.specs.World.{fatesOf, undecidedOf}
 use Rattle.inspection.specs.Lawful.{versions, current, token}
-use Rattle.promises.specs.Model.{Object, object, pending, Model, newest, placed, since, changed, stores, decidedAs, ended, endedBy, modelOpened}
+use Rattle.promises.specs.Model.{Object, object, Status, pending, Model, newest, placed, since, changed, stores, decidedAs, ended, endedBy, modelOpened}
 use Rattle.promises.specs.FromLog.{statusOf, versionOf, versionIn, history}
 use Rattle.promises.proofs.logs.Logs.{ImageFits, Lawful}
 use Rattle.promises.proofs.logs.Appends.{opening-versions, opening-token, image-versions, image-token, owns, longer, outcome-versions, outcome-token}
@@ -30,7 +30,7 @@ withObjects m h = record { pages = m .pages; files = m .files; used = m .used; f
 pub record Says (l : List Entry) (m : Model) : Type 0 where
   pub used : m .used ≡ length l
   pub undecided : m .undecided ≡ undecidedOf (fatesOf (m .pages) l)
-  pub status : (a : ℕ) → m .status a ≡ statusOf (fateOf l a)
+  pub status : (a : ℕ) → m .status a ≡ statusOf (fateOf l a) (outcomeOf l a)
   pub history : (f : ℕ) → m .object f .history ≡ history l f
   pub token : (f : ℕ) → m .object f .token ≡ versionIn (token l f)
 
@@ -59,13 +59,9 @@ version-cond : (b : Bool) (x y : Option Placed) → versionIn (cond b x y) ≡ c
 version-cond true x y = refl
 version-cond false x y = refl
 
-status-cond : (b : Bool) (x y : Fate) → statusOf (cond b x y) ≡ cond b (statusOf x) (statusOf y)
-status-cond true x y = refl
-status-cond false x y = refl
-
-verdict-status : (c : Bool) → statusOf (verdict c) ≡ some (decidedAs c)
-verdict-status true = refl
-verdict-status false = refl
+pub verdict-status : (c : Bool) (place : ℕ) → statusOf (verdict c) place ≡ some (decidedAs c place)
+verdict-status true place = refl
+verdict-status false place = refl
 
 -- ---- one object changed
 
@@ -86,17 +82,29 @@ module _ {A : Type 0} (P : Object → A) (h : ℕ → Object) (f : ℕ) (x : Obj
 
 -- ---- fates
 
-fate-opening : (l : List Entry) (a : ℕ) → fateOf (opening ∷ l) a ≡ cond (eqb a (suc (length l))) undecided (fateOf l a)
-unfolding fateOf
-fate-opening l a = refl
+-- what a log says became of an action
+abbrev statusIn : List Entry → ℕ → Option Status
+statusIn l a = statusOf (fateOf l a) (outcomeOf l a)
 
-fate-image : (i : Image) (l : List Entry) (a : ℕ) → fateOf (image i ∷ l) a ≡ fateOf l a
-unfolding fateOf
-fate-image i l a = refl
+opening-status : (l : List Entry) (a : ℕ) → statusIn (opening ∷ l) a ≡ cond (eqb a (suc (length l))) (some pending) (statusIn l a)
+unfolding fateOf outcomeOf
+opening-status l a = go (eqb a (suc (length l)))
+  where
+    go : (b : Bool) → statusOf (cond b undecided (fateOf l a)) (outcomeOf l a) ≡ cond b (some pending) (statusIn l a)
+    go true = refl
+    go false = refl
 
-fate-outcome : (b : ℕ) (c : Bool) (l : List Entry) (a : ℕ) → fateOf (outcome b c ∷ l) a ≡ cond (eqb a b) (verdict c) (fateOf l a)
-unfolding fateOf
-fate-outcome b c l a = refl
+image-status : (i : Image) (l : List Entry) (a : ℕ) → statusIn (image i ∷ l) a ≡ statusIn l a
+unfolding fateOf outcomeOf
+image-status i l a = refl
+
+outcome-status : (b : ℕ) (c : Bool) (l : List Entry) (a : ℕ) → statusIn (outcome b c ∷ l) a ≡ cond (eqb a b) (some (decidedAs c (suc (length l)))) (statusIn l a)
+unfolding fateOf outcomeOf
+outcome-status b c l a = go (eqb a b)
+  where
+    go : (x : Bool) → statusOf (cond x (verdict c) (fateOf l a)) (cond x (suc (length l)) (outcomeOf l a)) ≡ cond x (some (decidedAs c (suc (length l)))) (statusIn l a)
+    go true = verdict-status c (suc (length l))
+    go false = refl
 
 fates-image : (n : ℕ) (i : Image) (l : List Entry) → fatesOf n (image i ∷ l) ≡ fatesOf n l
 unfolding fateOf
@@ -157,13 +165,13 @@ module _ (l : List Entry) (m : Model) (s : Says l m) where
   opening-says w room = record {
     used = ap suc (s .used);
     undecided = ap suc (s .undecided) ∙ sym (opening-undecided (m .pages) l w room);
-    status = λ a. rw (s .used, s .status a) (sym (ap statusOf (fate-opening l a) ∙ status-cond (eqb a (suc (length l))) undecided (fateOf l a)));
+    status = λ a. rw (s .used, s .status a) (sym (opening-status l a));
     history = λ f. s .history f ∙ ap (map versionOf) (sym (opening-versions l f w));
     token = λ f. s .token f ∙ ap versionIn (sym (opening-token l f w));
   }
 
   pub torn-says : Says (torn ∷ l) (stores m (m .undecided) (m .status) (m .object))
-  unfolding fateOf imagesOf
+  unfolding fateOf outcomeOf imagesOf
   torn-says = record { used = ap suc (s .used); undecided = s .undecided; status = s .status; history = s .history; token = s .token }
 
   pub image-says : (f start a : ℕ) (v : List ℕ) → ImageFits (written l f start a v) l
@@ -171,7 +179,7 @@ module _ (l : List Entry) (m : Model) (s : Says l m) where
   image-says f start a v i = record {
     used = ap suc (s .used);
     undecided = s .undecided ∙ ap undecidedOf (sym (fates-image (m .pages) (written l f start a v) l));
-    status = λ b. s .status b ∙ ap statusOf (sym (fate-image (written l f start a v) l b));
+    status = λ b. s .status b ∙ sym (image-status (written l f start a v) l b);
     history = λ g. changed-not (λ x. x .history) (m .object) f (given m f start a v) (history l) (s .history) (s .history f) g ∙ ap (map versionOf) (sym (image-versions (written l f start a v) l g i));
     token = λ g.
         changed-at (λ x. x .token) (m .object) f (given m f start a v) (λ h. versionIn (token l h)) (s .token) (some (versionOf new)) (ap some new-is) g
@@ -188,12 +196,11 @@ module _ (l : List Entry) (m : Model) (s : Says l m) where
   left-is a c f = ap (endedBy a c (m .object f)) (s .token f)
 
   pub outcome-says : Lawful l → length l ≤ m .pages → (a : ℕ) (c : Bool) → fateOf l a ≡ undecided
-      → Says (outcome a c ∷ l) (stores m (pred (m .undecided)) (changed (m .status) a (some (decidedAs c))) (left m a c))
+      → Says (outcome a c ∷ l) (stores m (pred (m .undecided)) (changed (m .status) a (some (decidedAs c (suc (m .used))))) (left m a c))
   outcome-says w room a c o = record {
     used = ap suc (s .used);
     undecided = ap pred (s .undecided ∙ sym (outcome-undecided (m .pages) l a c w room o));
-    status = λ b. ap (λ x. cond (eqb b a) (some (decidedAs c)) x) (s .status b)
-        ∙ sym (ap statusOf (fate-outcome a c l b) ∙ status-cond (eqb b a) (verdict c) (fateOf l b) ∙ ap (λ x. cond (eqb b a) x (statusOf (fateOf l b))) (verdict-status c));
+    status = λ b. rw (s .used, s .status b) (sym (outcome-status a c l b));
     history = λ f. ap (λ x. x .history) (left-is a c f) ∙ left-history a c (m .object f) (versions l f) (token l f) (s .history f) ∙ ap (map versionOf) (sym (outcome-versions a c l f o w));
     token = λ f. ap (λ x. x .token) (left-is a c f) ∙ left-token a c (m .object f) (token l f) (s .token f) ∙ ap versionIn (sym (outcome-token a c l f o w));
   }

@@ -12,9 +12,9 @@ use borrow.Author.Tests.{eqb-true, ltb-true, leb-true}
 use Rattle.encoding.proofs.Logic.{by-test, and-true}
 use Rattle.page.specs.Layout.{valueSize, kindAt, markAt}
 use Rattle.recovery.specs.declared.Answer.{Answer}
-use Rattle.recovery.specs.declared.Answer.the-variants.{Told}
+use Rattle.recovery.specs.declared.Answer.the-variants.{Stored, Told}
 use Rattle.calls.specs.Calls.{Call, begin, write, read, test, decide, rebuild}
-use Rattle.promises.specs.Model.{Version, object, Status, pending, committed, aborted, Model, Reply, newest, since, shows, refuses, changed, withObject, stores, stored, hasRoom, ofFile, ofPending, writing, readHistory, reading, testing, decidedAs, modelCall, modelCut}
+use Rattle.promises.specs.Model.{Version, object, Status, pending, committed, aborted, Model, Reply, newest, since, shows, refuses, changed, withObject, stores, stored, hasRoom, ofFile, ofPending, writing, readHistory, reading, testing, decidedAs, deciding, modelCall, modelCut}
 use Rattle.promises.proofs.worlds.LogSays.{currentEnd, given, left}
 
 module _ (P : Reply → Type 0) (m : Model) (no : (n p : ℕ) → P (refuses n p m)) where
@@ -24,8 +24,8 @@ module _ (P : Reply → Type 0) (m : Model) (no : (n p : ℕ) → P (refuses n p
   of-pending : (z : Option Status) (r : Reply) → P r → P (ofPending m z r)
   of-pending none r h = no 5 0
   of-pending (some pending) r h = h
-  of-pending (some committed) r h = no 6 0
-  of-pending (some aborted) r h = no 6 0
+  of-pending (some (committed p)) r h = no 6 0
+  of-pending (some (aborted p)) r h = no 6 0
 
   pub begins : (hasRoom m (m .undecided + 2) ≡ true → P (stored m (suc (m .undecided)) (changed (m .status) (suc (m .used)) (some pending)) (m .object))) → P (modelCall m begin)
   begins h = by-test P (hasRoom m (m .undecided + 2)) h (λ e. no 11 0)
@@ -62,17 +62,27 @@ module _ (P : Reply → Type 0) (m : Model) (no : (n p : ℕ) → P (refuses n p
           (λ q. by-test P (eqb (x .action) a) (λ r. k x e (leb-true (x .start) time q) (eqb-true (x .action) a r)) (λ r. no 9 (x .action)))
           (λ q. h)
 
-  pub tests : (a : ℕ) → ((n : ℕ) → P (Told n, m)) → P (modelCall m (test a))
+  pub tests : (a : ℕ) → ((n p : ℕ) → P (Told n p, m)) → P (modelCall m (test a))
   tests a h = go (m .status a)
     where
       go : (z : Option Status) → P (testing m z)
       go none = no 5 0
-      go (some pending) = h 1
-      go (some committed) = h 2
-      go (some aborted) = h 3
+      go (some pending) = h 1 0
+      go (some (committed p)) = h 2 p
+      go (some (aborted p)) = h 3 p
 
-  pub decides : (a : ℕ) (c : Bool) → (hasRoom m 1 ≡ true → P (stored m (pred (m .undecided)) (changed (m .status) a (some (decidedAs c))) (left m a c))) → P (modelCall m (decide a c))
-  decides a c h = of-pending (m .status a) _ (by-test P (hasRoom m 1) h (λ e. no 11 0))
+  -- a decision is told where it lies, or made
+  pub decides : (a : ℕ) (c : Bool) → ((p : ℕ) → P (Stored p, m)) → (hasRoom m 1 ≡ true → P (stored m (pred (m .undecided)) (changed (m .status) a (some (decidedAs c (suc (m .used))))) (left m a c)))
+      → P (modelCall m (decide a c))
+  decides a c again h = go c (m .status a) _ (by-test P (hasRoom m 1) h (λ e. no 11 0))
+    where
+      go : (c : Bool) (z : Option Status) (r : Reply) → P r → P (deciding m c z r)
+      go c none r q = no 5 0
+      go c (some pending) r q = q
+      go true (some (committed p)) r q = again p
+      go true (some (aborted p)) r q = no 6 0
+      go false (some (committed p)) r q = no 6 0
+      go false (some (aborted p)) r q = again p
 
   pub rebuilds : (f : ℕ) → ((x : Answer) → P (x, m)) → P (modelCall m (rebuild f))
   rebuilds f h = of-file f _ (h _)
@@ -94,8 +104,8 @@ module _ (m : Model) where
   call-sized begin = begins As m (λ n p. as-large _ refl refl) (λ e. as-large _ refl refl)
   call-sized (write f start a v) = writes As m (λ n p. as-large _ refl refl) f start a v (λ j k e. as-large _ refl refl)
   call-sized (read f time a) = reads As m (λ n p. as-large _ refl refl) f time a (as-large _ refl refl) (λ x e j k. as-large _ refl refl)
-  call-sized (test a) = tests As m (λ n p. as-large _ refl refl) a (λ n. as-large _ refl refl)
-  call-sized (decide a c) = decides As m (λ n p. as-large _ refl refl) a c (λ e. as-large _ refl refl)
+  call-sized (test a) = tests As m (λ n p. as-large _ refl refl) a (λ n p. as-large _ refl refl)
+  call-sized (decide a c) = decides As m (λ n p. as-large _ refl refl) a c (λ p. as-large _ refl refl) (λ e. as-large _ refl refl)
   call-sized (rebuild f) = rebuilds As m (λ n p. as-large _ refl refl) f (λ x. as-large _ refl refl)
 
   pub cut-sized : (k : Call) (kept : ℕ → Bool) → Sized m (modelCut m k kept)

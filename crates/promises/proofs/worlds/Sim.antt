@@ -26,6 +26,7 @@ use Rattle.calls.specs.Calls.{Call, begin, write, read, test, decide, rebuild, 
 use Rattle.recovery.proofs.Spots.{entryIn, Spot, spots, entry-down, Lies, current-of-lies, token-of-lies}
 use Rattle.promises.specs.Model.{Object, Status, Model, Reply, stores, refuses, hasRoom}
 use Rattle.promises.proofs.logs.Logs.{Fits, Lawful, known-place}
+use Rattle.promises.proofs.logs.Outcomes.{DecidedAt}
 use Rattle.promises.proofs.logs.Fates.{fates-are, undecided-low, down-put}
 use Rattle.promises.proofs.worlds.LogSays.{currentEnd, tokenEnd, withObjects, Says, written}
 
@@ -62,8 +63,17 @@ Writes files l (test a) g = ⊥
 Writes files l (decide a c) g = g ≡ outcome a c
 Writes files l (rebuild f) g = ⊥
 
+-- a decision that was made before, and where its outcome lies
+abbrev pub Repeats : List Entry → Call → ℕ → Type 0
+Repeats l begin p = ⊥
+Repeats l (write f start a v) p = ⊥
+Repeats l (read f time a) p = ⊥
+Repeats l (test a) p = ⊥
+Repeats l (decide a c) p = DecidedAt l a c p
+Repeats l (rebuild f) p = ⊥
+
 pub data Step (files : ℕ) (k : Call) (l : List Entry) (x : Answer) : List Entry → Type 0 where
-  stay : ((p : ℕ) → x ≡ Stored p → ⊥) → Step files k l x l
+  stay : ((p : ℕ) → x ≡ Stored p → Repeats l k p) → Step files k l x l
   add : (g : Entry) → Writes files l k g → x ≡ Stored (suc (length l)) → Step files k l x (g ∷ l)
 
 -- ---- the world and the model answer alike, and go on standing for each other
@@ -84,7 +94,7 @@ module _ {files : ℕ} {k : Call} {l : List Entry} where
 
   -- an answer that stores nothing
   pub answers : {w : World} {m : Model} {x y : Answer} → ((p : ℕ) → y ≡ Stored p → ⊥) → x ≡ y → Sim w l m → Agrees files k l (x, w) (y, m)
-  answers n e s = record { log = l; step = stay n; answer = e; after = s }
+  answers n e s = record { log = l; step = stay (λ p q. absurd (n p q)); answer = e; after = s }
 
   pub refused : {w : World} {m : Model} (n p p′ : ℕ) → p ≡ p′ → Sim w l m → Agrees files k l (refuse n p w) (refuses n p′ m)
   refused n p p′ q s = answers (λ r e. clash cc) (ap (Refused n) q) s

@@ -104,14 +104,14 @@ module _ (w : World) (l : List Entry) (m : Model) (s : Sim w l m) where
         let b = is-file (m .files) f h in
         rw (nth-each (settled w a c) (w .rows) f (b .0) (rw (s .files) (b .1))) (settled-eq f (rowAt w f) (s .rows f h))
 
-    new : length l < m .pages → Sim (append w (outcome a c) fs rs (pred (w .undecided))) (outcome a c ∷ l) (stores m (pred (m .undecided)) (changed (m .status) a (some (decidedAs c))) objects)
+    new : length l < m .pages → Sim (append w (outcome a c) fs rs (pred (w .undecided))) (outcome a c ∷ l) (stores m (pred (m .undecided)) (changed (m .status) a (some (decidedAs c (suc (m .used))))) objects)
     unfolding fs rs
     new k =
-        sim-append w l m s (outcome a c) fs rs (pred (w .undecided)) (pred (m .undecided)) (changed (m .status) a (some (decidedAs c))) objects o k
+        sim-append w l m s (outcome a c) fs rs (pred (w .undecided)) (pred (m .undecided)) (changed (m .status) a (some (decidedAs c (suc (m .used))))) objects o k
         (rw (s .fates) (outcome-fates (m .pages) l a c (known-place l a (s .lawful) (undecided-known o) .0))) (ap pred (s .undecided))
         (row-each-long (settled w a c) 0 (w .rows) ∙ s .files) rows-in (outcome-says l m (s .says) (s .lawful) (s .room) a c o)
 
-    pub sim-decide : Agrees (m .files) (decide a c) l (onDecide w a c) (cond (hasRoom m 1) (stored m (pred (m .undecided)) (changed (m .status) a (some (decidedAs c))) objects) (refuses 11 0 m))
+    pub sim-decide : Agrees (m .files) (decide a c) l (onDecide w a c) (cond (hasRoom m 1) (stored m (pred (m .undecided)) (changed (m .status) a (some (decidedAs c (suc (m .used))))) objects) (refuses 11 0 m))
     unfolding fs rs
     sim-decide =
         agrees-cond (store.hasRoom w 1) (hasRoom m 1) (room-eq w l m s 1)
