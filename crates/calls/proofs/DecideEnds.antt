@@ -1,4 +1,4 @@
--- Commit and abort: the line that refuses them, what they ask of append and of the rows, and their ends. Assumes nothing.
+-- Commit and abort: a decision asked again, the line that refuses them, what they ask of append and of the rows, and their ends. Assumes nothing.
 use Prim.Native.Nat.{ℕ, zero, suc, pred, _+_, _-_, _*_, _/_, _≤_, _<_}
 use mathlib.Core.Path.{_≡_, refl, sym, ap, _∙_}
 use mathlib.Core.Bool.{Bool, true, false, cond, _&&_}
@@ -28,6 +28,7 @@ use Rattle.calls.specs.Leaves.{packedEntry, withPage, callLeaves}
 use Rattle.calls.specs.LineSteps.{knownFate, actionLine, roomLine}
 use Rattle.calls.specs.DecideSteps.{decideLine, decidedAgain, settledRows}
 use Rattle.calls.proofs.Ends.{Lent, lent-is, ends-line-1, ends-same, ends-grown}
+use Rattle.calls.proofs.AskedAgain.{again-unchanged}
 use Rattle.calls.proofs.ActionLines.{acts, Known, acting, past-5, undecided-by}
 use Rattle.calls.proofs.RoomLines.{room-high, room-is, room-by, append-fits}
 
@@ -177,7 +178,7 @@ module _ (s fs rs : List ℕ) (st : State) (a : ℕ) (c : Bool) where
     where
       go : lineOne (length s) (length fs) (length rs) (st .end) (st .undecided) ≡ true → (b : Bool) → isRepeated w a c ≡ b
           → leftBy (cond b (record { answer = Stored (outcomeAt w a); state = st }) (refusal 6 st)) s fs rs ≡ callLeaves s fs rs st (decide a c)
-      go h true q = ends-same s fs rs st (decide a c) h (Stored (outcomeAt w a)) (rw q)
+      go h true q = sym (again-unchanged s fs rs st a c h q)
       go h false q = ends-same s fs rs st (decide a c) h (Refused 6 0) (rw q (first-line h ∙ rw (sym e ∙ z)))
 
   -- a line refuses

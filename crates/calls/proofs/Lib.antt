@@ -10,6 +10,7 @@ pub mod NoSecondOutcome
 pub mod ActionLines
 pub mod RoomLines
 pub mod BeginEnds
+pub mod AskedAgain
 pub mod DecideRows
 pub mod DecideEnds
 pub mod ReadImages

@@ -3,15 +3,15 @@
 use mathlib.Core.List.{List, [], _∷_}
 use mathlib.Core.Bool.{Bool, true, false, cond, not, _&&_}
 use mathlib.Core.Option.{Option, some, none}
-use Prim.Native.Nat.{ℕ, zero, suc, pred, max, _+_, _-_}
+use Prim.Native.Nat.{ℕ, suc, pred, max, _+_, _-_}
 use lib.ListN.{length}
 use lib.Dec.{eqb, leb, ltb}
 use Rattle.page.specs.Layout.{valueSize}
-use Rattle.recovery.specs.Places.{nth, put}
+use Rattle.recovery.specs.Places.{put}
 use Rattle.recovery.specs.Log.{Image, Entry, blank, torn, bad, opening, image, outcome, Fate, unknown, undecided, committed, aborted, Placed, verdict}
 use Rattle.recovery.specs.declared.Row.{Row}
 use Rattle.recovery.specs.declared.Answer.{Answer}
-use Rattle.recovery.specs.declared.Answer.the-variants.{Refused, Stored, Value, Nothing, Told}
+use Rattle.recovery.specs.declared.Answer.the-variants.{Stored, Value, Nothing, Told}
 use Rattle.recovery.specs.World.{World, Result, refuse, entryAt, fateNumber, fateAt, outcomeAt, isBlank, withRow, warmRow, rowHolds, lentRight, isFile, rebuilt}
 use Rattle.calls.specs.Walk.{Walk, met, nothing, lost, imagesBelow, follow}
 

@@ -1,13 +1,13 @@
 -- What open and rebuild do, over decoded pages, line by line in the order of document 01 (docs/STORE.md, The calls).
 use mathlib.Core.List.{List, [], _∷_}
 use mathlib.Core.Bool.{Bool, true, false, cond, _&&_, _||_}
-use mathlib.Core.Option.{Option, some, none}
+use mathlib.Core.Option.{none}
 use Prim.Native.Nat.{ℕ, zero, suc, _+_}
 use lib.ListN.{length, getD}
 use lib.Dec.{eqb, leb}
 use Rattle.page.specs.Layout.{mostPlaces, mostFiles}
 use Rattle.recovery.specs.Places.{nth, put, tabulate}
-use Rattle.recovery.specs.Log.{Image, Entry, blank, torn, bad, opening, image, outcome, Fate, unknown, undecided, committed, aborted, Placed, fateOf, outcomeOf, imagesOf, currentOf, tokenOf, placeOf, startOf}
+use Rattle.recovery.specs.Log.{Entry, blank, torn, bad, opening, image, outcome, Fate, unknown, undecided, committed, aborted, fateOf, outcomeOf, imagesOf, currentOf, tokenOf, placeOf, startOf}
 use Rattle.recovery.specs.declared.Row.{Row}
 use Rattle.recovery.specs.declared.Answer.{Answer}
 use Rattle.recovery.specs.declared.Answer.the-variants.{Refused, Opened, Rebuilt}

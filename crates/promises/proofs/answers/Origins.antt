@@ -16,7 +16,7 @@ use Rattle.recovery.specs.Sheet.{sealed}
 use Rattle.recovery.specs.declared.Answer.the-variants.{Stored}
 use Rattle.recovery.specs.Lent.{Left}
 use Rattle.calls.specs.Calls.{Call, call}
-use Rattle.recovery.proofs.Spots.{entryIn, entry-cons, entry-top}
+use Rattle.recovery.proofs.Spots.{entry-top}
 use Rattle.promises.specs.Runs.{Box, on, off, sheetOf, Event, calls, opens, cuts, answerTo, after, runs, Allowed, AllAllowed, blankBox, Run}
 use Rattle.promises.specs.Promises.{IsPageOf, IsWhole, Did}
 use Rattle.promises.specs.Model.{modelCall}

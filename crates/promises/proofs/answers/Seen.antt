@@ -1,7 +1,7 @@
 -- What people see, traced to the calls: fates to begins and decisions, values to writes; and whole or not at all.
 use Prim.Native.Nat.{ℕ, suc, _-_, _≤_, _<_}
 use mathlib.Core.Path.{_≡_, refl, sym, ap, _∙_, subst}
-use mathlib.Core.List.{List, [], _∷_}
+use mathlib.Core.List.{List}
 use mathlib.Core.Bool.{Bool, true, false, cond, false≢true}
 use mathlib.Core.Option.{some}
 use mathlib.Core.Logic.{_⊎_, inl, inr}
@@ -9,7 +9,7 @@ use native.Mathlib.Omega.{arith}
 use lib.ListN.{length, take, replicate}
 use lib.Seq.{length-take-le}
 use lib.Dec.{eqb, leb}
-use borrow.Author.Tests.{eq-eqb, eqb-true, le-leb, leb-true, leb-false}
+use borrow.Author.Tests.{eq-eqb, le-leb, leb-true, leb-false}
 use Rattle.encoding.proofs.Logic.{clash}
 use Rattle.encoding.proofs.Parts.{length-part}
 use Rattle.page.specs.declared.Unpacked.{Unpacked}
@@ -18,12 +18,12 @@ use Rattle.page.specs.Layout.{pageSize, valueSize}
 use Rattle.page.specs.Table.{valueOf}
 use Rattle.page.specs.Answers.{tested, valueIn}
 use Rattle.page.proofs.Found.{found, image-is}
-use Rattle.recovery.specs.Log.{Image, Entry, blank, torn, bad, opening, image, outcome, Fate, unknown, undecided, committed, aborted, verdict, fateOf, outcomeOf}
+use Rattle.recovery.specs.Log.{Image, Entry, blank, opening, image, outcome, Fate, unknown, undecided, committed, aborted, verdict, fateOf, outcomeOf}
 use Rattle.recovery.specs.Sheet.{pageBytes, entryOf, decoded, sealed}
 use Rattle.recovery.specs.World.{fateNumber, isBlank}
 use Rattle.recovery.specs.declared.Answer.the-variants.{Stored, Value, Told}
 use Rattle.calls.specs.Calls.{Call, begin, write, read, test, decide, rebuild}
-use Rattle.recovery.proofs.Spots.{entryIn, entry-cons, entry-top}
+use Rattle.recovery.proofs.Spots.{entryIn}
 use Rattle.promises.specs.Runs.{Box, sheetOf, Event, calls, answerTo, runs, blankBox, Run}
 use Rattle.promises.specs.Model as model
 use Rattle.promises.specs.FromLog.{statusOf}

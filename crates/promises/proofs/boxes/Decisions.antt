@@ -4,19 +4,18 @@ use Prim.Native.Nat.{ℕ, suc, _≤_}
 use mathlib.Core.Path.{_≡_, refl, sym, ap, _∙_, subst}
 use mathlib.Core.List.{List, _∷_}
 use mathlib.Core.Bool.{Bool, true, false, not}
-use mathlib.Core.Option.{Option, some}
+use mathlib.Core.Option.{some}
 use native.Mathlib.Omega.{arith}
 use lib.ListN.{length}
 use borrow.Author.Tests.{eq-eqb}
 use Rattle.recovery.specs.Log.{Entry, opening, outcome, Fate, unknown, undecided, committed, aborted, verdict, fateOf, outcomeOf}
-use Rattle.recovery.specs.World.{World, fateNumber}
+use Rattle.recovery.specs.World.{fateNumber}
 use Rattle.recovery.specs.declared.Answer.{Answer}
 use Rattle.recovery.specs.declared.Answer.the-variants.{Refused, Stored, Told}
-use Rattle.recovery.specs.Lent.{Left}
 use Rattle.recovery.proofs.LogFates.{undecided-known}
 use Rattle.calls.specs.Calls.{begin, test, decide, call}
-use Rattle.promises.specs.Runs.{Box, on, off, sheetOf, Event, calls, opens, cuts, callOn, answerTo, after, runs, Allowed, AllAllowed}
-use Rattle.promises.specs.Model.{Model, Reply, Status, decidedAs, deciding, modelCall}
+use Rattle.promises.specs.Runs.{Box, on, off, sheetOf, Event, calls, opens, cuts, answerTo, after, runs, Allowed, AllAllowed}
+use Rattle.promises.specs.Model.{Model, Reply, decidedAs, deciding, modelCall}
 use Rattle.promises.specs.FromLog.{statusOf}
 use Rattle.promises.specs.Promises.{IsWhole}
 use Rattle.promises.proofs.logs.Logs.{verdict-decided}

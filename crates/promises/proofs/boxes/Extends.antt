@@ -8,7 +8,7 @@ use lib.ListN.{length}
 use lib.Dec.{eqb, ltb}
 use borrow.Author.Tests.{eq-eqb, ne-eqb}
 use Rattle.page.specs.Layout.{pageSize}
-use Rattle.recovery.specs.Log.{Entry, blank, torn, verdict, fateOf, outcomeOf}
+use Rattle.recovery.specs.Log.{Entry, blank, torn, fateOf, outcomeOf}
 use Rattle.recovery.specs.Sheet.{sealed}
 use Rattle.recovery.proofs.Spots.{entryIn, entry-cons, entry-top}
 use Rattle.promises.proofs.logs.Logs.{Fits, Lawful, Known, Decided, Keeps, verdict-decided, fate-keeps, fate-knows}

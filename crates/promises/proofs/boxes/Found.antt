@@ -1,5 +1,5 @@
 -- What a run has stored is found: the page of every answered call, of a cut one exactly if all its bytes are stored; and the fates.
-use Prim.Native.Nat.{ℕ, suc, _≤_}
+use Prim.Native.Nat.{ℕ, suc}
 use mathlib.Core.Path.{_≡_, refl, sym, ap, _∙_, subst}
 use mathlib.Core.List.{List, _∷_}
 use mathlib.Core.Bool.{Bool, true, false}
@@ -184,4 +184,3 @@ module _ (n files : ℕ) where
           go : (b : Box) → Reached n files b → answerTo b (calls k) ≡ some (Stored place) → sealed files (sheetOf b) place ≡ blank → sealed files (sheetOf (runs (after b (cuts k kept)) es)) place ≡ torn
           go (on m) r e y = found-torn n files m r k t place (some-is e) es al kept o h j y
           go (off s) r e y = not-heard e
-

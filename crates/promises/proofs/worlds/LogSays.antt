@@ -7,7 +7,7 @@ use mathlib.Core.Option.{Option, some, none}
 use lib.ListN.{length}
 use lib.Dec.{eqb}
 use borrow.Author.Tests.{eqb-true, eqb-false, eq-eqb, ne-eqb}
-use Rattle.recovery.specs.Log.{Image, Entry, torn, opening, image, outcome, Fate, undecided, Placed, fateOf, outcomeOf, imagesOf, verdict, placeOf, startOf}
+use Rattle.recovery.specs.Log.{Image, Entry, torn, opening, image, outcome, undecided, Placed, fateOf, outcomeOf, imagesOf, verdict, placeOf, startOf}
 use Rattle.recovery.specs.World.{fatesOf, undecidedOf}
 use Rattle.inspection.specs.Lawful.{versions, current, token}
 use Rattle.promises.specs.Model.{Object, object, Status, pending, Model, newest, placed, since, changed, stores, decidedAs, ended, endedBy, modelOpened}
