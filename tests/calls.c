@@ -12,8 +12,8 @@ static struct kept kept;
 static int seen_refusal[16], seen_answer[8], seen_cut[PAGE + 2];
 
 /* What a test of an action, or a decision of one that is decided, has met; several may come at once. */
-enum { SAME, OPPOSITE, TRUE_FATE, OTHER_OUTCOME, NO_OUTCOME, TWO_OUTCOMES, OUTCOME_ABOVE, NO_OPENING, FULL_SHEET, PAGE_ABOVE, TOKEN_LEFT,
-       COLD_ROW, FALSELY_OPEN, MET };
+enum { SAME, OPPOSITE, TRUE_FATE, OTHER_OUTCOME, NO_OUTCOME, TWO_OUTCOMES, OUTCOME_ABOVE, NO_OPENING, FULL_SHEET, PAGE_ABOVE,
+       TOKEN_LEFT, COLD_ROW, FALSELY_OPEN, MET };
 static const char *const met[MET] = {"the same decision again", "the opposite decision", "a fate that is the outcome's",
                                      "a fate that is not the outcome's", "a fate without an outcome", "two outcomes",
                                      "an outcome above the end", "an outcome without an opening", "a full sheet",
