@@ -13,8 +13,9 @@ enum { FILES = 256, NEWEST = 254, OLDEST = 255, ABSENT = 256, USED = 28, MOST = 
 static const uint8_t value[32] = "opens at eight, shuts at six";
 static const uint8_t none[32];
 
-/* How a sheet is filled: actions are an opening, six images and an outcome each. */
-enum fill { BLANK, OPENINGS, IMAGES, TORN, ACTIONS, LINKS, TOKENS };
+/* How a sheet is filled: actions are an opening, six images and an outcome each, and may have a small one below them, an opening and its
+   outcome. */
+enum fill { BLANK, OPENINGS, IMAGES, TORN, ACTIONS, SMALL_ACTION, LINKS, TOKENS };
 
 struct sheet {
     uint8_t *bytes, *fates;
@@ -61,6 +62,21 @@ static uint64_t rebuild(struct sheet s, uint64_t file) {
 static uint64_t run_newest(struct sheet s) { return rebuild(s, NEWEST) > s.pages - 8; }
 static uint64_t run_oldest(struct sheet s) { return rebuild(s, OLDEST); }
 static uint64_t run_absent(struct sheet s) { return rebuild(s, ABSENT); }
+
+/* The place of the outcome: action 1's at page 2, so that all others are passed, and the last action's. */
+static uint64_t test_place(struct sheet s, uint64_t action) {
+    return called(s, FILES, s.pages, 0, (struct call){.kind = TEST, .action = action}, SECOND);
+}
+static uint64_t run_outcome_oldest(struct sheet s) { return test_place(s, 1); }
+static uint64_t run_outcome_newest(struct sheet s) { return test_place(s, s.pages - 7); }
+
+/* One commit a page of the action that was committed last. */
+static uint64_t run_again(struct sheet s) {
+    uint64_t told = 0;
+    for (uint64_t p = 0; p < s.pages; p++)
+        told += called(s, FILES, s.pages, 0, (struct call){.kind = COMMIT, .action = s.pages - 7}, FIRST) == s.pages;
+    return told;
+}
 
 /* Whole actions of begin, two writes and commit on a blank sheet, until it is full: how many. */
 static uint64_t act(struct sheet s, uint64_t files) {
@@ -135,21 +151,26 @@ static double now(void) {
     return 1e9 * (double)t.tv_sec + (double)t.tv_nsec;
 }
 
-/* A lawful sheet of whole actions; the files NEWEST and OLDEST have one image, in the last and in the first action. */
-static void fill_actions(struct sheet s) {
+/* A lawful sheet of actions, above a small one of so many pages; the files NEWEST and OLDEST have one image, in the last and in the
+   first action. */
+static void fill_actions(struct sheet s, uint64_t small) {
     static uint64_t last[FILES + 1], start[FILES + 1];
     memset(last, 0, sizeof last);
     memset(start, 0, sizeof start);
-    for (uint64_t p = 1, file = 0; p <= s.pages; p++) {
+    if (small > 0) {
+        plain_pack(s.bytes, 1, 0, 0, 1, 0, 0, none, 1);
+        plain_pack(s.bytes + PAGE, 3, 1, 0, 1, 0, 0, none, 2);
+    }
+    for (uint64_t p = small + 1, file = 0; p <= s.pages; p++) {
         uint8_t *page = s.bytes + PAGE * (p - 1);
-        uint64_t at = (p - 1) % 8, action = p - at;
+        uint64_t at = (p - 1 - small) % 8, action = p - at;
         if (at == 0)
             plain_pack(page, 1, 0, 0, p, 0, 0, none, p);
         else if (at == 7)
             plain_pack(page, 3, 1, 0, action, 0, 0, none, p);
         else {
             uint64_t f = 1 + file++ % (NEWEST - 1);
-            if (p == 2)
+            if (p == small + 2)
                 f = OLDEST;
             else if (p == s.pages - 1)
                 f = NEWEST;
@@ -164,12 +185,13 @@ static struct sheet filled(enum fill fill, uint64_t pages) {
     struct sheet s = {calloc(pages, PAGE), calloc(pages, 1), calloc(5 * FILES, sizeof *s.numbers), pages};
     if (!s.bytes || !s.fates || !s.numbers)
         exit(1);
-    if (fill == ACTIONS) {
-        fill_actions(s);
-        run_open(s); /* sets the fates that rebuild and read go by */
+    int is_of_actions = fill == ACTIONS || fill == SMALL_ACTION;
+    if (is_of_actions) {
+        fill_actions(s, fill == SMALL_ACTION ? 2 : 0);
+        run_open(s); /* sets the fates that rebuild, read and test go by */
     }
     s.fates[0] = fill == LINKS ? 2 : s.fates[0];
-    for (uint64_t p = 1; fill != BLANK && fill != ACTIONS && p <= pages; p++) {
+    for (uint64_t p = 1; fill != BLANK && !is_of_actions && p <= pages; p++) {
         uint8_t *page = s.bytes + PAGE * (p - 1);
         if (fill == TOKENS && p > FILES + 1)
             break;
@@ -264,6 +286,8 @@ static void time_recovery(void) {
         {"rebuild, image newest", run_newest, ACTIONS, 1, 0, 0, {0}, 0},
         {"rebuild, image oldest", run_oldest, ACTIONS, 2, 0, 0, {0}, 0},
         {"rebuild, file absent", run_absent, ACTIONS, 0, 0.1, 0, {0}, 0},
+        {"test, outcome newest", run_outcome_newest, ACTIONS, -2, 0, 0, {0}, 0},
+        {"test, outcome oldest", run_outcome_oldest, SMALL_ACTION, 2, 0.1, 0, {0}, 0},
         {"one byte of each page read in C", run_touch, ACTIONS, -1, 0, 0, {0}, 0},
         {"every byte read once in C", run_bytes, ACTIONS, -1, 0, 0, {0}, 0},
     };
@@ -283,6 +307,7 @@ static void time_calls(void) {
         {"read of the current version", run_current, ACTIONS, -2, 3, 0, {0}, 0},
         {"read by 1,022 links, a link", run_links, LINKS, 5, 2, 0, {0}, 1022},
         {"commit that settles 256 rows, a row", run_commit, TOKENS, 1, 0, 0, {0}, FILES},
+        {"commit asked again after the commit", run_again, ACTIONS, -2, 0, 0, {0}, 0},
     };
     TABLE("the calls, 1,024 pages", calls, 1024, 100, 8);
 }

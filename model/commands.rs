@@ -1,6 +1,6 @@
 //! The command language of document 01, and a conversation in it.
 
-use crate::histories::{Change, Fate, Refusal, Session, Sheet, Version};
+use crate::histories::{Change, Decision, Fate, Refusal, Session, Sheet, Version};
 
 const LONGEST_LINE: usize = 255;
 const PAGE: u64 = 64;
@@ -94,7 +94,14 @@ impl Desk {
         let change = match command {
             Command::Begin => self.sheet.begin(),
             Command::Write { file, start, action, text } => self.sheet.write(&now, file, start, action, &text),
-            Command::Decide(action, fate) => self.sheet.decision(action, fate),
+            Command::Decide(action, fate) => match self.sheet.decision(action, fate) {
+                Ok(Decision::Before(place)) => {
+                    self.session = Some(now);
+                    return format!("{} {}", decided(fate), place);
+                }
+                Ok(Decision::Now(change)) => Ok(change),
+                Err(refusal) => Err(refusal),
+            },
             Command::Read { file, time, action } => {
                 let found = self.sheet.read(&mut now, file, time, action);
                 self.session = Some(now);
@@ -102,7 +109,7 @@ impl Desk {
             }
             Command::Test(action) => {
                 self.session = Some(now);
-                return self.sheet.test(action).map_or_else(no, |fate| format!("test {}", fate as u64));
+                return self.sheet.test(action).map_or_else(no, |(fate, place)| format!("test {} {}", fate as u64, place));
             }
             Command::Open { .. } | Command::Cut(_) => unreachable!(),
         };
@@ -130,15 +137,19 @@ impl Desk {
             Change::Image { .. } => "write",
             Change::Outcome { action, fate } => {
                 now.settle(&self.sheet, *action, *fate);
-                if *fate == Fate::Committed {
-                    "commit"
-                } else {
-                    "abort"
-                }
+                decided(*fate)
             }
         };
         self.session = Some(now);
         format!("{} {}", word, self.sheet.store(change))
+    }
+}
+
+fn decided(fate: Fate) -> &'static str {
+    if fate == Fate::Committed {
+        "commit"
+    } else {
+        "abort"
     }
 }
 

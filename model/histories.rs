@@ -51,6 +51,7 @@ impl File {
 pub struct Sheet {
     pub used: u64, // places, torn ones included
     pub fates: BTreeMap<u64, Fate>,
+    pub outcomes: BTreeMap<u64, u64>, // by action, the place at which it was decided
     pub files: BTreeMap<u64, File>,
     images: Vec<(u64, u64)>, // the place and file of every image, those of aborted actions included
 }
@@ -68,6 +69,12 @@ pub enum Change {
     Opening,
     Image { file: u64, start: u64, action: u64, value: Vec<u8> },
     Outcome { action: u64, fate: Fate },
+}
+
+/// What a commit or abort comes to.
+pub enum Decision {
+    Now(Change),
+    Before(u64),
 }
 
 /// A refusal's number and place.
@@ -106,7 +113,10 @@ impl Sheet {
                 let version = Version { place, start, value };
                 self.files.entry(file).or_default().token = Some(Token { action, version });
             }
-            Change::Outcome { action, fate } => self.decide(action, fate),
+            Change::Outcome { action, fate } => {
+                self.outcomes.insert(action, place);
+                self.decide(action, fate);
+            }
         }
         place
     }
@@ -123,12 +133,17 @@ impl Sheet {
         }
     }
 
-    pub fn test(&self, action: u64) -> Result<Fate, Refusal> {
+    fn fate(&self, action: u64) -> Result<Fate, Refusal> {
         self.fates.get(&action).copied().ok_or(Refusal(5, 0))
     }
 
+    /// An action's fate, and the place at which it was decided, 0 while it is not.
+    pub fn test(&self, action: u64) -> Result<(Fate, u64), Refusal> {
+        Ok((self.fate(action)?, self.outcomes.get(&action).copied().unwrap_or(0)))
+    }
+
     fn is_undecided(&self, action: u64) -> Result<(), Refusal> {
-        match self.test(action)? {
+        match self.fate(action)? {
             Fate::Undecided => Ok(()),
             _ => refused(6),
         }
@@ -146,10 +161,15 @@ impl Sheet {
         Ok(Change::Opening)
     }
 
-    pub fn decision(&self, action: u64, fate: Fate) -> Result<Change, Refusal> {
+    /// The outcome to be stored or, if the action was decided alike before, the place of that one.
+    pub fn decision(&self, action: u64, fate: Fate) -> Result<Decision, Refusal> {
+        let (before, place) = self.test(action)?;
+        if before == fate {
+            return Ok(Decision::Before(place));
+        }
         self.is_undecided(action)?;
         self.has_room(1)?;
-        Ok(Change::Outcome { action, fate })
+        Ok(Decision::Now(Change::Outcome { action, fate }))
     }
 
     pub fn write(&self, now: &Session, file: u64, start: u64, action: u64, value: &[u8]) -> Result<Change, Refusal> {

@@ -55,7 +55,7 @@ impl Author {
             return self.cut();
         }
         let undecided = self.desk.sheet.undecided();
-        let has_room = PAGES - self.desk.sheet.used > undecided + 1;
+        let (has_room, is_full) = (PAGES - self.desk.sheet.used > undecided + 1, self.desk.sheet.used == PAGES);
         match self.random.below(100) {
             n if n < 8 || (undecided == 0 && n < 40) => "begin".to_string(),
             n if n < 45 && self.hurries && has_room => "begin".to_string(),
@@ -63,6 +63,7 @@ impl Author {
             n if n < 50 => self.write(),
             n if n < 75 => self.read(),
             n if n < 80 => format!("test {}", self.action(3)),
+            n if n < 83 || (is_full && n < 90) => self.again(),
             n if n < 92 => format!("commit {}", self.action(6)),
             _ => format!("abort {}", self.action(6)),
         }
@@ -116,6 +117,17 @@ impl Author {
             0 => self.random.below(self.desk.sheet.used + 2),
             n => actions[self.random.below(n as u64) as usize],
         }
+    }
+
+    /// The decision of a decided action once more, often of the one that was decided last: its reply may have been lost.
+    fn again(&mut self) -> String {
+        let last = self.desk.sheet.outcomes.iter().max_by_key(|(_, place)| **place).map(|(action, _)| *action);
+        let action = match last {
+            Some(action) if self.random.once_in(2) => action,
+            _ => self.action(1),
+        };
+        let is_aborted = self.desk.sheet.fates.get(&action) == Some(&Fate::Aborted);
+        format!("{} {}", if is_aborted { "abort" } else { "commit" }, action)
     }
 
     fn token(&self, file: u64) -> Option<(u64, u64)> {

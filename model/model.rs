@@ -1,4 +1,4 @@
-//! A second version of the desk program, written from document 01 alone, and its comparison with the first.
+//! A second version of the desk program, written from documents 01 and 02 alone, and its comparison with the first.
 //!
 //!   model run                                answers the commands on its input
 //!   model check PROGRAM [SEED [COMMANDS]]    random conversations, the program's answers beside the model's
@@ -10,6 +10,8 @@ mod lists;
 mod points;
 mod random;
 
+use commands::Desk;
+use histories::PAGES;
 use lists::List;
 use std::collections::BTreeMap;
 use std::io::{self, BufRead, Write};
@@ -24,7 +26,9 @@ const ANSWERS: &str = "open open,open no 1,open no 2,\
     read read,read none,read closed,read no 3,read no 5,read no 6,read no 9,\
     test test 1,test test 2,test test 3,test closed,test no 5,\
     commit commit,commit lost,commit closed,commit no 5,commit no 6,commit no 11,\
+    commit again,commit again while a cut waits,commit again on a full sheet,\
     abort abort,abort lost,abort closed,abort no 5,abort no 6,abort no 11,\
+    abort again,abort again while a cut waits,abort again on a full sheet,\
     cut cut,what";
 
 struct Tally {
@@ -54,9 +58,32 @@ fn kind(line: &[u8], answer: &str) -> String {
     }
 }
 
+/// A decision that is answered and has stored nothing was asked again; `used` and `cut` are as they were before it.
+fn kinds(line: &[u8], answer: &str, desk: &Desk, used: u64, cut: Option<u64>) -> Vec<String> {
+    let kind = kind(line, answer);
+    let again = match kind.as_str() {
+        "commit commit" if desk.sheet.used == used => "commit again",
+        "abort abort" if desk.sheet.used == used => "abort again",
+        _ => return vec![kind],
+    };
+    let mut kinds = vec![again.to_string()];
+    if cut.is_some() {
+        kinds.push(format!("{} while a cut waits", again));
+    }
+    if used == PAGES {
+        kinds.push(format!("{} on a full sheet", again));
+    }
+    kinds
+}
+
 fn count(list: &List, counts: &mut BTreeMap<String, u64>) {
-    for (line, answer) in list.lines.iter().zip(commands::answers(&list.lines)) {
-        *counts.entry(kind(line, &answer)).or_insert(0) += 1;
+    let mut desk = Desk::default();
+    for line in &list.lines {
+        let (used, cut) = (desk.sheet.used, desk.cut);
+        let answer = desk.answer(line);
+        for kind in kinds(line, &answer, &desk, used, cut) {
+            *counts.entry(kind).or_insert(0) += 1;
+        }
     }
 }
 
@@ -127,7 +154,7 @@ fn check(program: &str, seed: u64, commands: u64) -> bool {
 
 fn run() -> io::Result<()> {
     let (mut input, mut output) = (io::stdin().lock(), io::stdout().lock());
-    let mut desk = commands::Desk::default();
+    let mut desk = Desk::default();
     let mut line = Vec::new();
     while input.read_until(b'\n', &mut line)? > 0 {
         if line.last() == Some(&b'\n') {

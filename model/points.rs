@@ -13,7 +13,7 @@ pub const POINTS: &[Point] = &[
         input: "open / begin / write 3 10 1 AB / read 3 10 0 / read 3 9 0 / commit 1 / read 3 10 0 / begin / write 3 12 4 CD / \
                 cut 20 / commit 4 / open / test 4 / read 3 11 0 / abort 4 / read 3 12 0",
         output: "open 0 0 / begin 1 / write 2 / no 9 1 / none / commit 3 / read 2 10 AB / begin 4 / write 5 / cut 20 / lost / \
-                 open 6 1 / test 1 / read 2 10 AB / abort 7 / read 2 10 AB",
+                 open 6 1 / test 1 0 / read 2 10 AB / abort 7 / read 2 10 AB",
     },
     Point {
         what: "values of 32 and 33 bytes",
@@ -38,8 +38,32 @@ pub const POINTS: &[Point] = &[
     },
     Point {
         what: "a second commit",
-        input: "open / begin / commit 1 / commit 1 / abort 1 / test 1",
-        output: "open 0 0 / begin 1 / commit 2 / no 6 0 / no 6 0 / test 2",
+        input: "open / begin / commit 1 / commit 1 / abort 1 / test 1 / write 1 1 1 a / read 1 1 1 / begin",
+        output: "open 0 0 / begin 1 / commit 2 / commit 2 / no 6 0 / test 2 2 / no 6 0 / no 6 0 / begin 3",
+    },
+    Point {
+        what: "a second abort",
+        input: "open / begin / test 1 / abort 1 / abort 1 / commit 1 / test 1 / test 0 / test 2 / commit 2 / abort 0",
+        output: "open 0 0 / begin 1 / test 1 0 / abort 2 / abort 2 / no 6 0 / test 3 2 / no 5 0 / no 5 0 / no 5 0 / no 5 0",
+    },
+    Point {
+        what: "a decision asked again counts no action twice",
+        input: "open / begin / begin / commit 1 / commit 1 / commit 1 / open / commit 1 / open / commit 2 / commit 1 / open",
+        output: "open 0 0 / begin 1 / begin 2 / commit 3 / commit 3 / commit 3 / open 3 1 / commit 3 / open 3 1 / commit 4 / \
+                 commit 3 / open 4 0",
+    },
+    Point {
+        what: "a decision asked again uses up no cut",
+        input: "open / begin / commit 1 / cut 20 / commit 1 / abort 1 / test 1 / commit 1 / begin / commit 1 / open / commit 1",
+        output: "open 0 0 / begin 1 / commit 2 / cut 20 / commit 2 / no 6 0 / test 2 2 / commit 2 / lost / closed / open 3 0 / \
+                 commit 2",
+    },
+    Point {
+        what: "a commit whose reply is lost with none, some or all of its bytes stored",
+        input: "open / begin / begin / begin / cut 0 / commit 1 / open / commit 1 / commit 1 / cut 63 / commit 2 / open / \
+                test 2 / commit 2 / commit 2 / cut 64 / commit 3 / open / test 3 / commit 3 / commit 3",
+        output: "open 0 0 / begin 1 / begin 2 / begin 3 / cut 0 / lost / open 3 3 / commit 4 / commit 4 / cut 63 / lost / \
+                 open 5 2 / test 1 0 / commit 6 / commit 6 / cut 64 / lost / open 7 0 / test 2 7 / commit 7 / commit 7",
     },
     Point {
         what: "what an action reads of its own token goes with it",

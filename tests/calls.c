@@ -1,4 +1,4 @@
-/* The proved calls beside plain ones, written here from document 01 line by line: long runs of random calls on a sheet, with cuts,
+/* The proved calls beside plain ones, written here from documents 01 and 02 line by line: long runs of random calls on a sheet, with cuts,
    openings, and lent fates, rows, states and pages that are damaged. After every call the answer, the state and every lent byte and
    number must be the same. Prints a line for each test and 'N passed, M failed'. */
 #include "plainsheet.h"
@@ -10,6 +10,16 @@ struct ask {
 };
 static struct kept kept;
 static int seen_refusal[16], seen_answer[8], seen_cut[PAGE + 2];
+
+/* What a test of an action, or a decision of one that is decided, has met; several may come at once. */
+enum { SAME, OPPOSITE, TRUE_FATE, OTHER_OUTCOME, NO_OUTCOME, TWO_OUTCOMES, OUTCOME_ABOVE, NO_OPENING, FULL_SHEET, PAGE_ABOVE,
+       TOKEN_LEFT, COLD_ROW, FALSELY_OPEN, MET };
+static const char *const met[MET] = {"the same decision again", "the opposite decision", "a fate that is the outcome's",
+                                     "a fate that is not the outcome's", "a fate without an outcome", "two outcomes",
+                                     "an outcome above the end", "an outcome without an opening", "a full sheet",
+                                     "a page above the end that is not blank", "a token of the action in a row", "a cold row",
+                                     "a test of an undecided action that has an outcome"};
+static int seen_met[MET];
 
 /* ---- the plain calls: each gives the five numbers of its answer */
 
@@ -41,8 +51,17 @@ static void plain_begin(uint64_t a[TOLD]) {
     kept.undecided++;
 }
 
+/* Whether a file's row is rebuilt and its token is the action's. */
+static int holds_token(uint64_t file, uint64_t action, uint64_t end) {
+    const uint64_t *row = kept.rows + 5 * (file - 1);
+    return row[0] == 1 && row[3] >= 1 && row[3] <= end && is_image(row[3], file) && action_of(row[3]) == action;
+}
+
+/* Where the action is decided already: the fate says which decision it was, the sheet where it lies. */
 static void plain_decide(uint64_t a[TOLD], uint64_t action, int verdict) {
     uint64_t line = action_line(action), end = kept.end;
+    if (line == 6 && kept.fates[action - 1] == verdict + 1)
+        return answer(a, STORED, outcome_of(action, end), 0, 0, 0);
     if (line)
         return no(a, line, 0);
     if (!stored(a, 1, 3, verdict, 0, action, 0, 0, none))
@@ -51,7 +70,7 @@ static void plain_decide(uint64_t a[TOLD], uint64_t action, int verdict) {
     kept.undecided -= kept.undecided > 0;
     for (uint64_t f = 1; f <= FILES; f++) {
         uint64_t *row = kept.rows + 5 * (f - 1);
-        if (row[0] != 1 || row[3] < 1 || row[3] > end || !is_image(row[3], f) || action_of(row[3]) != action)
+        if (!holds_token(f, action, end))
             continue;
         if (verdict == 1)
             row[1] = row[3], row[2] = row[4];
@@ -136,10 +155,50 @@ static void plain_call(uint64_t a[TOLD], const struct call *q) {
     case TEST:
         if (action_line(q->action) == 5)
             return no(a, 5, 0);
-        return answer(a, FATE, kept.fates[q->action - 1], 0, 0, 0);
+        return answer(a, FATE, kept.fates[q->action - 1], outcome_of(q->action, kept.end), 0, 0);
     default:
         plain_decide(a, q->action, q->kind == COMMIT ? 1 : 2);
     }
+}
+
+/* ---- what was met */
+
+/* An outcome that would count if its action had an opening. */
+static int has_stray_outcome(uint64_t action) {
+    for (uint64_t p = kept.end; p > 0; p--)
+        if (page_at(p)[0] == 3 && action_of(p) == action && plain_fits(page_at(p), p, FILES) && !is_opening(action))
+            return 1;
+    return 0;
+}
+
+/* What is met where a decided action is decided again alike. */
+static void meet_again(uint64_t action) {
+    uint64_t place = outcome_of(action, kept.end);
+    int is_true = place && page_at(place)[1] + 1 == kept.fates[action - 1];
+    seen_met[place == 0 ? NO_OUTCOME : is_true ? TRUE_FATE : OTHER_OUTCOME]++;
+    seen_met[TWO_OUTCOMES] += place && outcome_of(action, place - 1);
+    seen_met[OUTCOME_ABOVE] += outcome_of(action, pages) > kept.end;
+    seen_met[NO_OPENING] += has_stray_outcome(action);
+    seen_met[FULL_SHEET] += kept.end == pages;
+    seen_met[PAGE_ABOVE] += kept.end < pages && !is_blank(kept.end + 1);
+    for (uint64_t f = 1; f <= FILES; f++) {
+        seen_met[TOKEN_LEFT] += holds_token(f, action, kept.end);
+        seen_met[COLD_ROW] += kept.rows[5 * (f - 1)] == 0;
+    }
+}
+
+static void meet(const struct call *q) {
+    if (kept.end > pages || kept.undecided > kept.end || action_line(q->action) == 5)
+        return;
+    uint8_t fate = kept.fates[q->action - 1];
+    if (q->kind == TEST)
+        seen_met[FALSELY_OPEN] += fate == 1 && outcome_of(q->action, kept.end);
+    if ((q->kind != COMMIT && q->kind != ABORT) || fate == 1)
+        return;
+    int is_same = fate == (q->kind == COMMIT ? 2 : 3);
+    seen_met[is_same ? SAME : OPPOSITE]++;
+    if (is_same)
+        meet_again(q->action);
 }
 
 /* ---- random runs */
@@ -153,6 +212,7 @@ static int asked_alike(const struct ask *q, uint64_t a[TOLD]) {
     struct kept was = kept;
     c.value = q->value;
     memcpy(before, sheet, PAGE * pages);
+    meet(&c);
     plain_call(a, &c);
     seen_answer[a[WHICH]]++;
     if (a[WHICH] == REFUSED)
@@ -180,6 +240,28 @@ static uint64_t random_action(void) {
     return action;
 }
 
+/* An action, decided or not, from some place on; 0 if there is none. */
+static uint64_t known_action(void) {
+    uint64_t from = below(kept.end + 1);
+    for (uint64_t i = 0; i <= kept.end && kept.end <= pages; i++) {
+        uint64_t action = (from + i) % (kept.end + 1);
+        if (action_line(action) != 5)
+            return action;
+    }
+    return 0;
+}
+
+/* A decision of an action: mostly the one that its fate says, if it is decided. */
+static void decide_again(struct call *q, uint64_t action) {
+    int is_aborted = action && kept.fates[action - 1] == 3;
+    q->kind = is_aborted ? ABORT : COMMIT;
+    q->action = action;
+    if (below(6) == 0)
+        q->kind = is_aborted ? COMMIT : ABORT;
+    if (below(6) == 0)
+        q->kind = TEST;
+}
+
 /* Mostly what a careful caller would ask: a file that there is, an undecided action, a start above the last. */
 static struct ask random_ask(void) {
     struct ask a = {{(enum kind)below(KINDS), 1 + below(FILES), below(20), random_action(), below(36), NULL}, {0}};
@@ -196,6 +278,8 @@ static struct ask random_ask(void) {
         q->time = UINT64_MAX;
     if (q->kind == ABORT && below(2))
         q->kind = COMMIT;
+    if (below(20) == 0)
+        decide_again(q, known_action());
     for (size_t i = 0; i < q->length; i++)
         a.value[i] = (uint8_t)below(256);
     return a;
@@ -250,6 +334,33 @@ static void damage(void) {
     }
 }
 
+/* An action whose fate, outcome or opening no call has left so, and a decision of it. */
+static void mislead(struct call *q) {
+    uint64_t action = known_action();
+    if (action == 0)
+        return;
+    switch (below(5)) {
+    case 0:
+        kept.fates[action - 1] = (uint8_t)(1 + below(3));
+        break;
+    case 1:
+        kept.fates[action - 1] = 2;
+        break;
+    case 2: /* one more outcome */
+        if (kept.end == pages || !is_blank(kept.end + 1))
+            return;
+        kept.end++;
+        plain_pack(page_at(kept.end), 3, 1 + (int)below(2), 0, action, 0, 0, none, kept.end);
+        break;
+    case 3: /* the outcome may then lie above the end */
+        kept.end = action + below(kept.end - action + 1);
+        break;
+    default:
+        page_at(action)[below(PAGE)] ^= (uint8_t)(1 + below(255));
+    }
+    decide_again(q, action);
+}
+
 /* The call that was made is cut: what stood before it comes back from some byte of its page on. */
 static int cut_is_right(uint64_t place) {
     int n = cut_page(place, before + PAGE * (place - 1));
@@ -270,10 +381,13 @@ static int calls_alike(int wild) {
             if (below(2))
                 q.call.kind = READ, q.call.time = below(3), q.call.action = 0;
         }
+        if (wild && below(20) == 0)
+            mislead(&q.call);
+        uint64_t end = kept.end;
         if (!asked_alike(&q, a))
             return 0;
-        int is_cut = a[WHICH] == STORED && below(15) == 0;
-        if (is_cut && !cut_is_right(a[FIRST]))
+        int is_cut = kept.end > end && below(15) == 0;
+        if (is_cut && !cut_is_right(kept.end))
             return 0;
         if ((is_cut || below(60) == 0) && !opened_alike(below(8), wild, &refused))
             return 0;
@@ -314,7 +428,8 @@ static int large_alike(int wild) {
     return 1;
 }
 
-/* Every answer, every refusal that these calls can give and every cut has come often; 2 is open's. */
+/* Every answer, every refusal that these calls can give, every cut and all that a decided action can meet has come often; 2 is
+   open's. */
 static int all_seen(void) {
     for (int n = 1; n <= 13; n++)
         if (n != 2 && seen_refusal[n] < 20)
@@ -325,6 +440,9 @@ static int all_seen(void) {
     for (int n = 0; n <= PAGE + 1; n++)
         if (seen_cut[n] < 20)
             return printf("a cut after %d bytes came %d times\n", n, seen_cut[n]), 0;
+    for (int n = 0; n < MET; n++)
+        if (seen_met[n] < 100)
+            return printf("%s came %d times\n", met[n], seen_met[n]), 0;
     return 1;
 }
 
@@ -335,7 +453,7 @@ int main(int count, char **words) {
     told("runs on damaged sheets, fates, rows and states", runs_alike(1));
     told("runs with cuts on more than 1,024 pages", large_alike(0));
     told("runs with damage on more than 1,024 pages", large_alike(1));
-    told("every answer, refusal and cut seen", all_seen());
+    told("every answer, refusal and cut seen, and all that a decided action can meet", all_seen());
     printf("%d passed, %d failed\n", passed, failed);
     return failed != 0;
 }

@@ -197,6 +197,7 @@ static void calls(void) {
                           {READ, 3, LATE, 1, 0, NULL},
                           {WRITE, 3, LATE, 1, 33, (const uint8_t *)text}, /* refused */
                           {COMMIT, 0, 0, 1, 0, NULL},
+                          {COMMIT, 0, 0, 1, 0, NULL}, /* asked again */
                           {BEGIN, 0, 0, 0, 0, NULL},
                           {WRITE, 3, LATE + 1, 4, 2, (const uint8_t *)short_text},
                           {TEST, 0, 0, 4, 0, NULL},
@@ -267,13 +268,16 @@ static int says(int output, const char *lines) {
 
 static int feed(int input, const char *lines) { return write(input, lines, strlen(lines)) == (ssize_t)strlen(lines); }
 
-/* A conversation, watched from its second append on: the first one shows where the sheet is. The last command meets a cut that is
-   waiting; it appends nothing. The sheet is the program's only until its end, so that it is watched up to the last reply. */
+/* A conversation, watched from its second append on: the first one shows where the sheet is. The last two commands meet a cut that
+   is waiting; like the second commit they append nothing. The sheet is the program's only until its end, so that it is watched up
+   to the last reply. */
 static int talked(const char *program) {
     static const char rest[] = "write 3 1234567890 1 all-thirty-two-bytes-of-a-value.\nread 3 1234567890 1\nwrite 3 1234567891 1 C\n"
-                               "commit 1\nbegin\nwrite 3 1234567891 4 AB\ntest 4\nabort 4\nopen\ncut 20\nread 3 1234567890 0\n";
-    static const char replies[] = "write 2\nread 2 1234567890 all-thirty-two-bytes-of-a-value.\nno 8 1\ncommit 3\nbegin 4\nwrite 5\n"
-                                  "test 1\nabort 6\nopen 6 0\ncut 20\nread 2 1234567890 all-thirty-two-bytes-of-a-value.\n";
+                               "commit 1\ncommit 1\nbegin\nwrite 3 1234567891 4 AB\ntest 4\nabort 4\nopen\ncut 20\n"
+                               "read 3 1234567890 0\nabort 4\n";
+    static const char replies[] = "write 2\nread 2 1234567890 all-thirty-two-bytes-of-a-value.\nno 8 1\ncommit 3\ncommit 3\n"
+                                  "begin 4\nwrite 5\ntest 1 0\nabort 6\nopen 6 0\ncut 20\n"
+                                  "read 2 1234567890 all-thirty-two-bytes-of-a-value.\nabort 6\n";
     int input, output;
     pid_t process = started(program, &input, &output);
     if (process < 0 || ptrace(PTRACE_CONT, process, NULL, NULL) != 0 || !feed(input, "open\nbegin\n")

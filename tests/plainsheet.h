@@ -40,14 +40,20 @@ static uint64_t end_of(void) {
     return end;
 }
 
+/* The place of an action's newest sealed outcome up to a place, 0 if there is none. */
+static uint64_t outcome_of(uint64_t action, uint64_t upto) {
+    for (uint64_t p = upto; p > 0; p--)
+        if (action_of(p) == action && is_kind(p, 3))
+            return p;
+    return 0;
+}
+
 /* The fate of an action by the newest outcome up to a place. */
 static uint8_t fate_of(uint64_t action, uint64_t upto) {
     if (action < 1 || action > upto || !is_opening(action))
         return 0;
-    for (uint64_t p = upto; p > action; p--)
-        if (action_of(p) == action && is_kind(p, 3))
-            return (uint8_t)(page_at(p)[1] + 1);
-    return 1;
+    uint64_t place = outcome_of(action, upto);
+    return place ? (uint8_t)(page_at(place)[1] + 1) : 1;
 }
 
 /* A file's row by the fates that are lent, or by the pages up to the end if none are. */

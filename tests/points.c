@@ -1,6 +1,7 @@
 /* Document 01's points that the command program cannot show, at the calls themselves: a cold row that stays cold under refusals 1 to
    6 and is rebuilt under the later ones, damaged rows, a page above the end that is not blank, a link that leads nowhere, as many
-   links as a sheet can have, and an outcome that is lost on two pages. Prints a line for each and 'N passed, M failed'. */
+   links as a sheet can have, an outcome that is lost on two pages, and a decision that is asked again, also with fates and sheets that
+   no call has left so. Prints a line for each and 'N passed, M failed'. */
 #include "door.h"
 #include "plain.h"
 #include "tell.h"
@@ -182,12 +183,125 @@ static void outcomes(void) {
     told("cut after none or all, it is not", !outcome_is_lost(0) && !outcome_is_lost(PAGE));
 }
 
+/* Whether a call of an action has this answer, and leaves every byte and number that is lent, and the state, as they were. */
+static int only_answers(enum kind kind, uint64_t action, uint64_t which, uint64_t first, uint64_t second) {
+    uint8_t sheet_was[sizeof sheet], fates_was[sizeof fates];
+    uint64_t rows_was[NUMBERS], got[TOLD], must[TOLD] = {which, first, second, 0, 0, end, 0, undecided};
+    memcpy(sheet_was, sheet, sizeof sheet);
+    memcpy(fates_was, fates, sizeof fates);
+    memcpy(rows_was, rows, sizeof rows);
+    make_call(lent(), (struct call){.kind = kind, .action = action}, got);
+    return !memcmp(got, must, sizeof got) && !memcmp(sheet_was, sheet, sizeof sheet) && !memcmp(fates_was, fates, sizeof fates)
+           && !memcmp(rows_was, rows, sizeof rows);
+}
+static int again(enum kind kind, uint64_t action, uint64_t place) { return only_answers(kind, action, STORED, place, 0); }
+static int is_6(enum kind kind, uint64_t action) { return only_answers(kind, action, REFUSED, 6, 0); }
+static int tells(uint64_t action, uint64_t fate, uint64_t place) { return only_answers(TEST, action, FATE, fate, place); }
+
+/* Action 7 is decided at page 9, with its token in a rebuilt row. */
+static int decide_first(enum kind kind) {
+    uint64_t got[TOLD];
+    set_up();
+    rows[0] = 1, rows[1] = 5, rows[2] = 20, rows[3] = 8, rows[4] = 30;
+    make_call(lent(), (struct call){.kind = kind, .action = 7}, got);
+    end = got[END], undecided = got[UNDECIDED];
+    return got[WHICH] == STORED && got[FIRST] == 9 && end == 9 && undecided == 0;
+}
+
+static void asked_again(void) {
+    told("a commit asked again answers the same place and changes nothing", decide_first(COMMIT) && again(COMMIT, 7, 9));
+    told("an older one too, its row rebuilt or cold", again(COMMIT, 4, 6) && (set_up(), again(COMMIT, 4, 6)));
+    told("abort after commit is refused 6", decide_first(COMMIT) && is_6(ABORT, 7) && is_6(ABORT, 4));
+    told("an abort asked again answers the same place and changes nothing", decide_first(ABORT) && again(ABORT, 7, 9));
+    told("commit after abort is refused 6", is_6(COMMIT, 7));
+    told("test tells fate and place", tells(7, 3, 9) && tells(4, 2, 6) && tells(1, 2, 3) && (set_up(), tells(7, 1, 0)));
+    decide_first(COMMIT);
+    sheet[PAGE * 9] = 1; /* torn */
+    end = PAGES;
+    told("on a full sheet too", again(COMMIT, 7, 9) && again(COMMIT, 1, 3) && is_6(ABORT, 7));
+    set_up();
+    sheet[PAGE * LAST + 5] = 1;
+    told("and where the page above the end is not blank", again(COMMIT, 4, 6) && is_6(ABORT, 4));
+    undecided = LAST + 1;
+    told("but not before refusal 1", only_answers(COMMIT, 4, REFUSED, 1, 0) && only_answers(TEST, 4, REFUSED, 1, 0));
+}
+
+/* The fate says which decision is the same one, the sheet up to the end where it lies. */
+static void false_fates(void) {
+    decide_first(COMMIT);
+    fates[6] = 3;
+    told("a fate of 3 over a commit record: abort is answered, commit refused 6", again(ABORT, 7, 9) && is_6(COMMIT, 7) && tells(7, 3, 9));
+    fates[6] = 1;
+    told("a fate of 1 over a commit record: test tells both", tells(7, 1, 9));
+    set_up();
+    rows[0] = 1, rows[1] = 5, rows[2] = 20, rows[3] = 8, rows[4] = 30;
+    fates[6] = 2;
+    told("a fate of 2 without an outcome: place 0, and the token stays in its row", again(COMMIT, 7, 0) && tells(7, 2, 0));
+    set_up();
+    put(3, 2, 0, 4, 0, 0, 9);
+    end = 9;
+    told("of two outcomes the newest, whatever it decided", again(COMMIT, 4, 9) && is_6(ABORT, 4) && tells(4, 2, 9));
+    end = LAST;
+    told("an outcome above the end does not count", again(COMMIT, 4, 6) && (end = 5, again(COMMIT, 4, 0) && tells(4, 2, 0)));
+    set_up();
+    sheet[PAGE * 5 + 63] = 0;
+    told("nor does a torn one", again(COMMIT, 4, 0) && tells(4, 2, 0));
+    set_up();
+    sheet[PAGE * 3 + 30] = 1;
+    told("nor one whose opening is bad", again(COMMIT, 4, 0) && tells(4, 2, 0) && again(COMMIT, 1, 3));
+}
+
+/* The longest way down: 65,536 pages, and the outcome at page 2, or at the last. */
+static int told_place(uint64_t place) {
+    uint64_t number[NUMBERS] = {0}, told[TOLD];
+    struct lent l = {chain, sizeof chain, chain_fates, MOST_PAGES, number, NUMBERS, MOST_PAGES, 0, 0};
+    set_chain(MOST_PAGES);
+    plain_pack(chain + PAGE * (place - 1), 3, 1, 0, 1, 0, 0, none, place);
+    make_call(l, (struct call){.kind = TEST, .action = 1}, told);
+    int is_told = told[WHICH] == FATE && told[FIRST] == 2 && told[SECOND] == place;
+    make_call(l, (struct call){.kind = COMMIT, .action = 1}, told);
+    return is_told && told[WHICH] == STORED && told[FIRST] == place;
+}
+
+/* Three pages, begin, a commit that is cut after some bytes, an opening, and two commits more: where the action's one outcome lies
+   in the end, 0 if a call said otherwise or there are two. */
+static uint64_t one_outcome(int bytes) {
+    uint8_t three[3 * PAGE] = {0}, three_fates[3] = {0};
+    uint64_t number[NUMBERS] = {0}, told[TOLD], place = 0;
+    struct lent l = {three, sizeof three, three_fates, 3, number, NUMBERS, 0, 0, 0};
+    enum kind kinds[] = {BEGIN, COMMIT, OPEN, COMMIT, COMMIT};
+    for (int i = 0; i < 5; i++) {
+        make_call(l, (struct call){.kind = kinds[i], .action = 1}, told);
+        l.end = told[END], l.undecided = told[UNDECIDED];
+        if (i == 1)
+            memset(three + PAGE + bytes, 0, (size_t)(PAGE - bytes));
+        if (told[WHICH] == REFUSED || (i == 4 && told[FIRST] != place))
+            return 0;
+        place = told[FIRST];
+    }
+    int count = 0;
+    for (uint64_t p = 1; p <= 3; p++)
+        count += three[PAGE * (p - 1)] == 3 && plain_fits(three + PAGE * (p - 1), p, 2);
+    return count == 1 ? place : 0;
+}
+
+static void lost_replies(void) {
+    int one = one_outcome(0) == 2 && one_outcome(PAGE) == 2;
+    for (int bytes = 1; bytes < PAGE; bytes++)
+        one = one && one_outcome(bytes) == 3;
+    told("a commit cut after any byte and asked again: one outcome, the stored one or one now", one);
+    told("and on 65,536 pages, wherever it lies", told_place(2) && told_place(MOST_PAGES) && told_place(40000));
+}
+
 int main(void) {
     cold_rows();
     damaged_rows();
     pages_in_the_way();
     most_links();
     outcomes();
+    asked_again();
+    false_fates();
+    lost_replies();
     printf("%d passed, %d failed\n", passed, failed);
     return failed != 0;
 }
