@@ -158,11 +158,11 @@ module _ (s fs rs : List ℕ) (st : State) (a : ℕ) (c : Bool) where
   repeated-line h e =
       let k = and-true (acts fs (st .end) a) (eqb (nth 0 fs a) (fateNumber (verdict c))) (sym repeated-by ∙ e) in
       let n : nth 0 fs a ≡ fateNumber (verdict c) = eqb-true _ _ (k .1) in
-      rw (h, k .0, n) (go c)
+      rw (h, k .0, n, verdict-line c)
     where
-      go : (d : Bool) → cond (eqb (cond (eqb (fateNumber (verdict d)) 0) 5 (cond (eqb (fateNumber (verdict d)) 1) 0 6)) 0) (roomLine s (st .end) (length rs / rowLength) 1) (cond (eqb (fateNumber (verdict d)) 0) 5 (cond (eqb (fateNumber (verdict d)) 1) 0 6)) ≡ 6
-      go true = refl
-      go false = refl
+      verdict-line : (d : Bool) → _≡_ {A = ℕ} (cond (eqb (fateNumber (verdict d)) 0) 5 (cond (eqb (fateNumber (verdict d)) 1) 0 6)) 6
+      verdict-line true = refl
+      verdict-line false = refl
 
   on-line : lineOne (length s) (length fs) (length rs) (st .end) (st .undecided) ≡ true → (decideLine s fs rs st a ≡ 6 → ⊥)
       → on w (decide a c) ≡ cond (eqb (decideLine s fs rs st a) 0) stored (refuse (decideLine s fs rs st a) 0 w)

@@ -1,5 +1,5 @@
--- Document 01's listing as a conversation: it keeps one file count, so it is a run. And a short one, computed to its reply: the text that
--- it shows was typed.
+-- Document 01's listing as a conversation: it keeps one file count, so it is a run. And two short ones, computed to their replies: the text
+-- that one shows was typed; and a commit that is asked again while a cut waits is answered, and the cut waits on.
 use Prim.Native.Nat.{ℕ}
 use mathlib.Core.Path.{_≡_, refl}
 use mathlib.Core.List.{List, [], _∷_}
@@ -14,7 +14,7 @@ use Rattle.commands.specs.declared.printing.Reply as reply
 use Rattle.page.specs.Table.{head, front, packed, fieldsOf, lowest, highest, within, between, meetsRules, isPageOf, torn}
 use Rattle.page.specs.Answers.{inBounds, tested}
 use Rattle.recovery.specs.Places.{tabulate}
-use Rattle.recovery.specs.Log.{fateOf, imagesOf, versionsOf, tokenOf}
+use Rattle.recovery.specs.Log.{fateOf, outcomeOf, imagesOf, versionsOf, tokenOf}
 use Rattle.recovery.specs.Sheet.{decoded, sealed, pages}
 use Rattle.recovery.specs.World.{down, warmRow, rowHolds, lentRight, endOf, highestBad, undecidedOf, coldRows, opened}
 use Rattle.recovery.specs.Lent.{rowsOf, flat, sizesRight, openLeaves}
@@ -23,7 +23,7 @@ use Rattle.calls.specs.Walk.{follow}
 use Rattle.calls.specs.Calls.{eachRow, call}
 use Rattle.calls.specs.Leaves.{packedEntry, withPage, callLeaves}
 use Rattle.desk.specs.Wording.{callReply, openReply}
-use Rattle.desk.specs.Conversation.{startedFor, openedFor, calledFor, acted}
+use Rattle.desk.specs.Conversation.{After, startedFor, openedFor, calledFor, acted}
 use Rattle.program.specs.Typing.{WasTyped, textOf}
 use Rattle.program.proofs.Proved.{program}
 use Rattle.program.proofs.TextTyped.{reads-typed}
@@ -77,3 +77,17 @@ asks-read = refl
 -- the text that it shows was typed
 pub short-typed : WasTyped short 3 10 (textOf (turned (memoryAfter 8 (replicate 256 0) (replicate 1280 0) short) asks))
 short-typed = reads-typed 8 refl (replicate 256 0) (replicate 1280 0) refl short asks 3 10 1 11 2 10 2 short-keeps asks-read shown-short
+
+-- commit 1, and: open, begin, commit 1, cut 20
+abbrev again : List ℕ
+again = 99 ∷ 111 ∷ 109 ∷ 109 ∷ 105 ∷ 116 ∷ 32 ∷ 49 ∷ []
+
+abbrev cutWaits : List (List ℕ)
+cutWaits = (111 ∷ 112 ∷ 101 ∷ 110 ∷ []) ∷ (98 ∷ 101 ∷ 103 ∷ 105 ∷ 110 ∷ []) ∷ again ∷ (99 ∷ 117 ∷ 116 ∷ 32 ∷ 50 ∷ 48 ∷ []) ∷ []
+
+abbrev asked : After
+asked = turned (memoryAfter 8 (replicate 256 0) (replicate 1280 0) cutWaits) again
+
+pub cut-waits-on : (asked .turn .reply ≡ reply.Reply.Committed 2) × (asked .turn .desk .cut ≡ 20)
+unfolding words numberOf three isText alone withOne withTwo withThree withText commandOf parsed openName beginName writeName readName testName commitName abortName cutName callReply openReply startedFor openedFor calledFor acted head front packed fieldsOf lowest highest within between meetsRules isPageOf torn inBounds tested tabulate fateOf outcomeOf imagesOf versionsOf tokenOf decoded sealed pages down warmRow rowHolds lentRight endOf highestBad undecidedOf coldRows opened rowsOf flat sizesRight openLeaves follow eachRow call packedEntry withPage callLeaves isRefused
+cut-waits-on = (refl, refl)

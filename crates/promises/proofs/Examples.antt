@@ -319,6 +319,9 @@ decided-only-met = promised 12 2 .decided-only (at late) 1 3 true late-run late-
 pub asked-again-met : (Stored 3 ≡ Stored 3) × (sheetOf (after (boxAt late) (calls (decide 1 true))) ≡ sheetOf (boxAt late))
 asked-again-met = promised 12 2 .asked-again (at late) 1 3 true (Stored 3) late-run decided-only-met late-again
 
+pub again-unseen-met : heard (after (boxAt late) (calls (decide 1 true))) (at looks) ≡ heard (boxAt late) (at looks)
+again-unseen-met = promised 12 2 .again-unseen (at late) (at looks) 1 3 true (is-run 12 2 (late ++ looks) refl) decided-only-met
+
 pub opposite-refused-met : Refused 6 0 ≡ Refused 6 0
 opposite-refused-met = promised 12 2 .opposite-refused (at late) 1 3 true (Refused 6 0) late-run decided-only-met late-opposite
 

@@ -49,9 +49,8 @@ pub struct State {
     pub undecided: u64,
 }
 
-// What a call answers: a refusal's number and place; open's end and open count; the last four numbers of a row; the place that
-// was stored; place, start and length of a value; none; a fate, and the place of
-// the newest outcome.
+// What a call answers: a refusal's number and place; open's end and open count; the last four numbers of a row; the place of
+// the call's page; place, start and length of a value; none; a fate, and the place of the newest outcome.
 pub enum Answer {
     Refused(u64, u64),
     Opened(u64, u64),

@@ -1,6 +1,7 @@
--- A run of a box is answered as the object model's, event by event; so rebuilds are not seen.
+-- A run of a box is answered as the object model's, event by event; so calls that leave the model as it is are not seen, rebuilds among
+-- them.
 use Prim.Native.Nat.{ℕ}
-use mathlib.Core.Path.{_≡_, refl, ap, _∙_}
+use mathlib.Core.Path.{_≡_, refl, sym, ap, _∙_}
 use mathlib.Core.List.{List, [], _∷_}
 use mathlib.Core.Bool.{Bool, true, false, cond, _&&_, false≢true}
 use mathlib.Core.Option.{none}
@@ -8,7 +9,7 @@ use lib.ListN.{length, replicate, length-replicate}
 use lib.Dec.{leb}
 use Rattle.encoding.proofs.Logic.{by-test}
 use Rattle.calls.specs.Calls.{Call, begin, write, read, test, decide, rebuild}
-use Rattle.promises.specs.Runs.{Box, Event, calls, opens, cuts, answerTo, after, numbered, heard, AllAllowed}
+use Rattle.promises.specs.Runs.{Box, on, off, Event, calls, opens, cuts, callOn, answerTo, after, numbered, heard, Typed, AllAllowed}
 use Rattle.promises.specs.Model.{Model, Reply, modelCall, isLent, modelAnswer, modelAfter, modelHeard}
 use Rattle.promises.specs.Promises.{isRebuild, others, othersHeard}
 use Rattle.promises.proofs.boxes.Boxes.{isOn, Reached}
@@ -24,6 +25,12 @@ module _ (n files : ℕ) where
       ap (λ y. numbered y ∷ heard (after b e) es) (answer-is n files b r e (t .0))
       ∙ ap (λ ys. numbered (modelAnswer (isOn b) (r .model) e) ∷ ys)
       (heard-alike (after b e) (reached-next n files b r e (t .0)) es (t .1) ∙ ap (λ c. modelHeard c (modelAfter (isOn b) (r .model) e) es) (power-is n files b r e (t .0)))
+
+  -- a call that leaves the model as it is, is not seen
+  pub idle-unseen : (b : Box) (r : Reached n files b) (k : Call) → Typed k → modelCall (r .model) k .1 ≡ r .model → (es : List Event) → AllAllowed n files es → heard (after b (calls k)) es ≡ heard b es
+  idle-unseen (off s) r k t e es al = refl
+  idle-unseen (on m) r k t e es al =
+      heard-alike (on (callOn m k)) (reached-next n files (on m) r (calls k) t) es al ∙ ap (λ x. modelHeard true x es) e ∙ sym (heard-alike (on m) r es al)
 
   -- ---- rebuilds
 

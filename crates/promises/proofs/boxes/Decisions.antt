@@ -103,7 +103,7 @@ module _ (n files : ℕ) where
   by-other m false p k = refl
 
   module _ (a : ℕ) (c : Bool) (p : ℕ) where
-    same-reply : (b : Box) (d : DecidedIn b a c p) → modelCall (d .box .model) (decide a c) ≡ (Stored p, d .box .model)
+    pub same-reply : (b : Box) (d : DecidedIn b a c p) → modelCall (d .box .model) (decide a c) ≡ (Stored p, d .box .model)
     same-reply b d = rw (status-is b a c p d) (by-same (d .box .model) c p _)
 
     pub again-answer : (b : Box) → DecidedIn b a c p → (x : Answer) → answerTo b (calls (decide a c)) ≡ some x → x ≡ Stored p
