@@ -1,5 +1,5 @@
-//! The store as document 01 tells it, at the level of histories: each file has its versions and at most one token, each action
-//! a fate, and every append uses up one place. There are no bytes here, no rows and no links.
+//! The store as documents 01 and 02 tell it, at the level of histories: each file has its versions and at most one token, each action
+//! a fate and the place at which it was decided, and every append uses up one place. There are no bytes here, no rows and no links.
 
 use std::collections::BTreeMap;
 

@@ -1,4 +1,4 @@
-//! Conversations whose answers document 01 fixes: its listing, its points, and places that are easily read otherwise. Slashes
+//! Conversations whose answers documents 01 and 02 fix: the listing, the points, and places that are easily read otherwise. Slashes
 //! part lines, as in 01; `~` stands for a byte that a source line does not show.
 
 pub struct Point {

@@ -1,4 +1,4 @@
-/* A sheet in plain C, read page by page as document 01 says it: what is sealed, the fates, a file's row, an opening. Places are
+/* A sheet in plain C, read page by page as document 01 says it: what is sealed, the fates, where an outcome lies, a file's row, an opening. Places are
    counted from 1. */
 #ifndef PLAINSHEET_H
 #define PLAINSHEET_H

@@ -1,4 +1,4 @@
-/* Document 01's points that the command program cannot show, at the calls themselves: a cold row that stays cold under refusals 1 to
+/* Points of documents 01 and 02 that the command program cannot show, at the calls themselves: a cold row that stays cold under refusals 1 to
    6 and is rebuilt under the later ones, damaged rows, a page above the end that is not blank, a link that leads nowhere, as many
    links as a sheet can have, an outcome that is lost on two pages, and a decision that is asked again, also with fates and sheets that
    no call has left so. Prints a line for each and 'N passed, M failed'. */

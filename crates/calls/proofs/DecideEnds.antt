@@ -23,7 +23,7 @@ use Rattle.recovery.specs.declared.Done.{Done}
 use Rattle.recovery.specs.World.{World, Result, refuse, fateNumber, fateFrom, outcomeAt}
 use Rattle.recovery.specs.Lent.{rowLength, rowsOf, lent, refused, leftBy}
 use Rattle.recovery.specs.Steps.{lineOne, outcomeIn, refusal}
-use Rattle.calls.specs.Calls.{decide, on, append, settled, eachRow, onDecide, isDecidedAs, isRepeated, forUndecided}
+use Rattle.calls.specs.Calls.{decide, on, append, settled, eachRow, onDecide, isDecidedAs, ifUndecided, forUndecided}
 use Rattle.calls.specs.Leaves.{packedEntry, withPage, callLeaves}
 use Rattle.calls.specs.LineSteps.{knownFate, actionLine, roomLine}
 use Rattle.calls.specs.DecideSteps.{decideLine, decidedAgain, settledRows}
@@ -124,6 +124,10 @@ module _ (s fs rs : List ℕ) (st : State) (a : ℕ) where
 
 -- ---- the ends
 
+joined : (a b : Bool) (x y z : Result) → cond a (cond b x y) z ≡ cond (a && b) x (cond a y z)
+joined true b x y z = refl
+joined false b x y z = refl
+
 two-lines : (k : Result) (w : World) (x y : ℕ)
     → cond (eqb x 0) (cond (eqb y 0) k (refuse y 0 w)) (refuse x 0 w) ≡ cond (eqb (cond (eqb x 0) y x) 0) k (refuse (cond (eqb x 0) y x) 0 w)
 two-lines k w x y = go (eqb x 0) refl
@@ -149,14 +153,18 @@ module _ (s fs rs : List ℕ) (st : State) (a : ℕ) (c : Bool) where
       (room-by (length rs / rowLength) s fs (rowsOf rs) (st .end) (st .floor) (st .undecided) 1 (omega arith) stored)
       ∙ two-lines stored w (actionLine fs (st .end) a) (roomLine s (st .end) (length rs / rowLength) 1))
 
-  -- asked again: line 6 would refuse it
-  repeated-by : isRepeated w a c ≡ (acts fs (st .end) a && eqb (nth 0 fs a) (fateNumber (verdict c)))
-  repeated-by = ap (λ b. acts fs (st .end) a && b) (decided-as c (nth 0 fs a))
+  -- asked again, after line 5: line 6 would refuse it
+  abbrev again : Bool
+  again = acts fs (st .end) a && eqb (nth 0 fs a) (fateNumber (verdict c))
 
-  repeated-line : lineOne (length s) (length fs) (length rs) (st .end) (st .undecided) ≡ true → isRepeated w a c ≡ true → decideLine s fs rs st a ≡ 6
+  decide-by : on w (decide a c) ≡ cond again (Stored (outcomeAt w a), w) (forUndecided w a (onDecide w a c))
+  decide-by = ap (λ b. cond (acts fs (st .end) a) (cond b (Stored (outcomeAt w a), w) (ifUndecided w a (onDecide w a c))) (refuse 5 0 w)) (decided-as c (nth 0 fs a))
+      ∙ joined (acts fs (st .end) a) (eqb (nth 0 fs a) (fateNumber (verdict c))) _ _ _
+
+  again-line : lineOne (length s) (length fs) (length rs) (st .end) (st .undecided) ≡ true → again ≡ true → decideLine s fs rs st a ≡ 6
   unfolding decideLine actionLine knownFate
-  repeated-line h e =
-      let k = and-true (acts fs (st .end) a) (eqb (nth 0 fs a) (fateNumber (verdict c))) (sym repeated-by ∙ e) in
+  again-line h e =
+      let k = and-true (acts fs (st .end) a) (eqb (nth 0 fs a) (fateNumber (verdict c))) e in
       let n : nth 0 fs a ≡ fateNumber (verdict c) = eqb-true _ _ (k .1) in
       rw (h, k .0, n, verdict-line c)
     where
@@ -167,19 +175,22 @@ module _ (s fs rs : List ℕ) (st : State) (a : ℕ) (c : Bool) where
   on-line : lineOne (length s) (length fs) (length rs) (st .end) (st .undecided) ≡ true → (decideLine s fs rs st a ≡ 6 → ⊥)
       → on w (decide a c) ≡ cond (eqb (decideLine s fs rs st a) 0) stored (refuse (decideLine s fs rs st a) 0 w)
   on-line h n =
-      by-test (λ (x : Result). x ≡ cond (eqb (decideLine s fs rs st a) 0) stored (refuse (decideLine s fs rs st a) 0 w)) (isRepeated w a c)
-      {x = (Stored (outcomeAt w a), w)} {y = forUndecided w a (onDecide w a c)} (λ e. absurd (n (repeated-line h e))) (λ e. first-line h)
+      decide-by
+      ∙ by-test (λ (x : Result). x ≡ cond (eqb (decideLine s fs rs st a) 0) stored (refuse (decideLine s fs rs st a) 0 w)) again
+      {x = (Stored (outcomeAt w a), w)} {y = forUndecided w a (onDecide w a c)} (λ e. absurd (n (again-line h e))) (λ e. first-line h)
 
   pub decide-again : (n : ℕ) → n ≡ decideLine s fs rs st a → n ≡ 6 → (d : Done) → d ≡ decidedAgain s fs (length rs / rowLength) st a c → leftBy d s fs rs ≡ callLeaves s fs rs st (decide a c)
   unfolding decidedAgain outcomeIn
   decide-again n e z d hd =
       let k = line-6 s fs rs st a (sym e ∙ z) in
-      ap (λ (y : Done). leftBy y s fs rs) hd ∙ go (k .fits) (eqb (nth 0 fs a) (fateNumber (verdict c))) (repeated-by ∙ rw (k .acts-is))
+      ap (λ (y : Done). leftBy y s fs rs) hd ∙ go (k .fits) (k .acts-is) (eqb (nth 0 fs a) (fateNumber (verdict c))) refl
     where
-      go : lineOne (length s) (length fs) (length rs) (st .end) (st .undecided) ≡ true → (b : Bool) → isRepeated w a c ≡ b
+      go : lineOne (length s) (length fs) (length rs) (st .end) (st .undecided) ≡ true → acts fs (st .end) a ≡ true → (b : Bool) → eqb (nth 0 fs a) (fateNumber (verdict c)) ≡ b
           → leftBy (cond b (record { answer = Stored (outcomeAt w a); state = st }) (refusal 6 st)) s fs rs ≡ callLeaves s fs rs st (decide a c)
-      go h true q = sym (again-unchanged s fs rs st a c h q)
-      go h false q = ends-same s fs rs st (decide a c) h (Refused 6 0) (rw q (first-line h ∙ rw (sym e ∙ z)))
+      go h k true q = sym (again-unchanged s fs rs st a c h k (decided-as c (nth 0 fs a) ∙ q))
+      go h k false q =
+          let n : again ≡ false = rw (k, q) in
+          ends-same s fs rs st (decide a c) h (Refused 6 0) (decide-by ∙ ap (λ b. cond b (Stored (outcomeAt w a), w) (forUndecided w a (onDecide w a c))) n ∙ first-line h ∙ rw (sym e ∙ z))
 
   -- a line refuses
   pub decide-refused : (n : ℕ) → n ≡ decideLine s fs rs st a → (n ≡ 6 → ⊥) → (n ≡ 0 → ⊥) → refused n 0 s fs rs st ≡ callLeaves s fs rs st (decide a c)

@@ -21,7 +21,7 @@ use Rattle.recovery.specs.World.{World, Result, refuse, entryAt, isBlank, withR
 use Rattle.calls.specs.Walk.{Walk, met, nothing, lost}
 use Rattle.calls.specs.Lines.{lines, among}
 use Rattle.calls.specs.Leaves.{padded, valueAt}
-use Rattle.calls.specs.Calls.{Call, begin, write, read, test, decide, rebuild, forFile, forAction, forUndecided, hasAction, isDecided, hasRoom, append, store, onBegin, onWrite, onRead, onToken, onVersions, answerWalk, actionOf, versionAnswer, readCurrent, readToken, reaches, walkFrom, imageOf, settled, eachRow, onDecide, isRepeated, on, call}
+use Rattle.calls.specs.Calls.{Call, begin, write, read, test, decide, rebuild, forFile, forAction, ifUndecided, forUndecided, hasAction, isDecided, hasRoom, append, store, onBegin, onWrite, onRead, onToken, onVersions, answerWalk, actionOf, versionAnswer, readCurrent, readToken, reaches, walkFrom, imageOf, settled, eachRow, onDecide, isDecidedAs, unlessDecided, on, call}
 
 -- the four ways of a call, from one world
 pub record Ways (P : Result → Type 0) (asked : Call) (w : World) : Type 0 where
@@ -56,9 +56,11 @@ module _ (P : Result → Type 0) where
     actions : Has 5 → (a : ℕ) (k : Result) → P k → P (forAction w a k)
     actions l5 a k q = either (hasAction w a) k (refuse 5 0 w) q (h .refusing 5 0 l5)
 
+    unlesses : Has 6 → (a : ℕ) (k : Result) → P k → P (ifUndecided w a k)
+    unlesses l6 a k q = either (isDecided (fateAt w a)) (refuse 6 0 w) k (h .refusing 6 0 l6) q
+
     undecideds : Has 5 → Has 6 → (a : ℕ) (k : Result) → P k → P (forUndecided w a k)
-    undecideds l5 l6 a k q =
-        actions l5 a (cond (isDecided (fateAt w a)) (refuse 6 0 w) k) (either (isDecided (fateAt w a)) (refuse 6 0 w) k (h .refusing 6 0 l6) q)
+    undecideds l5 l6 a k q = actions l5 a (ifUndecided w a k) (unlesses l6 a k q)
 
     -- line 3
     files : Has 3 → (f : ℕ) (k : Result) → P k → P (forFile w f k)
@@ -155,8 +157,10 @@ module _ (P : Result → Type 0) (w : World) where
   past-line-1 (test a) h g l =
       let x : Answer = Told (fateNumber (fateAt w a)) (outcomeAt w a) in actions P (test a) w h refl a (x, w) (h .answering x refl)
   past-line-1 (decide a c) h g l =
-      either P (isRepeated w a c) (Stored (outcomeAt w a), w) (forUndecided w a (onDecide w a c)) (h .answering (Stored (outcomeAt w a)) refl)
-      (undecideds P (decide a c) w h refl refl a (onDecide w a c) (decides P w a c h))
+      let x : Answer = Stored (outcomeAt w a) in
+      let k : Result = ifUndecided w a (onDecide w a c) in
+      actions P (decide a c) w h refl a (unlessDecided w a c (onDecide w a c))
+      (either P (isDecidedAs c (fateAt w a)) (x, w) k (h .answering x refl) (unlesses P (decide a c) w h refl a (onDecide w a c) (decides P w a c h)))
   past-line-1 (rebuild f) h g l =
       rw l (files P (rebuild f) w h refl f (answerRow (warmed w f) f (warmRow w f)) (row-answers P (warmed w f) f (warmRow w f) g))
 

@@ -1,5 +1,5 @@
--- The calls of the store over decoded pages, on all inputs, line by line in the order of document 01. docs/STORE.md has them
--- in words (The calls), and what each refusal means (Why a call says no).
+-- The calls of the store over decoded pages, on all inputs, line by line in the order of document 01, with the later requests that
+-- docs/CHANGES.md names. docs/STORE.md has them in words (The calls), and what each refusal means (Why a call says no).
 use mathlib.Core.List.{List, [], _∷_}
 use mathlib.Core.Bool.{Bool, true, false, cond, not, _&&_}
 use mathlib.Core.Option.{Option, some, none}
@@ -47,8 +47,11 @@ hasAction w a = leb 1 a && leb a (w .end) && isKnown (fateAt w a)
 abbrev pub forAction : World → ℕ → Result → Result
 forAction w a k = cond (hasAction w a) k (refuse 5 0 w)
 
+abbrev pub ifUndecided : World → ℕ → Result → Result
+ifUndecided w a k = cond (isDecided (fateAt w a)) (refuse 6 0 w) k
+
 abbrev pub forUndecided : World → ℕ → Result → Result
-forUndecided w a k = forAction w a (cond (isDecided (fateAt w a)) (refuse 6 0 w) k)
+forUndecided w a k = forAction w a (ifUndecided w a k)
 
 abbrev pub hasRoom : World → ℕ → Bool
 hasRoom w n = leb n (length (w .sheet) - w .end)
@@ -139,7 +142,7 @@ onToken w f time a r (some i) =
 abbrev pub onRead : World → ℕ → ℕ → ℕ → Row → Result
 onRead w f time a r = cond (rowHolds w f r) (onToken w f time a r (imageOf (entryAt w (r .token)))) (refuse 7 0 w)
 
--- ---- commit and abort, of an action that is not decided: lines 11, 12; and the rows that they change
+-- ---- commit and abort, asked for the first time: lines 11, 12; and the rows that they change
 
 abbrev pub decided : Bool → Row → Row
 decided true r = record { mark = r .mark; current = r .token; currentend = r .tokenend; token = 0; tokenend = 0 }
@@ -174,8 +177,9 @@ isDecidedAs c undecided = false
 isDecidedAs c committed = c
 isDecidedAs c aborted = not c
 
-abbrev pub isRepeated : World → ℕ → Bool → Bool
-isRepeated w a c = hasAction w a && isDecidedAs c (fateAt w a)
+-- the same decision is answered with the place of its outcome; line 6 is for the opposite one
+abbrev pub unlessDecided : World → ℕ → Bool → Result → Result
+unlessDecided w a c k = cond (isDecidedAs c (fateAt w a)) (Stored (outcomeAt w a), w) (ifUndecided w a k)
 
 -- ---- a call past line 1, and a call
 
@@ -187,7 +191,7 @@ on w (read f time a) =
     forFile w f (cond (eqb a 0) (onRead (withRow w f (warmRow w f)) f time a (warmRow w f))
     (forUndecided w a (onRead (withRow w f (warmRow w f)) f time a (warmRow w f))))
 on w (test a) = forAction w a (Told (fateNumber (fateAt w a)) (outcomeAt w a), w)
-on w (decide a c) = cond (isRepeated w a c) (Stored (outcomeAt w a), w) (forUndecided w a (onDecide w a c))
+on w (decide a c) = forAction w a (unlessDecided w a c (onDecide w a c))
 on w (rebuild f) = rebuilt w f
 
 unfoldable pub call : World → Call → Result

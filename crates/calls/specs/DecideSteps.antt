@@ -17,7 +17,7 @@ use Rattle.recovery.specs.declared.Answer.the-variants.{Stored}
 use Rattle.calls.specs.Calls.{decided, holdsToken, settled, eachRow}
 use Rattle.calls.specs.LineSteps.{actionLine, roomLine}
 
--- the line that refuses commit and abort, 0 if none does
+-- the first line that commit and abort meet, 0 if none; line 6 is met by a decision that is asked again too
 unfoldable pub decideLine : List ℕ → List ℕ → List ℕ → State → ℕ → ℕ
 decideLine s fates rows state a =
     cond (lineOne (length s) (length fates) (length rows) (state .end) (state .undecided))

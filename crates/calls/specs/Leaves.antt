@@ -1,6 +1,6 @@
 -- What a call leaves of what is lent: the one form of every call's contract.
 use mathlib.Core.List.{List, _++_}
-use mathlib.Core.Bool.{Bool, cond}
+use mathlib.Core.Bool.{cond}
 use Prim.Native.Nat.{ℕ, suc, _+_, _-_, _*_}
 use lib.ListN.{length, take, drop, replicate}
 use lib.Dec.{eqb}
@@ -8,7 +8,7 @@ use Rattle.page.specs.declared.Page.{Page}
 use Rattle.page.specs.Layout.{pageSize, valueSize}
 use Rattle.page.specs.Table.{packed}
 use Rattle.page.specs.Table as table
-use Rattle.recovery.specs.Log.{Image, Entry, blank, torn, bad, opening, image, outcome}
+use Rattle.recovery.specs.Log.{Entry, blank, torn, bad, opening, image, outcome}
 use Rattle.recovery.specs.declared.State.{State}
 use Rattle.recovery.specs.World.{World, Result, entryAt}
 use Rattle.recovery.specs.Lent.{Left, lent, whole, stateOf, flat, refused}

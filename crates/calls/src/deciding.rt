@@ -30,7 +30,7 @@ ghost use Rattle.calls.specs.Calls.{Call, decided};
 ghost use Rattle.calls.specs.Leaves.{callLeaves};
 ghost use Rattle.calls.specs.DecideSteps.{decideLine, decidedAgain, holdsTokenIn, settledRow, settledRows};
 
-// The line that refuses commit and abort, 0 if none does.
+// The first line that commit and abort meet, 0 if none; line 6 is met by a decision that is asked again too.
 fn decide_line(sheet: &[u8], fates: &[u8], rows: &[u64], state: State, action: u64) -> u64
     ensures { λ r. ⌜ r ≡ decideLine (now (sheet .entry)) (now (fates .entry)) (now (rows .entry)) state action ⌝ }
 {

@@ -10,8 +10,8 @@ ghost use Rattle.commands.specs.Replies.{decimal, spaced, newline, print
 ghost use Rattle.commands.specs.Names.{readName};
 ghost use Rattle.commands.specs.PrintSteps.{Put};
 
-// What the program answers to a line: the bytes of a cut; the end and the open count; the place that was stored; place, start and
-// size of what a read shows, whose value is lent beside it; a fate; a refusal's number and place.
+// What the program answers to a line: the bytes of a cut; the end and the open count; the place of the call's page; place, start
+// and size of what a read shows, whose value is lent beside it; a fate and the place of its outcome; a refusal's number and place.
 pub enum Reply {
     What,
     Closed,

@@ -43,7 +43,7 @@ kindOf (outcome a c) = 3
 abbrev pub cutBegin : ℕ → List ℕ
 cutBegin n = kindOf (sealed 8 (storedOf (firstBytes n) 0 (then (opened 128) begin .sheet) (opened 128 .sheet)) 1) ∷ []
 
--- the numbers of an answer: opened with end 0 and open count 0; stored at a place; refused with a number and place 0
+-- the numbers of an answer: opened with end 0 and open count 0; the place of the call's page; refused with a number and place 0
 abbrev pub fits : List ℕ
 fits = 1 ∷ 0 ∷ 0 ∷ 0 ∷ 0 ∷ []
 

@@ -13,7 +13,7 @@ use Rattle.encoding.proofs.Logic.{clash}
 use Rattle.page.specs.Table as table
 use Rattle.page.specs.Table.{head, front, packed, fieldsOf, lowest, highest, within, between, meetsRules, isPageOf}
 use Rattle.page.specs.Answers.{tested, inBounds}
-use Rattle.recovery.specs.Log.{Image, blank, torn, image, fateOf, outcomeOf, imagesOf, tokenOf, versionsOf}
+use Rattle.recovery.specs.Log.{Image, blank, torn, image, outcome, fateOf, outcomeOf, imagesOf, tokenOf, versionsOf}
 use Rattle.recovery.specs.Places.{tabulate}
 use Rattle.recovery.specs.Sheet.{pageBytes, sealed, decoded, pages}
 use Rattle.recovery.specs.World.{down, endOf, undecidedOf}
@@ -279,7 +279,8 @@ pub found-cut-met : IsPageOf (decide 7 true) (pageIn 12 2 (boxAt (life ++ cut (d
 found-cut-met = promised 12 2 .found-cut (at life) [] (decide 7 true) 9 (firstBytes 64) (is-run 12 2 (life ++ cut (decide 7 true) 64 ∷ []) refl) refl would-commit
 
 pub torn-cut-met : pageIn 12 2 (boxAt late) 9 ≡ torn
-torn-cut-met = promised 12 2 .torn-cut (at life) (at (opened 6 ∷ [])) (decide 7 true) 9 (firstBytes 20) late-run refl refl would-commit (blank-above 12 2 (at life) (is-run 12 2 life refl) 9 (omega arith) (omega arith))
+torn-cut-met = promised 12 2 .torn-cut (at life) (at (opened 6 ∷ [])) (decide 7 true) 9 (firstBytes 20) late-run refl refl would-commit
+    (λ e. let z : blank ≡ outcome 7 true = sym (blank-above 12 2 (at life) (is-run 12 2 life refl) 9 (omega arith) (omega arith)) ∙ e in clash cc)
 
 pub lost-cut-met : sheetOf (boxAt (life ++ cut (decide 7 true) 0 ∷ [])) ≡ sheetOf (boxAt life)
 lost-cut-met = promised 12 2 .lost-cut (at life) (decide 7 true) (firstBytes 0) (is-run 12 2 (life ++ cut (decide 7 true) 0 ∷ []) refl) refl
@@ -303,7 +304,7 @@ same-count-met = promised 12 2 .same-count (at life) (decide 7 true) (firstBytes
 pub same-fate-met : (x : Answer) → Hears (boxAt late) (calls (test 7)) x → x ≡ Told 1 0
 same-fate-met x h = promised 12 2 .same-fate (at life) (decide 7 true) (firstBytes 20) 6 fates rows 7 1 0 x late-run refl tells-open h
 
-pub begun-met : (fate : ℕ) × (at : ℕ) × (1 ≤ fate) × (fate ≤ 3) × (Told 2 3 ≡ Told fate at)
+pub begun-met : (fate : ℕ) × (at : ℕ) × (1 ≤ fate) × (fate ≤ 3) × (Told 2 3 ≡ Told fate at) × (fate ≡ 1 → at ≡ 0)
 begun-met = promised 12 2 .begun (at (opened 0 ∷ [])) (at (does older ∷ does (decide 1 true) ∷ does (read 1 6 0) ∷ newer ++ does token ∷ tail)) 1 (Told 2 3) late-run begins late-committed
 
 pub decided-met : Told 2 3 ≡ Told 2 3
@@ -331,7 +332,7 @@ one-outcome-met =
     promised 12 2 .one-outcome (at late) 1 3 3 true true late-run p p
 
 pub can-be-decided-met : (place : ℕ) × Hears (boxAt late) (calls (decide 7 true)) (Stored place)
-can-be-decided-met = promised 12 2 .can-be-decided (at late) 7 true late-run late-open (blank-above 12 2 (at late) late-run 12 (omega arith) (omega arith))
+can-be-decided-met = promised 12 2 .can-be-decided (at late) 7 true late-run (0, late-open) (blank-above 12 2 (at late) late-run 12 (omega arith) (omega arith))
 
 pub whole-or-none-met : AllShow 12 2 (boxAt late) 7 ⊎ NoneShows 12 2 (boxAt late) 7
 whole-or-none-met = promised 12 2 .whole-or-none (at late) 7 late-run
@@ -345,7 +346,7 @@ none-shown-met = promised 12 2 .none-shown (at late) 1 6 0 2 5 1 late-run late-r
 pub own-shown-met : Hears (boxAt late) (calls (read 2 9 7)) (Value 8 9 1)
 own-shown-met =
     let p = promised 12 2 .found (at before) (at tail) token 8 late-run writes-token in
-    promised 12 2 .own-shown (at late) 8 9 (record { file = 2; action = 7; link = p .0; start = 9; value = 9 ∷ [] }) late-run (p .1) late-open (omega arith)
+    promised 12 2 .own-shown (at late) 8 9 (record { file = 2; action = 7; link = p .0; start = 9; value = 9 ∷ [] }) late-run (p .1) (0, late-open) (omega arith)
 
 pub alike-met : Value 2 5 1 ≡ Value 2 5 1
 unfolding isRefused
@@ -380,7 +381,7 @@ unfolding modelHeard latest
 three-full = hears-by 3 2 (events 3 2 three) (calls (write 2 1 1 [])) (Refused 11 0) (is-run 3 2 (three ++ does (write 2 1 1 []) ∷ []) refl) refl
 
 pub reserved-met : (place : ℕ) × Hears (boxAfter 3 2 (events 3 2 three)) (calls (decide 1 true)) (Stored place)
-reserved-met = promised 3 2 .reserved (events 3 2 three) 1 true (is-run 3 2 three refl) (none-torn 3 2 three refl) three-tells
+reserved-met = promised 3 2 .reserved (events 3 2 three) 1 true (is-run 3 2 three refl) (none-torn 3 2 three refl) (0, three-tells)
 
 -- it is for one outcome: a commit that is torn uses it up, and the action stays undecided. So `reserved` asks that no outcome was torn
 abbrev two : List Step

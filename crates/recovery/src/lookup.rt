@@ -1,4 +1,5 @@
-// Look-ups in what is lent: the page at a place, the fate of an action, the sealed image of a file. They take every number.
+// Look-ups in what is lent: the page at a place, the fate of an action and the place of its outcome, the sealed image of a file. They
+// take every number.
 use encoding::least;
 use page::Page;
 use page::Sought;

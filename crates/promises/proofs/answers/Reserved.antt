@@ -138,15 +138,15 @@ module _ (n files : ℕ) where
       let c = counted-at (fatesOf (m .model .pages) (m .log)) a (nth-tabulate (λ x. fateNumber (fateOf (m .log) x)) (m .model .pages) a 0 (p .0) (omega (arith, p .1, m .at .holds .room, m .at .pages-are)) ∙ ap fateNumber u) in
       omega (arith, m .at .says .undecided, c)
 
-  can-decide : (b : Box) → Spared b → (action : ℕ) (c : Bool) → answerTo b (calls (test action)) ≡ some (Told 1 0) → (place : ℕ) × (answerTo b (calls (decide action c)) ≡ some (Stored place))
-  can-decide b k action c e =
+  can-decide : (b : Box) → Spared b → (action p : ℕ) (c : Bool) → answerTo b (calls (test action)) ≡ some (Told 1 p) → (place : ℕ) × (answerTo b (calls (decide action c)) ≡ some (Stored place))
+  can-decide b k action p c e =
       let m = k .with in
-      let t = told-fate n files b m action 1 0 e in
+      let t = told-fate n files b m action 1 p e in
       let u : fateOf (m .log) action ≡ undecided = same-fate (t .2) in
       let room : 1 ≤ m .model .pages - m .model .used = omega (arith, some-open b m action u, k .left) in
       (suc (m .model .used), answer-is n files b m (calls (decide action c)) tt ∙ rw (t .0, status-by n files b m action undecided u, le-leb 1 (m .model .pages - m .model .used) room))
 
-  pub run-reserved : (es : List Event) → Run n files es → NoTornOutcome es → (action : ℕ) (c : Bool) → answerTo (runs (blankBox n) es) (calls (test action)) ≡ some (Told 1 0)
+  pub run-reserved : (es : List Event) → Run n files es → NoTornOutcome es → (action p : ℕ) (c : Bool) → answerTo (runs (blankBox n) es) (calls (test action)) ≡ some (Told 1 p)
       → (place : ℕ) × (answerTo (runs (blankBox n) es) (calls (decide action c)) ≡ some (Stored place))
-  run-reserved es r w action c e =
-      can-decide (runs (blankBox n) es) (spared-on (blankBox n) (record { with = reached-blank n files (r .sized); left = omega arith }) es (r .allowed) w) action c e
+  run-reserved es r w action p c e =
+      can-decide (runs (blankBox n) es) (spared-on (blankBox n) (record { with = reached-blank n files (r .sized); left = omega arith }) es (r .allowed) w) action p c e

@@ -166,10 +166,10 @@ module _ (n files : ℕ) (es : List Event) (r : Run n files es) where
           let here : sealed files (sheetOf box) n ≡ entryIn (m .log) n = lies-page n files box m n (entryIn (m .log) n) (record { low = some; high = omega arith; here = refl }) in
           absurd (false≢true (sym (top-solid (m .log) lawful (omega arith)) ∙ ap isBlank (ap (entryIn (m .log)) full ∙ sym here ∙ e)))
 
-  pub run-can-be-decided : (action : ℕ) (c : Bool) → answerTo box (calls (test action)) ≡ some (Told 1 0) → sealed files (sheetOf box) n ≡ blank
+  pub run-can-be-decided : (action p : ℕ) (c : Bool) → answerTo box (calls (test action)) ≡ some (Told 1 p) → sealed files (sheetOf box) n ≡ blank
       → (place : ℕ) × (answerTo box (calls (decide action c)) ≡ some (Stored place))
-  run-can-be-decided action c e q =
-      let t = told-fate n files box m action 1 0 e in
+  run-can-be-decided action p c e q =
+      let t = told-fate n files box m action 1 p e in
       let u = status-by n files box m action undecided (same-fate (t .2)) in
       let room : 1 ≤ m .model .pages - m .model .used = omega (arith, room-left q, m .at .pages-are, m .at .says .used) in
       (suc (m .model .used), answer-is n files box m (calls (decide action c)) tt ∙ rw (t .0, u, le-leb 1 (m .model .pages - m .model .used) room))

@@ -67,11 +67,11 @@ module _ (n files : ℕ) where
         world-says n files m r (read (i .file) (i .start) 0)
         ∙ committed-shown w (r .log) (r .model) (sim n files m r) place i in-log entry-is file-is (same-fate (fate-is 2 q t))
 
-    own-on : callOn m (test (i .action)) .answer ≡ Told 1 0 → (time : ℕ) → i .start ≤ time
+    own-on : (q : ℕ) → callOn m (test (i .action)) .answer ≡ Told 1 q → (time : ℕ) → i .start ≤ time
         → callOn m (read (i .file) time (i .action)) .answer ≡ Value place (i .start) (length (i .value))
-    own-on t time h =
+    own-on q t time h =
         world-says n files m r (read (i .file) time (i .action))
-        ∙ own-shown w (r .log) (r .model) (sim n files m r) place i time in-log entry-is file-is (same-fate (fate-is 1 0 t)) h
+        ∙ own-shown w (r .log) (r .model) (sim n files m r) place i time in-log entry-is file-is (same-fate (fate-is 1 q t)) h
 
   module _ (b : Box) (r : Reached n files b) (place : ℕ) (i : Image) (e : sealed files (sheetOf b) place ≡ image i) where
     pub box-all : (q : ℕ) → answerTo b (calls (test (i .action))) ≡ some (Told 2 q) → answerTo b (calls (read (i .file) (i .start) 0)) ≡ some (Value place (i .start) (length (i .value)))
@@ -82,14 +82,14 @@ module _ (n files : ℕ) where
         go (on m) r e q t = ap some (all-on m r place i e q (some-is t))
         go (off s) r e q t = not-heard t
 
-    pub box-own : answerTo b (calls (test (i .action))) ≡ some (Told 1 0) → (time : ℕ) → i .start ≤ time
+    pub box-own : (q : ℕ) → answerTo b (calls (test (i .action))) ≡ some (Told 1 q) → (time : ℕ) → i .start ≤ time
         → answerTo b (calls (read (i .file) time (i .action))) ≡ some (Value place (i .start) (length (i .value)))
     box-own = go b r e
       where
-        go : (b : Box) → Reached n files b → sealed files (sheetOf b) place ≡ image i → answerTo b (calls (test (i .action))) ≡ some (Told 1 0) → (time : ℕ) → i .start ≤ time
+        go : (b : Box) → Reached n files b → sealed files (sheetOf b) place ≡ image i → (q : ℕ) → answerTo b (calls (test (i .action))) ≡ some (Told 1 q) → (time : ℕ) → i .start ≤ time
             → answerTo b (calls (read (i .file) time (i .action))) ≡ some (Value place (i .start) (length (i .value)))
-        go (on m) r e t time h = ap some (own-on m r place i e (some-is t) time h)
-        go (off s) r e t time h = not-heard t
+        go (on m) r e q t time h = ap some (own-on m r place i e q (some-is t) time h)
+        go (off s) r e q t time h = not-heard t
 
   -- ---- what a read shows
 

@@ -19,7 +19,7 @@ use Rattle.promises.specs.Model.{Model, Reply, decidedAs, deciding, mode
 use Rattle.promises.specs.FromLog.{statusOf}
 use Rattle.promises.specs.Promises.{IsWhole}
 use Rattle.promises.proofs.logs.Logs.{verdict-decided}
-use Rattle.promises.proofs.logs.Outcomes.{DecidedAt, outcome-top}
+use Rattle.promises.proofs.logs.Outcomes.{DecidedAt, nowhere, outcome-top}
 use Rattle.promises.proofs.worlds.LogSays.{verdict-status}
 use Rattle.promises.proofs.worlds.Sim.{Step, stay, add}
 use Rattle.promises.proofs.bytes.Stored.{bytesOf}
@@ -125,11 +125,11 @@ module _ (n files : ℕ) where
     other-answer (off s) d x h = not-heard h
 
   pub box-begun : (b : Box) (r : Reached n files b) (es : List Event) (al : AllAllowed n files es) (place : ℕ) (x : Answer) → answerTo b (calls begin) ≡ some (Stored place)
-      → answerTo (runs (after b (calls begin)) es) (calls (test place)) ≡ some x → (fate : ℕ) × (at : ℕ) × (1 ≤ fate) × (fate ≤ 3) × (x ≡ Told fate at)
+      → answerTo (runs (after b (calls begin)) es) (calls (test place)) ≡ some x → (fate : ℕ) × (at : ℕ) × (1 ≤ fate) × (fate ≤ 3) × (x ≡ Told fate at) × (fate ≡ 1 → at ≡ 0)
   box-begun (on m) r es al place x e h =
       let first = reached-next n files (on m) r (calls begin) tt in
       let z = step-begun place (sym (model-says n files m r begin) ∙ some-is e) (agrees n files m r begin .step) in
       let late = reached-on n files (after (on m) (calls begin)) first es al in
       let f = extends n files (after (on m) (calls begin)) first es al (first .log) (ext-refl (first .log)) .known place (undecided-known z) in
-      (fateNumber (fateOf (late .log) place), outcomeOf (late .log) place, f, number-high (fateOf (late .log) place), hears-fate n files (runs (after (on m) (calls begin)) es) late place x f h)
+      (fateNumber (fateOf (late .log) place), outcomeOf (late .log) place, f, number-high (fateOf (late .log) place), hears-fate n files (runs (after (on m) (calls begin)) es) late place x f h, λ e. nowhere (late .log) place (late .at .holds .lawful) (λ d. omega arith))
   box-begun (off s) r es al place x e h = not-heard e

@@ -1,7 +1,7 @@
 -- What a run has stored is found: the page of every answered call, of a cut one exactly if all its bytes are stored; and the fates.
 use Prim.Native.Nat.{ℕ, suc}
 use mathlib.Core.Path.{_≡_, refl, sym, ap, _∙_, subst}
-use mathlib.Core.List.{List, _∷_}
+use mathlib.Core.List.{List, [], _∷_}
 use mathlib.Core.Bool.{Bool, true, false}
 use mathlib.Core.Option.{some, none}
 use native.Mathlib.Omega.{arith}
@@ -9,7 +9,7 @@ use lib.ListN.{length}
 use borrow.Author.Tests.{eq-eqb, ne-eqb}
 use Rattle.encoding.proofs.Logic.{clash}
 use Rattle.page.specs.Layout.{kindAt, markAt}
-use Rattle.recovery.specs.Log.{Entry, blank, torn, outcome, Fate, unknown, undecided, committed, aborted, fateOf, outcomeOf, placeOf}
+use Rattle.recovery.specs.Log.{Entry, torn, outcome, Fate, unknown, undecided, committed, aborted, fateOf, outcomeOf, placeOf}
 use Rattle.recovery.specs.Sheet.{sealed}
 use Rattle.recovery.specs.World.{fateNumber}
 use Rattle.recovery.specs.declared.Answer.{Answer}
@@ -27,7 +27,7 @@ use Rattle.promises.specs.FromLog.{statusOf}
 use Rattle.promises.proofs.worlds.Sim.{Writes, Repeats, Step, stay, add}
 use Rattle.promises.proofs.bytes.Stored.{bytesOf}
 use Rattle.promises.proofs.bytes.Cuts.{cutLog}
-use Rattle.promises.proofs.boxes.Boxes.{isOn, Reached, agrees, model-says, log-page}
+use Rattle.promises.proofs.boxes.Boxes.{isOn, Reached, agrees, model-says}
 use Rattle.promises.proofs.boxes.BoxRuns.{reached-next, answer-is}
 use Rattle.promises.proofs.boxes.Extends.{stays}
 
@@ -63,14 +63,6 @@ repeats-has l (rebuild f) p h = absurd h
 pub stored-is : {p q : ℕ} → Stored p ≡ Stored q → p ≡ q
 stored-is e = cc
 
-not-blank : (k : Call) → IsPageOf k blank → ⊥
-not-blank begin h = clash cc
-not-blank (write f s a v) h = let e = h .1 in clash cc
-not-blank (read f t a) h = h
-not-blank (test a) h = h
-not-blank (decide a c) h = clash cc
-not-blank (rebuild f) h = h
-
 module _ {files : ℕ} {k : Call} {l : List Entry} {x : Answer} (p : ℕ) (e : x ≡ Stored p) where
   step-has : {l′ : List Entry} → Step files k l x l′ → Has l′ k p
   step-has (stay r) = repeats-has l k p (r p e)
@@ -83,10 +75,10 @@ module _ {files : ℕ} {k : Call} {l : List Entry} {x : Answer} (p : ℕ) (e : x
     whole-log o h (stay r) = rw (eq-eqb (length l) (length l) refl)
     whole-log o h (add g y q) = rw (ne-eqb (suc (length l)) (length l) (λ e. omega arith), entry-top g l, o .last h kindAt (omega arith), h)
 
-    -- one with fewer leaves a torn page at a place that was blank
-    torn-log : {l′ : List Entry} → kept kindAt ≡ true → kept markAt ≡ false → ((g : Entry) → Lies l p g → g ≡ blank) → Step files k l x l′ → Lies (cutLog l l′ (bytesOf kept)) p torn
+    -- one with fewer leaves a torn page, if the page was not there before
+    torn-log : {l′ : List Entry} → kept kindAt ≡ true → kept markAt ≡ false → (Has l k p → ⊥) → Step files k l x l′ → Lies (cutLog l l′ (bytesOf kept)) p torn
     unfolding cutLog
-    torn-log h j b (stay r) = let y = repeats-has l k p (r p e) in absurd (not-blank k (subst (IsPageOf k) (b (y .0) (y .1)) (y .2)))
+    torn-log h j b (stay r) = absurd (b (repeats-has l k p (r p e)))
     torn-log h j b (add g y q) =
         rw (ne-eqb (suc (length l)) (length l) (λ e. omega arith), entry-top g l, h, j) (subst (λ n. Lies (torn ∷ l) n torn) (sym (stored-is (sym e ∙ q))) (lies-top torn l))
 
@@ -116,10 +108,10 @@ module _ (n files : ℕ) where
           had (after (on m) (cuts k kept)) was-cut es al k place
           (subst (λ l. Has l k place) (sym (whole-log place says kept o h (agrees n files m r k .step))) (step-has place says (agrees n files m r k .step)))
 
-      found-torn : kept kindAt ≡ true → kept markAt ≡ false → sealed files (m .sheet) place ≡ blank → sealed files (sheetOf (runs (after (on m) (cuts k kept)) es)) place ≡ torn
+      found-torn : kept kindAt ≡ true → kept markAt ≡ false → (IsPageOf k (sealed files (m .sheet) place) → ⊥) → sealed files (sheetOf (runs (after (on m) (cuts k kept)) es)) place ≡ torn
       found-torn h j b =
           there (after (on m) (cuts k kept)) was-cut es al place torn
-          (torn-log place says kept h j (λ g y. sym (y .here) ∙ sym (log-page n files (on m) r place (y .low) (y .high)) ∙ b) (agrees n files m r k .step))
+          (torn-log place says kept h j (λ y. b (had (on m) r [] tt k place y)) (agrees n files m r k .step))
 
 -- ---- fates
 
@@ -178,9 +170,9 @@ module _ (n files : ℕ) where
           go (on m) r e = found-whole n files m r k t place (some-is e) es al kept o h
           go (off s) r e = not-heard e
 
-      pub box-torn : kept kindAt ≡ true → kept markAt ≡ false → sealed files (sheetOf b) place ≡ blank → sealed files (sheetOf (runs (after b (cuts k kept)) es)) place ≡ torn
+      pub box-torn : kept kindAt ≡ true → kept markAt ≡ false → (IsPageOf k (sealed files (sheetOf b) place) → ⊥) → sealed files (sheetOf (runs (after b (cuts k kept)) es)) place ≡ torn
       box-torn h j = go b r e
         where
-          go : (b : Box) → Reached n files b → answerTo b (calls k) ≡ some (Stored place) → sealed files (sheetOf b) place ≡ blank → sealed files (sheetOf (runs (after b (cuts k kept)) es)) place ≡ torn
+          go : (b : Box) → Reached n files b → answerTo b (calls k) ≡ some (Stored place) → (IsPageOf k (sealed files (sheetOf b) place) → ⊥) → sealed files (sheetOf (runs (after b (cuts k kept)) es)) place ≡ torn
           go (on m) r e y = found-torn n files m r k t place (some-is e) es al kept o h j y
           go (off s) r e y = not-heard e

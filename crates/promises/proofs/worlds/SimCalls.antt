@@ -1,7 +1,7 @@
 -- Every call does what the model does.
 use mathlib.Core.Path.{_≡_, refl, sym, ap, _∙_, subst}
 use mathlib.Core.List.{List}
-use mathlib.Core.Bool.{Bool, true, false, cond, _&&_}
+use mathlib.Core.Bool.{Bool, true, false, _&&_}
 use Prim.Native.Nat.{ℕ}
 use lib.ListN.{length}
 use lib.Dec.{eqb, leb}
@@ -12,7 +12,7 @@ use Rattle.recovery.specs.Log.{Entry, Fate, unknown, undecided, committed, abor
 use Rattle.recovery.specs.World.{World, Result, fateAt, outcomeAt, fateNumber, withRow, isFile, rebuilt}
 use Rattle.recovery.specs.declared.Answer.the-variants.{Stored, Rebuilt, Told}
 use Rattle.inspection.specs.Lawful.{current, token}
-use Rattle.calls.specs.Calls.{Call, begin, write, read, test, decide, rebuild, forFile, forAction, forUndecided, isRepeated, on, call}
+use Rattle.calls.specs.Calls.{Call, begin, write, read, test, decide, rebuild, forFile, forAction, forUndecided, unlessDecided, on, call}
 use Rattle.promises.specs.Model.{Model, Reply, newest, placed, ofFile, ofPending, testing, deciding, modelCall}
 use Rattle.promises.specs.FromLog.{statusOf}
 use Rattle.promises.proofs.logs.Logs.{not-undecided}
@@ -54,12 +54,12 @@ module _ (w : World) (l : List Entry) (m : Model) (s : Sim w l m) where
   repeats a c e = record { log = l; step = stay (λ p q. record { fate = e; place = cc }); answer = ap Stored (place-is a); after = s }
 
   decides : (a : ℕ) (c : Bool) (x : Result) (y : Reply) → (fateOf l a ≡ undecided → Agrees (m .files) (decide a c) l x y)
-      → Agrees (m .files) (decide a c) l (cond (isRepeated w a c) (Stored (outcomeAt w a), w) (forUndecided w a x)) (deciding m c (m .status a) y)
+      → Agrees (m .files) (decide a c) l (forAction w a (unlessDecided w a c x)) (deciding m c (m .status a) y)
   decides a c x y h =
-      subst (λ z. Agrees (m .files) (decide a c) l (cond (isRepeated w a c) (Stored (outcomeAt w a), w) (forUndecided w a x)) (deciding m c z y)) (sym (s .says .status a)) (go c (fateOf l a) refl h)
+      subst (λ z. Agrees (m .files) (decide a c) l (forAction w a (unlessDecided w a c x)) (deciding m c z y)) (sym (s .says .status a)) (go c (fateOf l a) refl h)
     where
       go : (c : Bool) (q : Fate) → fateOf l a ≡ q → (fateOf l a ≡ undecided → Agrees (m .files) (decide a c) l x y)
-          → Agrees (m .files) (decide a c) l (cond (isRepeated w a c) (Stored (outcomeAt w a), w) (forUndecided w a x)) (deciding m c (statusOf q (outcomeOf l a)) y)
+          → Agrees (m .files) (decide a c) l (forAction w a (unlessDecided w a c x)) (deciding m c (statusOf q (outcomeOf l a)) y)
       go c unknown e h = rw (has-action w l m s a, fate-eq w l m s a, e) (refused 5 0 0 refl s)
       go c undecided e h = rw (has-action w l m s a, fate-eq w l m s a, e) (h e)
       go true committed e h = rw (has-action w l m s a, fate-eq w l m s a, e) (repeats a true e)
