@@ -1,5 +1,5 @@
-/* The proved calls beside plain ones, written here from documents 01 and 02 line by line: long runs of random calls on a sheet, with cuts,
-   openings, and lent fates, rows, states and pages that are damaged. After every call the answer, the state and every lent byte and
+/* The proved calls beside plain ones, written here from documents 01 and 02 line by line: long runs of random calls on a sheet, with
+   cuts, openings, and lent fates, rows, states and pages that are damaged. After every call the answer, the state and every lent byte and
    number must be the same. Prints a line for each test and 'N passed, M failed'. */
 #include "plainsheet.h"
 

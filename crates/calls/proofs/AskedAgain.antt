@@ -1,6 +1,6 @@
 -- A decision that is asked again changes nothing at all: where lines 1 and 5 let it through and the lent fate has it already, the answer is
--- the place of the action's newest outcome, and the state and every byte and number lent are as they were; no cold row is rebuilt. Shuts out a store that lowers
--- the open count a second time. Assumes nothing.
+-- the place of the action's newest outcome, and the state and every byte and number lent are as they were; no cold row is rebuilt.
+-- Shuts out a store that lowers the open count a second time. Assumes nothing.
 use Prim.Native.Nat.{ℕ}
 use mathlib.Core.Path.{_≡_, sym}
 use mathlib.Core.Bool.{Bool, true}

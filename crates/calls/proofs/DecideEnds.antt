@@ -1,4 +1,5 @@
--- Commit and abort: a decision asked again, the line that refuses them, what they ask of append and of the rows, and their ends. Assumes nothing.
+-- Commit and abort: a decision asked again, the line that refuses them, what they ask of append and of the rows, and their ends.
+-- Assumes nothing.
 use Prim.Native.Nat.{ℕ, zero, suc, pred, _+_, _-_, _*_, _/_, _≤_, _<_}
 use mathlib.Core.Path.{_≡_, refl, sym, ap, _∙_}
 use mathlib.Core.Bool.{Bool, true, false, cond, _&&_}

@@ -127,7 +127,7 @@ off-image (Image p) f d k = absurd (miss other-tags 4 tt k)
 off-image (Outcome p) f d k = refl
 off-image Unfit f d k = refl
 
--- and what the other arm of a match on `Unpacked::Outcome(p)` tells
+-- and in that of `let Unpacked::Outcome(p) = u else { .. }`
 abbrev pub no-outcome-tags : List ℕ
 no-outcome-tags = 0 ∷ 1 ∷ 2 ∷ 3 ∷ 4 ∷ 6 ∷ []
 
