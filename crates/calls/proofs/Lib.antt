@@ -11,6 +11,7 @@ pub mod ActionLines
 pub mod RoomLines
 pub mod BeginEnds
 pub mod AskedAgain
+pub mod Floor
 pub mod DecideRows
 pub mod DecideEnds
 pub mod ReadImages

@@ -1,16 +1,18 @@
--- Document 01's listing as a conversation: it keeps one file count, so it is a run. And two short ones, computed to their replies: the text
--- that one shows was typed; and a commit that is asked again while a cut waits is answered, and the cut waits on.
+-- Document 01's listing as a conversation: it keeps one file count, so it is a run. And three short ones, computed to their replies: the text
+-- that one shows was typed; a commit that is asked again while a cut waits; and what a bare `open` protects from, and what not.
 use Prim.Native.Nat.{ℕ}
 use mathlib.Core.Path.{_≡_, refl}
-use mathlib.Core.List.{List, [], _∷_}
+use mathlib.Core.List.{List, [], _∷_, _++_}
 use lib.ListN.{replicate}
 use Rattle.commands.specs.Names.{openName, beginName, writeName, readName, testName, commitName, abortName, cutName}
 use Rattle.commands.specs.Commands.{words, numberOf, three, isText, alone, withOne, withTwo, withThree, withText, commandOf, parsed}
 use Rattle.promises.specs.Runs.{Run}
-use Rattle.program.specs.Program.{runOf, AllKeep, pageCount, turned, memoryAfter}
+use Rattle.program.specs.Program.{Memory, memoryOf, runOf, AllKeep, pageCount, turned, memoryAfter}
 use Rattle.calls.specs.declared.making.Call as code
 use Rattle.commands.specs.declared.parsing.Command as command
 use Rattle.commands.specs.declared.printing.Reply as reply
+use Rattle.commands.specs.declared.printing.Reply.{Reply}
+use Rattle.commands.specs.Replies.{decimal, spaced}
 use Rattle.page.specs.Table.{head, front, packed, fieldsOf, lowest, highest, within, between, meetsRules, isPageOf, torn}
 use Rattle.page.specs.Answers.{inBounds, tested}
 use Rattle.recovery.specs.Places.{tabulate}
@@ -22,72 +24,109 @@ use Rattle.recovery.specs.Numbers.{isRefused}
 use Rattle.calls.specs.Walk.{follow}
 use Rattle.calls.specs.Calls.{eachRow, call}
 use Rattle.calls.specs.Leaves.{packedEntry, withPage, callLeaves}
+use Rattle.calls.specs.Cuts.{mixed}
 use Rattle.desk.specs.Wording.{callReply, openReply}
-use Rattle.desk.specs.Conversation.{After, startedFor, openedFor, calledFor, acted}
+use Rattle.desk.specs.Conversation.{After, firstDesk, startedFor, openedFor, calledFor, acted}
 use Rattle.program.specs.Typing.{WasTyped, textOf}
 use Rattle.program.proofs.Proved.{program}
 use Rattle.program.proofs.TextTyped.{reads-typed}
 
+-- ---- lines as they are typed
+
+abbrev writes : ℕ → ℕ → ℕ → List ℕ → List ℕ
+writes file start action text = writeName ++ spaced file ++ spaced start ++ spaced action ++ (32 ∷ text)
+
+abbrev reads : ℕ → ℕ → ℕ → List ℕ
+reads file time action = readName ++ spaced file ++ spaced time ++ spaced action
+
+abbrev commits : ℕ → List ℕ
+commits action = commitName ++ spaced action
+
+abbrev cutAfter : ℕ → List ℕ
+cutAfter n = cutName ++ spaced n
+
+-- the program with these lines behind it
+abbrev after : List (List ℕ) → Memory
+after lines = memoryAfter 8 (replicate 256 0) (replicate 1280 0) lines
+
+-- ---- document 01's listing
+
 abbrev pub listing : List (List ℕ)
 listing =
-    (111 ∷ 112 ∷ 101 ∷ 110 ∷ []) ∷
-    (98 ∷ 101 ∷ 103 ∷ 105 ∷ 110 ∷ []) ∷
-    (119 ∷ 114 ∷ 105 ∷ 116 ∷ 101 ∷ 32 ∷ 51 ∷ 32 ∷ 49 ∷ 48 ∷ 32 ∷ 49 ∷ 32 ∷ 65 ∷ 66 ∷ []) ∷
-    (114 ∷ 101 ∷ 97 ∷ 100 ∷ 32 ∷ 51 ∷ 32 ∷ 49 ∷ 48 ∷ 32 ∷ 48 ∷ []) ∷
-    (114 ∷ 101 ∷ 97 ∷ 100 ∷ 32 ∷ 51 ∷ 32 ∷ 57 ∷ 32 ∷ 48 ∷ []) ∷
-    (99 ∷ 111 ∷ 109 ∷ 109 ∷ 105 ∷ 116 ∷ 32 ∷ 49 ∷ []) ∷
-    (114 ∷ 101 ∷ 97 ∷ 100 ∷ 32 ∷ 51 ∷ 32 ∷ 49 ∷ 48 ∷ 32 ∷ 48 ∷ []) ∷
-    (98 ∷ 101 ∷ 103 ∷ 105 ∷ 110 ∷ []) ∷
-    (119 ∷ 114 ∷ 105 ∷ 116 ∷ 101 ∷ 32 ∷ 51 ∷ 32 ∷ 49 ∷ 50 ∷ 32 ∷ 52 ∷ 32 ∷ 67 ∷ 68 ∷ []) ∷
-    (99 ∷ 117 ∷ 116 ∷ 32 ∷ 50 ∷ 48 ∷ []) ∷
-    (99 ∷ 111 ∷ 109 ∷ 109 ∷ 105 ∷ 116 ∷ 32 ∷ 52 ∷ []) ∷
-    (111 ∷ 112 ∷ 101 ∷ 110 ∷ []) ∷
-    (116 ∷ 101 ∷ 115 ∷ 116 ∷ 32 ∷ 52 ∷ []) ∷
-    (114 ∷ 101 ∷ 97 ∷ 100 ∷ 32 ∷ 51 ∷ 32 ∷ 49 ∷ 49 ∷ 32 ∷ 48 ∷ []) ∷
-    (97 ∷ 98 ∷ 111 ∷ 114 ∷ 116 ∷ 32 ∷ 52 ∷ []) ∷
-    (114 ∷ 101 ∷ 97 ∷ 100 ∷ 32 ∷ 51 ∷ 32 ∷ 49 ∷ 50 ∷ 32 ∷ 48 ∷ []) ∷
-    []
+    openName
+    ∷ beginName
+    ∷ writes 3 10 1 (65 ∷ 66 ∷ [])
+    ∷ reads 3 10 0
+    ∷ reads 3 9 0
+    ∷ commits 1
+    ∷ reads 3 10 0
+    ∷ beginName
+    ∷ writes 3 12 4 (67 ∷ 68 ∷ [])
+    ∷ cutAfter 20
+    ∷ commits 4
+    ∷ openName
+    ∷ (testName ++ spaced 4)
+    ∷ reads 3 11 0
+    ∷ (abortName ++ spaced 4)
+    ∷ reads 3 12 0
+    ∷ []
 
 listing-keeps : AllKeep 8 listing
-unfolding words numberOf three isText alone withOne withTwo withThree withText commandOf parsed openName beginName writeName readName testName commitName abortName cutName
+unfolding words numberOf three isText alone withOne withTwo withThree withText commandOf parsed decimal spaced openName beginName writeName readName testName commitName abortName cutName
 listing-keeps = (refl, (tt, (tt, (tt, (tt, (tt, (tt, (tt, (tt, (tt, (tt, (refl, (tt, (tt, (tt, (tt, tt))))))))))))))))
 
 pub listing-runs : Run pageCount 8 (runOf 8 (replicate 256 0) (replicate 1280 0) listing)
 listing-runs = program 8 refl (replicate 256 0) (replicate 1280 0) refl .is-run listing listing-keeps
 
--- a value written and read within its action
+-- ---- a value written and read within its action: the text that is shown was typed
+
 abbrev short : List (List ℕ)
-short = (111 ∷ 112 ∷ 101 ∷ 110 ∷ []) ∷ (98 ∷ 101 ∷ 103 ∷ 105 ∷ 110 ∷ []) ∷ (119 ∷ 114 ∷ 105 ∷ 116 ∷ 101 ∷ 32 ∷ 51 ∷ 32 ∷ 49 ∷ 48 ∷ 32 ∷ 49 ∷ 32 ∷ 65 ∷ 66 ∷ []) ∷ []
+short = openName ∷ beginName ∷ writes 3 10 1 (65 ∷ 66 ∷ []) ∷ []
 
-abbrev asks : List ℕ
-asks = 114 ∷ 101 ∷ 97 ∷ 100 ∷ 32 ∷ 51 ∷ 32 ∷ 49 ∷ 48 ∷ 32 ∷ 49 ∷ []
-
-shown-short : turned (memoryAfter 8 (replicate 256 0) (replicate 1280 0) short) asks .turn .reply ≡ reply.Reply.Shown 2 10 2
-unfolding words numberOf three isText alone withOne withTwo withThree withText commandOf parsed openName beginName writeName readName testName commitName abortName cutName callReply openReply startedFor openedFor calledFor acted head front packed fieldsOf lowest highest within between meetsRules isPageOf torn inBounds tested tabulate fateOf imagesOf versionsOf tokenOf highestStart decoded sealed pages down warmRow rowHolds lentRight endOf highestBad undecidedOf coldRows opened rowsOf flat sizesRight openLeaves follow eachRow call packedEntry withPage callLeaves isRefused
+shown-short : turned (after short) (reads 3 10 1) .turn .reply ≡ reply.Reply.Shown 2 10 2
+unfolding words numberOf three isText alone withOne withTwo withThree withText commandOf parsed decimal spaced openName beginName writeName readName testName commitName abortName cutName callReply openReply startedFor openedFor calledFor acted head front packed fieldsOf lowest highest within between meetsRules isPageOf torn inBounds tested tabulate fateOf outcomeOf imagesOf versionsOf tokenOf highestStart decoded sealed pages down warmRow rowHolds lentRight endOf highestBad undecidedOf coldRows opened rowsOf flat sizesRight openLeaves follow eachRow call packedEntry withPage callLeaves mixed isRefused
 shown-short = refl
 
 short-keeps : AllKeep 8 short
-unfolding words numberOf three isText alone withOne withTwo withThree withText commandOf parsed openName beginName writeName readName testName commitName abortName cutName
+unfolding words numberOf three isText alone withOne withTwo withThree withText commandOf parsed decimal spaced openName beginName writeName readName testName commitName abortName cutName
 short-keeps = (refl, (tt, (tt, tt)))
 
-asks-read : parsed asks ≡ command.Command.Call (code.Call.Read 3 10 1) 11
-unfolding words numberOf three isText alone withOne withTwo withThree withText commandOf parsed openName beginName writeName readName testName commitName abortName cutName
+asks-read : parsed (reads 3 10 1) ≡ command.Command.Call (code.Call.Read 3 10 1) 11
+unfolding words numberOf three isText alone withOne withTwo withThree withText commandOf parsed decimal spaced openName beginName writeName readName testName commitName abortName cutName
 asks-read = refl
 
--- the text that it shows was typed
-pub short-typed : WasTyped short 3 10 (textOf (turned (memoryAfter 8 (replicate 256 0) (replicate 1280 0) short) asks))
-short-typed = reads-typed 8 refl (replicate 256 0) (replicate 1280 0) refl short asks 3 10 1 11 2 10 2 short-keeps asks-read shown-short
+pub short-typed : WasTyped short 3 10 (textOf (turned (after short) (reads 3 10 1)))
+short-typed = reads-typed 8 refl (replicate 256 0) (replicate 1280 0) refl short (reads 3 10 1) 3 10 1 11 2 10 2 short-keeps asks-read shown-short
 
--- commit 1, and: open, begin, commit 1, cut 20
-abbrev again : List ℕ
-again = 99 ∷ 111 ∷ 109 ∷ 109 ∷ 105 ∷ 116 ∷ 32 ∷ 49 ∷ []
-
-abbrev cutWaits : List (List ℕ)
-cutWaits = (111 ∷ 112 ∷ 101 ∷ 110 ∷ []) ∷ (98 ∷ 101 ∷ 103 ∷ 105 ∷ 110 ∷ []) ∷ again ∷ (99 ∷ 117 ∷ 116 ∷ 32 ∷ 50 ∷ 48 ∷ []) ∷ []
+-- ---- a commit that is asked again while a cut waits is answered, and the cut waits on
 
 abbrev asked : After
-asked = turned (memoryAfter 8 (replicate 256 0) (replicate 1280 0) cutWaits) again
+asked = turned (after (openName ∷ beginName ∷ commits 1 ∷ cutAfter 20 ∷ [])) (commits 1)
 
 pub cut-waits-on : (asked .turn .reply ≡ reply.Reply.Committed 2) × (asked .turn .desk .cut ≡ 20)
-unfolding words numberOf three isText alone withOne withTwo withThree withText commandOf parsed openName beginName writeName readName testName commitName abortName cutName callReply openReply startedFor openedFor calledFor acted head front packed fieldsOf lowest highest within between meetsRules isPageOf torn inBounds tested tabulate fateOf outcomeOf imagesOf versionsOf tokenOf highestStart decoded sealed pages down warmRow rowHolds lentRight endOf highestBad undecidedOf coldRows opened rowsOf flat sizesRight openLeaves follow eachRow call packedEntry withPage callLeaves isRefused
+unfolding words numberOf three isText alone withOne withTwo withThree withText commandOf parsed decimal spaced openName beginName writeName readName testName commitName abortName cutName callReply openReply startedFor openedFor calledFor acted head front packed fieldsOf lowest highest within between meetsRules isPageOf torn inBounds tested tabulate fateOf outcomeOf imagesOf versionsOf tokenOf highestStart decoded sealed pages down warmRow rowHolds lentRight endOf highestBad undecidedOf coldRows opened rowsOf flat sizesRight openLeaves follow eachRow call packedEntry withPage callLeaves mixed isRefused
 cut-waits-on = (refl, refl)
+
+-- ---- what an `open` without numbers protects from, on a sheet of eight pages, which is sooner computed
+
+abbrev small : Memory
+small = record { desk = firstDesk; sheet = replicate 512 0; fates = replicate 8 0; rows = replicate 1280 0 }
+
+abbrev replies : Memory → List (List ℕ) → List Reply
+replies m [] = []
+replies m (line ∷ lines) = turned m line .turn .reply ∷ replies (memoryOf (turned m line)) lines
+
+-- a version of file 1 from 50 on, file 2 read at 60, and the supply cut
+abbrev untilCut : List (List ℕ)
+untilCut = openName ∷ beginName ∷ writes 1 50 1 (65 ∷ []) ∷ commits 1 ∷ reads 2 60 0 ∷ cutAfter 0 ∷ beginName ∷ []
+
+-- nothing can then be written at 50. But a time that was read and never written is not on the sheet: a version of file 2 from 52 on is
+-- accepted, and the read at 60 is answered otherwise
+abbrev reopened : List (List ℕ)
+reopened = openName ∷ beginName ∷ writes 2 50 4 (66 ∷ []) ∷ writes 2 52 4 (66 ∷ []) ∷ commits 4 ∷ reads 2 60 0 ∷ []
+
+pub floor-needed : replies small (untilCut ++ reopened)
+    ≡ reply.Reply.Opened 0 0 ∷ reply.Reply.Begun 1 ∷ reply.Reply.Written 2 ∷ reply.Reply.Committed 3 ∷ reply.Reply.Nothing ∷ reply.Reply.Cut 0 ∷ reply.Reply.Lost
+    ∷ reply.Reply.Opened 3 0 ∷ reply.Reply.Begun 4 ∷ reply.Reply.No 10 0 ∷ reply.Reply.Written 5 ∷ reply.Reply.Committed 6 ∷ reply.Reply.Shown 5 52 1 ∷ []
+unfolding words numberOf three isText alone withOne withTwo withThree withText commandOf parsed decimal spaced openName beginName writeName readName testName commitName abortName cutName callReply openReply startedFor openedFor calledFor acted head front packed fieldsOf lowest highest within between meetsRules isPageOf torn inBounds tested tabulate fateOf outcomeOf imagesOf versionsOf tokenOf highestStart decoded sealed pages down warmRow rowHolds lentRight endOf highestBad undecidedOf coldRows opened rowsOf flat sizesRight openLeaves follow eachRow call packedEntry withPage callLeaves mixed isRefused
+floor-needed = refl

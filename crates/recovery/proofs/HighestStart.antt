@@ -21,8 +21,8 @@ use Rattle.recovery.specs.Log as log
 use Rattle.recovery.specs.Log.{Entry, blank, torn, bad, opening, image, outcome, highestStart}
 use Rattle.recovery.specs.Sheet.{pageBytes, imageFrom, entryOf, isOpening, seal, decoded, sealed, pages}
 use Rattle.recovery.specs.Lent.{pagesOf}
-use Rattle.recovery.specs.Steps.{partAt, orHigher}
-use Rattle.recovery.proofs.Pages.{part-tested, sealed-is}
+use Rattle.recovery.specs.Steps.{hasPlace, partAt, orHigher}
+use Rattle.recovery.proofs.Pages.{test-out, place-in, place-out, part-tested, page-at-place, sealed-is}
 
 -- what a page adds
 one-page : (g : Entry) (l : List Entry) → highestStart (g ∷ l) ≡ orHigher (highestStart l) g
@@ -105,8 +105,15 @@ module _ (files : ℕ) (s : List ℕ) where
 
 -- ---- no image starts above it
 
-pub none-later : (l : List Entry) (p : ℕ) (i : log.Image) → nth blank l p ≡ image i → i .start ≤ highestStart l
-none-later l zero i e = clash cc
-none-later [] (suc p) i e = clash cc
-none-later (g ∷ l) (suc zero) i e = rw e (omega (arith, one-page (image i) l))
-none-later (g ∷ l) (suc (suc p)) i e = let h = none-later l (suc p) i e in omega (arith, one-page g l, at-least g (highestStart l))
+none-above : (l : List Entry) (p : ℕ) (i : log.Image) → nth blank l p ≡ image i → i .start ≤ highestStart l
+none-above l zero i e = clash cc
+none-above [] (suc p) i e = clash cc
+none-above (g ∷ l) (suc zero) i e = rw e (omega (arith, one-page (image i) l))
+none-above (g ∷ l) (suc (suc p)) i e = let h = none-above l (suc p) i e in omega (arith, one-page g l, at-least g (highestStart l))
+
+pub none-later : (files : ℕ) (s : List ℕ) (p : ℕ) (i : log.Image) → sealed files s p ≡ image i → i .start ≤ highestStart (pagesOf s files)
+none-later files s p i e = go (hasPlace s p) refl
+  where
+    go : (b : Bool) → hasPlace s p ≡ b → i .start ≤ highestStart (pagesOf s files)
+    go true h = none-above (pagesOf s files) p i (page-at-place files (length s / pageSize) s p (place-in s p h .0) (place-in s p h .1) ∙ e)
+    go false h = let z : bad ≡ image i = sealed-is s p files Refused (test-out s p files (place-out s p h)) ∙ e in clash cc
