@@ -1,5 +1,6 @@
-// The door of the tests and timings outside Rattle: a call, an opening or a rebuild as numbers. What it answers is given as eight
-// numbers, the answer's five and the state's three, in a lent run; with a run of another length nothing is done.
+// The door of the tests and timings outside Rattle: a call, an opening or a rebuild as numbers, and the highest start. What a call, an
+// opening or a rebuild answers is given as eight numbers, the answer's five and the state's three, in a lent run; with a run of another
+// length nothing is done.
 use calls::Call;
 use calls::make;
 use recovery::Done;
@@ -8,7 +9,8 @@ use recovery::numbers_of;
 use recovery::refuse;
 ghost use mathlib.Core.Path.{_≡_};
 ghost use lib.ListN.{length};
-ghost use Rattle.recovery.specs.Lent.{leftBy, openLeaves, rebuildLeaves};
+ghost use Rattle.recovery.specs.Log.{highestStart};
+ghost use Rattle.recovery.specs.Lent.{leftBy, pagesOf, openLeaves, rebuildLeaves};
 ghost use Rattle.harness.specs.Door.{numberCount, eightNumbers, callOf, made, stateWith, left, given};
 
 // How many numbers are given.
@@ -147,4 +149,12 @@ pub extern "C" fn door_rebuild(
     let state = state_with(end, floor, undecided);
     let done = recovery::rebuild(sheet, fates, rows, state, file);
     tell(out, done);
+}
+
+// The highest start of the images on a sheet.
+#[no_mangle]
+pub extern "C" fn door_highest_start(sheet: &[u8], files: u64) -> u64
+    ensures { λ r. ⌜ r ≡ highestStart (pagesOf (now (sheet .entry)) files) ⌝ }
+{
+    recovery::highest_start(sheet, files)
 }

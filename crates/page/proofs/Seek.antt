@@ -1,10 +1,10 @@
--- The quick look, by kind and file, says what the page test says. Assumes nothing.
+-- The quick looks, by an image's kind and one field more, say what the page test says. Assumes nothing.
 use Prim.Native.Nat.{ℕ}
 use mathlib.Core.Path.{_≡_, refl, sym, ap, _∙_}
-use mathlib.Core.Bool.{true, false, _&&_, false≢true}
+use mathlib.Core.Bool.{Bool, true, false, _&&_, false≢true}
 use mathlib.Core.List.{List}
-use borrow.Author.Tests.{eqb-true, eq-eqb, ne-eqb}
-use Rattle.encoding.proofs.Logic.{and-true}
+use borrow.Author.Tests.{eqb-true, eq-eqb}
+use Rattle.encoding.proofs.Logic.{and-true, is-false}
 use lib.Dec.{eqb}
 use lib.ListN.{length}
 use Rattle.page.specs.declared.Page.{Page}
@@ -13,17 +13,18 @@ use Rattle.page.specs.declared.Unpacked.the-variants.{Refused, Blank, To
 use Rattle.page.specs.declared.Sought as sought
 use Rattle.page.specs.Layout.{pageSize}
 use Rattle.page.specs.Table.{fieldsOf}
-use Rattle.page.specs.Answers.{tested, imageOfFile}
+use Rattle.page.specs.Answers.{tested, imageThat, imageOfFile}
 use Rattle.page.specs.Steps.{named}
 use Rattle.page.proofs.Found.{found}
 
-module _ (s : List ℕ) (place files file : ℕ) where
-  -- a part that is not named so is no image of the file
-  pub unnamed : named s file ≡ false → sought.Sought.Other ≡ imageOfFile file (tested s place files)
-  unfolding named imageOfFile
-  unnamed h = go (tested s place files) refl
+-- ---- an image that passes a test
+
+module _ (passes : Page → Bool) (s : List ℕ) (place files : ℕ) where
+  -- a part that does not have its size or its kind, or whose fields do not pass, is none
+  pub no-image : (length s ≡ pageSize → fieldsOf s .kind ≡ 2 → passes (fieldsOf s) ≡ true → ⊥) → sought.Sought.Other ≡ imageThat passes (tested s place files)
+  no-image h = go (tested s place files) refl
     where
-      go : (u : Unpacked) → u ≡ tested s place files → sought.Sought.Other ≡ imageOfFile file u
+      go : (u : Unpacked) → u ≡ tested s place files → sought.Sought.Other ≡ imageThat passes u
       go Refused e = refl
       go Blank e = refl
       go Torn e = refl
@@ -32,23 +33,43 @@ module _ (s : List ℕ) (place files file : ℕ) where
       go Unfit e = refl
       go (Image p) e =
           let f = found s place files (Image p) e in
-          let k : fieldsOf s .kind ≡ 2 = ap (λ (x : Page). x .kind) (sym (f .fields-are)) ∙ f .kind-is in
-          let other : p .file ≡ file → ⊥ = λ z. let y : fieldsOf s .file ≡ file = ap (λ (x : Page). x .file) (sym (f .fields-are)) ∙ z in
-          false≢true (sym (simp (eq-eqb (length s) pageSize (f .bounds .size-is), eq-eqb (fieldsOf s .kind) 2 k, eq-eqb (fieldsOf s .file) file y) at h)) in
-          rw (ne-eqb (p .file) file other)
+          let other : passes p ≡ false = is-false (passes p) (λ z. h (f .bounds .size-is) (ap (λ (x : Page). x .kind) (sym (f .fields-are)) ∙ f .kind-is) (ap passes (sym (f .fields-are)) ∙ z)) in
+          rw other
+
+  -- one whose fields pass, and that the page test calls an image, is
+  pub that-image : (x : Page) → Image x ≡ tested s place files → passes (fieldsOf s) ≡ true → sought.Sought.Image x ≡ imageThat passes (tested s place files)
+  that-image x e h =
+      let g : passes x ≡ true = ap passes (found s place files (Image x) e .fields-are) ∙ h in
+      rw (← e) (rw g)
+
+  -- and its fields can be read again from the part
+  pub read-again : (p x : Page) → Image x ≡ tested s place files → p ≡ fieldsOf s → passes (fieldsOf s) ≡ true → sought.Sought.Image p ≡ imageThat passes (tested s place files)
+  read-again p x e r h = ap sought.Sought.Image (r ∙ sym (found s place files (Image x) e .fields-are)) ∙ that-image x e h
+
+-- ---- an image of a file
+
+module _ (s : List ℕ) (place files file : ℕ) where
+  abbrev ofFile : Page → Bool
+  ofFile p = eqb (p .file) file
+
+  -- a part that is not named so is no image of the file
+  pub unnamed : named s file ≡ false → sought.Sought.Other ≡ imageOfFile file (tested s place files)
+  unfolding named imageOfFile
+  unnamed h = no-image ofFile s place files (λ size kind f. false≢true (sym (simp (eq-eqb (length s) pageSize size, eq-eqb (fieldsOf s .kind) 2 kind, f) at h)))
 
   pub named-size : named s file ≡ true → length s ≡ pageSize
   unfolding named
-  named-size h = eqb-true (length s) pageSize (and-true (eqb (length s) pageSize) (eqb (fieldsOf s .kind) 2) (and-true (eqb (length s) pageSize && eqb (fieldsOf s .kind) 2) (eqb (fieldsOf s .file) file) h .0) .0)
+  named-size h = eqb-true (length s) pageSize (and-true (eqb (length s) pageSize) (eqb (fieldsOf s .kind) 2) (and-true (eqb (length s) pageSize && eqb (fieldsOf s .kind) 2) (ofFile (fieldsOf s)) h .0) .0)
+
+  named-file : named s file ≡ true → ofFile (fieldsOf s) ≡ true
+  unfolding named
+  named-file h = and-true (eqb (length s) pageSize && eqb (fieldsOf s .kind) 2) (ofFile (fieldsOf s)) h .1
 
   -- one that is, and that the page test calls an image, is the file's
   pub named-image : (x : Page) → named s file ≡ true → Image x ≡ tested s place files → sought.Sought.Image x ≡ imageOfFile file (tested s place files)
-  unfolding imageOfFile named
-  named-image x h e =
-      let f : fieldsOf s .file ≡ file = eqb-true (fieldsOf s .file) file (and-true (eqb (length s) pageSize && eqb (fieldsOf s .kind) 2) (eqb (fieldsOf s .file) file) h .1) in
-      let g : x .file ≡ file = ap (λ (y : Page). y .file) (found s place files (Image x) e .fields-are) ∙ f in
-      rw (← e) (simp (eq-eqb (x .file) file g))
+  unfolding imageOfFile
+  named-image x h e = that-image ofFile s place files x e (named-file h)
 
-  -- the fields are read again from the part
   pub this-image : (p x : Page) → named s file ≡ true → Image x ≡ tested s place files → p ≡ fieldsOf s → sought.Sought.Image p ≡ imageOfFile file (tested s place files)
-  this-image p x h e r = ap sought.Sought.Image (r ∙ sym (found s place files (Image x) e .fields-are)) ∙ named-image x h e
+  unfolding imageOfFile
+  this-image p x h e r = read-again ofFile s place files p x e r (named-file h)

@@ -1,10 +1,10 @@
--- What the page layer's functions answer and leave, on all inputs: pack (encode), the page test (decode), the quick look for
--- one file's image, and the value; the number and the values of each answer; and what a cut leaves of an append.
+-- What the page layer's functions answer and leave, on all inputs: pack (encode), the page test (decode), the quick looks for
+-- an image, and the value; the number and the values of each answer; and what a cut leaves of an append.
 use Prim.Native.Nat.{ℕ, _-_}
 use mathlib.Core.List.{List, [], _∷_, _++_}
 use mathlib.Core.Bool.{Bool, true, false, _&&_, cond}
 use lib.ListN.{length, take, replicate}
-use lib.Dec.{eqb}
+use lib.Dec.{eqb, ltb}
 use Rattle.encoding.specs.Bytes.{zeros}
 use Rattle.page.specs.declared.Page.{Page}
 use Rattle.page.specs.declared.Unpacked.{Unpacked}
@@ -98,7 +98,7 @@ packNumber packing.Packing.Packed = 0
 packNumber packing.Packing.Refused = 1
 packNumber packing.Packing.Unfit = 2
 
--- ---- the quick look, and the value
+-- ---- the quick looks, and the value
 
 -- by cases, for the layers above: f of an image's fields, d of any other answer
 abbrev pub onImage : {A : Type 0} → Unpacked → (Page → A) → A → A
@@ -110,9 +110,16 @@ onImage (Image p) f d = f p
 onImage (Outcome p) f d = d
 onImage Unfit f d = d
 
--- an image of this file, of what the page test says
+-- an image that passes a test, of what the page test says
+abbrev pub imageThat : (Page → Bool) → Unpacked → Sought
+imageThat passes u = onImage u (λ (p : Page). cond (passes p) (sought.Sought.Image p) sought.Sought.Other) sought.Sought.Other
+
+-- an image of this file; one that starts above a time
 unfoldable pub imageOfFile : ℕ → Unpacked → Sought
-imageOfFile file u = onImage u (λ (p : Page). cond (eqb (p .file) file) (sought.Sought.Image p) sought.Sought.Other) sought.Sought.Other
+imageOfFile file u = imageThat (λ (p : Page). eqb (p .file) file) u
+
+unfoldable pub imageAbove : ℕ → Unpacked → Sought
+imageAbove time u = imageThat (λ (p : Page). ltb time (p .start)) u
 
 -- the value's 32 bytes, zeros where the part is not a page's size
 unfoldable pub valueIn : List ℕ → List ℕ

@@ -17,7 +17,7 @@ ghost use Rattle.encoding.specs.Bytes.{bytes, zeros, same, check};
 ghost use Rattle.page.specs.Layout.{valueAt, pageSize, mostPlaces, valueSize};
 ghost use Rattle.page.specs.Table.{head, front, packed, field, fieldsOf, opening, image, outcome, lowest, highest, within, between, used, meetsRules, isPageOf, torn};
 ghost use Rattle.page.specs.Steps.{framed, named};
-ghost use Rattle.page.specs.Answers.{inBounds, byKind, tested, isBlankPage, isOpeningPage, isOutcomeOf, packs, imageOfFile, valueIn};
+ghost use Rattle.page.specs.Answers.{inBounds, byKind, tested, isBlankPage, isOpeningPage, isOutcomeOf, packs, imageOfFile, imageAbove, valueIn};
 
 // The fields of a page (a log record), kind to start. The 32 bytes of the value stay beside it.
 pub struct Page {
@@ -40,7 +40,7 @@ pub enum Unpacked {
     Unfit,
 }
 
-// What the quick look finds: an image of the file asked for, or anything else.
+// What a quick look finds: an image as it was asked for, or anything else.
 pub enum Sought {
     Image(Page),
     Other,
@@ -427,6 +427,26 @@ impl Page {
             return Sought::Other;
         };
         // Read again from the part: a copy of the answer would wait for its stores.
+        Sought::Image(Page::fields(part))
+    }
+
+    // The image in a part that starts above a time, by its kind and start before anything else.
+    pub fn seek_above(part: &[u8], place: u64, files: u64, time: u64) -> Sought
+        ensures { λ r. ⌜ r ≡ imageAbove time (tested (now (part .entry)) place files) ⌝ }
+    {
+        if part.len() != Page::SIZE {
+            return Sought::Other;
+        }
+        if byte_at(part, Page::KIND) != 2 {
+            return Sought::Other;
+        }
+        if field(part, Page::START, Page::VALUE) <= time {
+            return Sought::Other;
+        }
+        let Unpacked::Image(_) = Page::test(part, place, files) else {
+            return Sought::Other;
+        };
+        // Read again from the part, as in seek.
         Sought::Image(Page::fields(part))
     }
 

@@ -5,6 +5,7 @@ pub mod Sizes
 pub mod Lookups
 pub mod LogFolds
 pub mod Outcomes
+pub mod HighestStart
 pub mod WalkDown
 pub mod Held
 pub mod Leaves

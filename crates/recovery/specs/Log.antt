@@ -3,7 +3,7 @@
 use mathlib.Core.List.{List, [], _∷_, head?}
 use mathlib.Core.Bool.{Bool, true, false, cond}
 use mathlib.Core.Option.{Option, some, none}
-use Prim.Native.Nat.{ℕ, suc}
+use Prim.Native.Nat.{ℕ, suc, max}
 use lib.ListN.{length}
 use lib.Dec.{eqb}
 
@@ -116,3 +116,14 @@ placeOf none = 0
 abbrev pub startOf : Option Placed → ℕ
 startOf (some x) = x .image .start
 startOf none = 0
+
+-- ---- the highest start of any image, 0 if there is none: whatever became of its action
+
+unfoldable pub highestStart : List Entry → ℕ
+highestStart [] = 0
+highestStart (blank ∷ l) = highestStart l
+highestStart (torn ∷ l) = highestStart l
+highestStart (bad ∷ l) = highestStart l
+highestStart (opening ∷ l) = highestStart l
+highestStart (image i ∷ l) = max (i .start) (highestStart l)
+highestStart (outcome a c ∷ l) = highestStart l

@@ -1,11 +1,12 @@
 // Recovery: what a sheet says, read off its pages alone. Open finds the end, the bad pages and the fates,
-// rebuild a file's row (docs/STORE.md, The calls).
+// rebuild a file's row (docs/STORE.md, The calls); a bare `open` asks for the highest start.
 mod lookup;
 mod numbering;
 mod opening;
 mod rebuilding;
 mod rolling;
 mod rows;
+mod starts;
 
 pub use lookup::fate_at;
 pub use lookup::image_at;
@@ -28,6 +29,7 @@ pub use rows::has_file;
 pub use rows::is_file;
 pub use rows::row_of;
 pub use rows::set_row;
+pub use starts::highest_start;
 ghost use mathlib.Core.Path.{_≡_};
 ghost use Rattle.recovery.specs.Lent.{sizesRight};
 ghost use Rattle.recovery.specs.Steps.{lineOne, refusal};

@@ -1,0 +1,112 @@
+-- The highest start of a sheet, as the code walks down to it; and no image of the sheet starts above it. Assumes nothing.
+use Prim.Native.Nat.{ℕ, zero, suc, max, _*_, _-_, _/_, _<_, _≤_}
+use mathlib.Core.Path.{_≡_, refl, sym, ap, _∙_}
+use mathlib.Core.Bool.{Bool, true, false, cond}
+use mathlib.Core.List.{List, [], _∷_}
+use native.Mathlib.Omega.{arith}
+use native.Mathlib.Numerals.{sub-one}
+use lib.ListN.{length}
+use lib.Dec.{ltb, leb}
+use borrow.Author.Tests.{ltb-true, ltb-false}
+use Rattle.encoding.proofs.Logic.{by-test, clash}
+use Rattle.page.specs.declared.Page.{Page}
+use Rattle.page.specs.declared.Unpacked.{Unpacked}
+use Rattle.page.specs.declared.Unpacked.the-variants.{Refused, Blank, Torn, Opening, Image, Outcome, Unfit}
+use Rattle.page.specs.declared.Sought as sought
+use Rattle.page.specs.declared.Sought.{Sought}
+use Rattle.page.specs.Layout.{pageSize}
+use Rattle.page.specs.Answers.{tested, imageAbove}
+use Rattle.recovery.specs.Places.{nth, tabulate}
+use Rattle.recovery.specs.Log as log
+use Rattle.recovery.specs.Log.{Entry, blank, torn, bad, opening, image, outcome, highestStart}
+use Rattle.recovery.specs.Sheet.{pageBytes, imageFrom, entryOf, isOpening, seal, decoded, sealed, pages}
+use Rattle.recovery.specs.Lent.{pagesOf}
+use Rattle.recovery.specs.Steps.{partAt, orHigher}
+use Rattle.recovery.proofs.Pages.{part-tested, sealed-is}
+
+-- what a page adds
+one-page : (g : Entry) (l : List Entry) → highestStart (g ∷ l) ≡ orHigher (highestStart l) g
+unfolding highestStart
+one-page blank l = refl
+one-page torn l = refl
+one-page bad l = refl
+one-page opening l = refl
+one-page (image i) l = refl
+one-page (outcome a c) l = refl
+
+at-least : (g : Entry) (x : ℕ) → x ≤ orHigher x g
+at-least blank x = omega arith
+at-least torn x = omega arith
+at-least bad x = omega arith
+at-least opening x = omega arith
+at-least (image i) x = omega arith
+at-least (outcome a c) x = omega arith
+
+module _ (files : ℕ) (s : List ℕ) where
+  -- ---- a page, by the quick look
+
+  -- what was found counts if its opening is there
+  abbrev orFound : ℕ → Sought → ℕ
+  orFound start (sought.Sought.Image x) = cond (isOpening (decoded files s (x .action))) (x .start) start
+  orFound start sought.Sought.Other = start
+
+  looked : (b : List ℕ) (start : ℕ) (u : Unpacked) → orFound start (imageAbove start u) ≡ orHigher start (seal (decoded files s) (entryOf b u))
+  unfolding imageAbove
+  looked b start Refused = refl
+  looked b start Blank = refl
+  looked b start Torn = refl
+  looked b start (Opening p) = refl
+  looked b start (Outcome p) = by-test (λ (g : Entry). start ≡ orHigher start g) (isOpening (decoded files s (p .action))) (λ e. refl) (λ e. refl)
+  looked b start Unfit = refl
+  looked b start (Image p) = go (ltb start (p .start)) (isOpening (decoded files s (p .action))) refl refl
+    where
+      go : (z d : Bool) → ltb start (p .start) ≡ z → isOpening (decoded files s (p .action)) ≡ d
+          → orFound start (cond z (sought.Sought.Image p) sought.Sought.Other) ≡ orHigher start (cond d (image (imageFrom b p)) bad)
+      go true true h e = let l : start < p .start = ltb-true start (p .start) h in rw e (omega arith)
+      go true false h e = rw e
+      go false true h e = let l : p .start ≤ start = ltb-false start (p .start) h in omega arith
+      go false false h e = refl
+
+  module _ (start place : ℕ) (part : List ℕ) (q : part ≡ partAt s place) where
+    by-look : (v : Sought) → v ≡ imageAbove start (tested part place files) → orFound start v ≡ orHigher start (sealed files s place)
+    by-look v e =
+        ap (orFound start) (e ∙ ap (λ (b : List ℕ). imageAbove start (tested b place files)) q ∙ ap (imageAbove start) (part-tested s place files))
+        ∙ looked (pageBytes s place) start (tested (pageBytes s place) place files) ∙ ap (orHigher start) (sealed-is s place files (tested (pageBytes s place) place files) refl)
+
+    pub look-none : sought.Sought.Other ≡ imageAbove start (tested part place files) → start ≡ orHigher start (sealed files s place)
+    look-none e = by-look sought.Sought.Other e
+
+    module _ (x : Page) (e : sought.Sought.Image x ≡ imageAbove start (tested part place files)) where
+      pub look-unsealed : isOpening (decoded files s (x .action)) ≡ false → start ≡ orHigher start (sealed files s place)
+      look-unsealed h = rw h at (by-look (sought.Sought.Image x) e)
+
+      pub look-sealed : isOpening (decoded files s (x .action)) ≡ true → x .start ≡ orHigher start (sealed files s place)
+      look-sealed h = rw h at (by-look (sought.Sought.Image x) e)
+
+  -- ---- the walk: the highest start above a place
+
+  abbrev pub startAbove : ℕ → ℕ
+  startAbove place = highestStart (tabulate (sealed files s) place (length s / pageSize - place))
+
+  pub none-yet : 0 ≡ startAbove (length s / pageSize)
+  unfolding highestStart tabulate
+  none-yet = let z : length s / pageSize - length s / pageSize ≡ 0 = omega arith in rw z
+
+  pub one-lower : (p : ℕ) → 0 < p → p ≤ length s / pageSize → orHigher (startAbove p) (sealed files s p) ≡ startAbove (p - 1)
+  unfolding tabulate
+  one-lower zero l h = absurd (omega arith)
+  one-lower (suc q) l h =
+      let z : length s / pageSize - q ≡ suc (length s / pageSize - suc q) = omega arith in
+      rw (sub-one, z) (sym (one-page (sealed files s (suc q)) (tabulate (sealed files s) (suc q) (length s / pageSize - suc q))))
+
+  pub all-seen : startAbove 0 ≡ highestStart (pagesOf s files)
+  unfolding pages
+  all-seen = let z : length s / pageSize - 0 ≡ length s / pageSize = omega arith in rw z
+
+-- ---- no image starts above it
+
+pub none-later : (l : List Entry) (p : ℕ) (i : log.Image) → nth blank l p ≡ image i → i .start ≤ highestStart l
+none-later l zero i e = clash cc
+none-later [] (suc p) i e = clash cc
+none-later (g ∷ l) (suc zero) i e = rw e (omega (arith, one-page (image i) l))
+none-later (g ∷ l) (suc (suc p)) i e = let h = none-later l (suc p) i e in omega (arith, one-page g l, at-least g (highestStart l))
