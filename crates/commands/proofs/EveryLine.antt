@@ -11,7 +11,7 @@ use Rattle.encoding.specs.Bytes.{same}
 use Rattle.encoding.proofs.Logic.{and-true, by-test}
 use Rattle.calls.specs.declared.making.Call.the-variants.{Begin, Write, Read, Test, Commit, Abort}
 use Rattle.commands.specs.declared.parsing.Command.{Command}
-use Rattle.commands.specs.declared.parsing.Command.the-variants.{What, Open, Cut, Call}
+use Rattle.commands.specs.declared.parsing.Command.the-variants.{What, BareOpen, Open, Cut, Call}
 use Rattle.commands.specs.declared.parsing.Number.{Number}
 use Rattle.commands.specs.declared.parsing.Number.the-variants.{Is, Not}
 use Rattle.commands.specs.declared.parsing.Numbers.{Numbers}
@@ -69,6 +69,7 @@ last-word (b ∷ s) (suc k) e = go (eqb b 32) (last-word s k) (last-word s (suc 
 -- whatever holds of each command that a line can be holds of the command that it is
 pub record Ways (line : List ℕ) (P : Command → Type 0) : Type 0 where
   pub what : P What
+  pub opens-bare : P BareOpen
   pub opens : (files floor : ℕ) → P (Open files floor)
   pub cuts : (n : ℕ) → P (Cut n)
   pub begins : P (Call Begin (length line))
@@ -126,7 +127,7 @@ module _ (line : List ℕ) (P : Command → Type 0) (ways : Ways line P) where
   by-words : (ws : List (List ℕ)) → words line ≡ ws → P (commandOf (length line) ws)
   unfolding commandOf alone
   by-words [] f = ways .what
-  by-words (w ∷ []) f = by-test P (same w openName) (λ _. ways .opens 8 0) (λ _. by-test P (same w beginName) (λ _. ways .begins) (λ _. ways .what))
+  by-words (w ∷ []) f = by-test P (same w openName) (λ _. ways .opens-bare) (λ _. by-test P (same w beginName) (λ _. ways .begins) (λ _. ways .what))
   by-words (w ∷ a ∷ []) f = by-one w (numberOf a)
   by-words (w ∷ a ∷ b ∷ []) f = by-two w (numberOf a) (numberOf b)
   by-words (w ∷ a ∷ b ∷ c ∷ []) f = by-three w (three (numberOf a) (numberOf b) (numberOf c))

@@ -4,7 +4,7 @@ use mathlib.Core.Path.{_≡_, refl}
 use mathlib.Core.List.{List, [], _∷_, _++_, map}
 use lib.ListN.{replicate}
 use Rattle.commands.specs.declared.parsing.Command.{Command}
-use Rattle.commands.specs.declared.parsing.Command.the-variants.{What, Open, Cut, Call}
+use Rattle.commands.specs.declared.parsing.Command.the-variants.{What, BareOpen, Open, Cut, Call}
 use Rattle.calls.specs.declared.making.Call.the-variants.{Begin, Write, Read, Test}
 use Rattle.commands.specs.declared.printing.Reply as reply
 use Rattle.commands.specs.Names.{openName, beginName, writeName, readName, testName, commitName, abortName, cutName, noName}
@@ -39,7 +39,7 @@ lines =
 
 abbrev commands : List Command
 commands =
-    Open 8 0 ∷ What ∷ Open 8 5 ∷ What ∷ What ∷ Call Begin 5 ∷ What
+    BareOpen ∷ What ∷ Open 8 5 ∷ What ∷ What ∷ Call Begin 5 ∷ What
     ∷ Call (Write 3 10 1) 13 ∷ What ∷ What ∷ Call (Write 1 1 1) 12 ∷ What
     ∷ Call (Read 3 10 0) 11 ∷ Call (Test 4) 8 ∷ Call (Test (2 ^ 64 - 1)) 25 ∷ What ∷ Cut 64 ∷ What ∷ []
 

@@ -8,7 +8,7 @@ use Rattle.page.specs.Layout.{pageSize}
 use Rattle.encoding.specs.Bytes.{same}
 use Rattle.calls.specs.declared.making.Call.the-variants.{Begin, Write, Read, Test, Commit, Abort}
 use Rattle.commands.specs.declared.parsing.Command.{Command}
-use Rattle.commands.specs.declared.parsing.Command.the-variants.{What, Open, Cut, Call}
+use Rattle.commands.specs.declared.parsing.Command.the-variants.{What, BareOpen, Open, Cut, Call}
 use Rattle.commands.specs.declared.parsing.Number.{Number}
 use Rattle.commands.specs.declared.parsing.Number.the-variants.{Is, Not}
 use Rattle.commands.specs.declared.parsing.Numbers.{Numbers}
@@ -58,9 +58,9 @@ isText w = ltb 0 (length w) && printable w
 -- ---- the commands, by how many words they have, in a line of this size; beside a call stands where a write's text begins, and for
 -- the other calls the line's length
 
--- `open` for 8 files and floor 0; `begin`
+-- `open`, `begin`
 unfoldable pub alone : ℕ → List ℕ → Command
-alone size w = cond (same w openName) (Open 8 0) (cond (same w beginName) (Call Begin size) What)
+alone size w = cond (same w openName) BareOpen (cond (same w beginName) (Call Begin size) What)
 
 -- `test A`, `commit A`, `abort A`, `cut N`
 unfoldable pub withOne : ℕ → List ℕ → Number → Command

@@ -10,10 +10,11 @@ ghost use Rattle.encoding.specs.Bytes.{same};
 ghost use Rattle.commands.specs.Commands.{words, numberOf, three, isText, alone, withOne, withTwo, withThree, withText, parsed};
 ghost use Rattle.commands.specs.ParseSteps.{spaceAt, numberAt, numbersIn, addDigit};
 
-// What a line asks for: open with the file count and the floor, cut with a number of bytes, or a call and the index at which a
-// write's text begins. For the other calls that is the line's length, so that they are lent no value.
+// What a line asks for: open without numbers, open with the file count and the floor, cut with a number of bytes, or a call and the
+// index at which a write's text begins. For the other calls that is the line's length, so that they are lent no value.
 pub enum Command {
     What,
+    BareOpen,
     Open(u64, u64),
     Cut(u64),
     Call(Call, usize),
@@ -181,7 +182,7 @@ fn alone(size: usize, w: &[u8]) -> Command
     ensures { λ r. ⌜ r ≡ alone size (now (w .entry)) ⌝ }
 {
     if is_same(w, b"open") {
-        return Command::Open(8, 0);
+        return Command::BareOpen;
     }
     if is_same(w, b"begin") {
         return Command::Call(Call::Begin, size);

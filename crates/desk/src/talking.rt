@@ -10,6 +10,7 @@ use encoding::least;
 use page::Page;
 use recovery::ROW_LENGTH;
 use recovery::State;
+use recovery::highest_start;
 use recovery::numbers_of;
 ghost use mathlib.Core.Path.{_≡_};
 ghost use Prim.Native.Nat.{_*_, _≤_};
@@ -17,7 +18,7 @@ ghost use lib.ListN.{length, drop};
 ghost use Rattle.page.specs.Layout.{mostFiles};
 ghost use Rattle.recovery.specs.Lent.{closed, rowLength};
 ghost use Rattle.commands.specs.Commands.{parsed};
-ghost use Rattle.desk.specs.Conversation.{openedFor, startedFor, isOpen, calledFor, conversed, firstDesk, saidTo};
+ghost use Rattle.desk.specs.Conversation.{openedFor, startedFor, isOpen, calledFor, bareFiles, bareFloor, conversed, firstDesk, saidTo};
 ghost use Rattle.desk.specs.TalkSteps.{leftAfter, leftSaid};
 
 // What the desk keeps from line to line, beside sheet, fates and rows: whether it has a state, for how many files, and after how many
@@ -47,6 +48,9 @@ pub const PAGES: usize = 256;
 pub const SHEET: usize = PAGES * Page::SIZE;
 
 pub const ROWS: usize = ROW_LENGTH * (Page::MOST_FILES as usize);
+
+// For so many files `open` is without numbers.
+const BARE_FILES: u64 = 8;
 
 pub(crate) const NO_CUT: u64 = Page::SIZE as u64 + 1;
 
@@ -127,6 +131,15 @@ fn start(
     open_desk(sheet, fates, &mut rows[0..n], desk, files, floor)
 }
 
+// `open` without numbers: the floor is the highest start on the sheet.
+fn bare_start(sheet: &[u8], fates: &mut [u8], rows: &mut [u64], desk: Desk) -> Turn
+    requires { ⌜ length (now rows) ≡ rowLength * mostFiles ⌝ }
+    ensures { λ r. ⌜ leftAfter r (now (sheet .entry)) (now (fates .exit)) (now (rows .exit)) ≡ startedFor desk (now (sheet .entry)) (now (fates .entry)) (now (rows .entry)) bareFiles (bareFloor (now (sheet .entry))) ⌝ }
+{
+    let floor = highest_start(sheet, BARE_FILES);
+    start(sheet, fates, rows, desk, BARE_FILES, floor)
+}
+
 // There is a state, for files whose rows can be lent.
 fn is_open(desk: Desk) -> bool
     ensures { λ r. ⌜ r ≡ isOpen desk ⌝ }
@@ -182,6 +195,7 @@ fn converse(sheet: &mut [u8], fates: &mut [u8], rows: &mut [u64], desk: Desk, li
     let command = parse(line);
     match command {
         Command::What => only(Reply::What, desk),
+        Command::BareOpen => bare_start(&sheet[..], fates, rows, desk),
         Command::Open(files, floor) => start(&sheet[..], fates, rows, desk, files, floor),
         Command::Cut(n) => only(Reply::Cut(n), with_cut(desk, n)),
         Command::Call(call, from) => call_now(sheet, fates, rows, desk, call, rest(line, from)),

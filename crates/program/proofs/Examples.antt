@@ -14,7 +14,7 @@ use Rattle.commands.specs.declared.printing.Reply as reply
 use Rattle.page.specs.Table.{head, front, packed, fieldsOf, lowest, highest, within, between, meetsRules, isPageOf, torn}
 use Rattle.page.specs.Answers.{inBounds, tested}
 use Rattle.recovery.specs.Places.{tabulate}
-use Rattle.recovery.specs.Log.{fateOf, outcomeOf, imagesOf, versionsOf, tokenOf}
+use Rattle.recovery.specs.Log.{fateOf, outcomeOf, imagesOf, versionsOf, tokenOf, highestStart}
 use Rattle.recovery.specs.Sheet.{decoded, sealed, pages}
 use Rattle.recovery.specs.World.{down, warmRow, rowHolds, lentRight, endOf, highestBad, undecidedOf, coldRows, opened}
 use Rattle.recovery.specs.Lent.{rowsOf, flat, sizesRight, openLeaves}
@@ -50,7 +50,7 @@ listing =
 
 listing-keeps : AllKeep 8 listing
 unfolding words numberOf three isText alone withOne withTwo withThree withText commandOf parsed openName beginName writeName readName testName commitName abortName cutName
-listing-keeps = (λ e. refl, (tt, (tt, (tt, (tt, (tt, (tt, (tt, (tt, (tt, (tt, (λ e. refl, (tt, (tt, (tt, (tt, tt))))))))))))))))
+listing-keeps = (refl, (tt, (tt, (tt, (tt, (tt, (tt, (tt, (tt, (tt, (tt, (refl, (tt, (tt, (tt, (tt, tt))))))))))))))))
 
 pub listing-runs : Run pageCount 8 (runOf 8 (replicate 256 0) (replicate 1280 0) listing)
 listing-runs = program 8 refl (replicate 256 0) (replicate 1280 0) refl .is-run listing listing-keeps
@@ -63,12 +63,12 @@ abbrev asks : List ℕ
 asks = 114 ∷ 101 ∷ 97 ∷ 100 ∷ 32 ∷ 51 ∷ 32 ∷ 49 ∷ 48 ∷ 32 ∷ 49 ∷ []
 
 shown-short : turned (memoryAfter 8 (replicate 256 0) (replicate 1280 0) short) asks .turn .reply ≡ reply.Reply.Shown 2 10 2
-unfolding words numberOf three isText alone withOne withTwo withThree withText commandOf parsed openName beginName writeName readName testName commitName abortName cutName callReply openReply startedFor openedFor calledFor acted head front packed fieldsOf lowest highest within between meetsRules isPageOf torn inBounds tested tabulate fateOf imagesOf versionsOf tokenOf decoded sealed pages down warmRow rowHolds lentRight endOf highestBad undecidedOf coldRows opened rowsOf flat sizesRight openLeaves follow eachRow call packedEntry withPage callLeaves isRefused
+unfolding words numberOf three isText alone withOne withTwo withThree withText commandOf parsed openName beginName writeName readName testName commitName abortName cutName callReply openReply startedFor openedFor calledFor acted head front packed fieldsOf lowest highest within between meetsRules isPageOf torn inBounds tested tabulate fateOf imagesOf versionsOf tokenOf highestStart decoded sealed pages down warmRow rowHolds lentRight endOf highestBad undecidedOf coldRows opened rowsOf flat sizesRight openLeaves follow eachRow call packedEntry withPage callLeaves isRefused
 shown-short = refl
 
 short-keeps : AllKeep 8 short
 unfolding words numberOf three isText alone withOne withTwo withThree withText commandOf parsed openName beginName writeName readName testName commitName abortName cutName
-short-keeps = (λ e. refl, (tt, (tt, tt)))
+short-keeps = (refl, (tt, (tt, tt)))
 
 asks-read : parsed asks ≡ command.Command.Call (code.Call.Read 3 10 1) 11
 unfolding words numberOf three isText alone withOne withTwo withThree withText commandOf parsed openName beginName writeName readName testName commitName abortName cutName
@@ -89,5 +89,5 @@ abbrev asked : After
 asked = turned (memoryAfter 8 (replicate 256 0) (replicate 1280 0) cutWaits) again
 
 pub cut-waits-on : (asked .turn .reply ≡ reply.Reply.Committed 2) × (asked .turn .desk .cut ≡ 20)
-unfolding words numberOf three isText alone withOne withTwo withThree withText commandOf parsed openName beginName writeName readName testName commitName abortName cutName callReply openReply startedFor openedFor calledFor acted head front packed fieldsOf lowest highest within between meetsRules isPageOf torn inBounds tested tabulate fateOf outcomeOf imagesOf versionsOf tokenOf decoded sealed pages down warmRow rowHolds lentRight endOf highestBad undecidedOf coldRows opened rowsOf flat sizesRight openLeaves follow eachRow call packedEntry withPage callLeaves isRefused
+unfolding words numberOf three isText alone withOne withTwo withThree withText commandOf parsed openName beginName writeName readName testName commitName abortName cutName callReply openReply startedFor openedFor calledFor acted head front packed fieldsOf lowest highest within between meetsRules isPageOf torn inBounds tested tabulate fateOf outcomeOf imagesOf versionsOf tokenOf highestStart decoded sealed pages down warmRow rowHolds lentRight endOf highestBad undecidedOf coldRows opened rowsOf flat sizesRight openLeaves follow eachRow call packedEntry withPage callLeaves isRefused
 cut-waits-on = (refl, refl)

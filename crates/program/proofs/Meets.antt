@@ -29,7 +29,7 @@ use Rattle.commands.specs.declared.parsing.Command as command
 use Rattle.commands.specs.declared.parsing.Command.{Command}
 use Rattle.commands.specs.declared.printing.Reply as reply
 use Rattle.desk.specs.Wording.{callReply, openReply}
-use Rattle.desk.specs.Conversation.{After, answered, lost, isStruck, acted, openedFor, lending, replied, isOpen, calledFor, startedFor, conversed}
+use Rattle.desk.specs.Conversation.{After, answered, lost, isStruck, acted, openedFor, lending, replied, isOpen, calledFor, startedFor, bareFiles, bareFloor, conversed}
 use Rattle.promises.specs.Runs.{Box, on, off, sheetOf, Event, calls, cuts, boxOf, answerTo, numbered, after, runs}
 use Rattle.calls.proofs.OtherRows.{rows-as-many}
 use Rattle.program.specs.Program.{Memory, memoryOf, callEvent, openEvent, eventsOf, inWords, replyHeard}
@@ -198,6 +198,7 @@ waits m b n (met-off o) = met-off o
 module _ (m : Memory) (s : AllRows (m .rows)) (b : Box) (h : Met m b) (line : List ℕ) where
   pub line-steps : (c : Command) → Steps (conversed (m .desk) (m .sheet) (m .fates) (m .rows) c line) (runs b (eventsOf m c line)) (replyHeard b m c line)
   line-steps command.Command.What = record { next = h; rows = s; reply = refl }
+  line-steps command.Command.BareOpen = open-steps m s bareFiles (bareFloor (m .sheet)) b h
   line-steps (command.Command.Open files floor) = open-steps m s files floor b h
   line-steps (command.Command.Cut n) = record { next = waits m b n h; rows = s; reply = refl }
   line-steps (command.Command.Call k from) = call-steps m s k (drop from line) b h

@@ -19,7 +19,7 @@ use Rattle.commands.specs.declared.parsing.Command as command
 use Rattle.commands.specs.declared.parsing.Command.{Command}
 use Rattle.commands.specs.Commands.{parsed}
 use Rattle.commands.proofs.EveryLine.{every-line}
-use Rattle.desk.specs.Conversation.{spoken, saidTo}
+use Rattle.desk.specs.Conversation.{bareFiles, bareFloor, spoken, saidTo}
 use Rattle.promises.specs.Runs.{Box, Event, runs, Typed, Allowed, AllAllowed, blankBox}
 use Rattle.promises.proofs.bytes.Mixed.{first-ordered}
 use Rattle.promises.proofs.boxes.BoxRuns.{runs-join}
@@ -31,6 +31,7 @@ use Rattle.program.proofs.Meets.{Met, met-off, met-sheet, AllRows, line
 -- a start that was typed fits 64 bits: the parser takes no other number
 abbrev Fits : List ℕ → Command → Type 0
 Fits line command.Command.What = Unit {0}
+Fits line command.Command.BareOpen = Unit {0}
 Fits line (command.Command.Open files floor) = Unit {0}
 Fits line (command.Command.Cut n) = Unit {0}
 Fits line (command.Command.Call k from) = Typed (asked k (drop from line))
@@ -38,6 +39,7 @@ Fits line (command.Command.Call k from) = Typed (asked k (drop from line))
 start-fits : (line : List ℕ) → Fits line (parsed line)
 start-fits line = every-line line (Fits line) (record {
   what = tt;
+  opens-bare = tt;
   opens = λ files floor. tt;
   cuts = λ n. tt;
   begins = tt;
@@ -64,6 +66,7 @@ module _ (files : ℕ) (m : Memory) (s : AllRows (m .rows)) where
 
   event-allowed : (c : Command) (line : List ℕ) → Fits line c → Keeps files c → AllAllowed pageCount files (eventsOf m c line)
   event-allowed command.Command.What line f h = tt
+  event-allowed command.Command.BareOpen line f h = (open-allowed bareFiles (bareFloor (m .sheet)) (λ e. h), tt)
   event-allowed (command.Command.Open n floor) line f h = (open-allowed n floor h, tt)
   event-allowed (command.Command.Cut n) line f h = tt
   event-allowed (command.Command.Call k from) line f h = (call-allowed (asked k (drop from line)) f, tt)

@@ -24,7 +24,7 @@ use Rattle.commands.specs.declared.parsing.Command.{Command}
 use Rattle.commands.specs.declared.printing.Reply as reply
 use Rattle.commands.specs.Commands.{parsed}
 use Rattle.desk.specs.Wording.{callReply, shown}
-use Rattle.desk.specs.Conversation.{After, conversed}
+use Rattle.desk.specs.Conversation.{After, bareFiles, bareFloor, conversed}
 use Rattle.calls.specs.Cuts.{firstBytes}
 use Rattle.promises.specs.Runs.{Box, sheetOf, Event, calls, cuts, answerTo, numbered, after, runs, blankBox, Run}
 use Rattle.promises.proofs.boxes.BoxRuns.{reached}
@@ -64,6 +64,7 @@ line-of m (line ∷ lines) before rest e h = go (parsed line) refl h (line-of (m
     go : (c : Command) → eventsOf m (parsed line) line ≡ eventsOf m c line → eventsOf m c line ++ eventsIn (memoryOf (turned m line)) lines ≡ before ++ e ∷ rest
         → ((before rest : List Event) (e : Event) → eventsIn (memoryOf (turned m line)) lines ≡ before ++ e ∷ rest → LineOf lines e) → LineOf (line ∷ lines) e
     go command.Command.What q h r = later (r before rest e h)
+    go command.Command.BareOpen q h r = here (openEvent m bareFiles (bareFloor (m .sheet))) q before h r
     go (command.Command.Open files floor) q h r = here (openEvent m files floor) q before h r
     go (command.Command.Cut n) q h r = later (r before rest e h)
     go (command.Command.Call k from) q h r = here (callEvent m (asked k (drop from line))) q before h r
@@ -102,6 +103,7 @@ module _ (m : Memory) (line : List ℕ) (e : Event) (file start action : ℕ) (v
 
   write-of : (c : Command) → eventsOf m c line ≡ e ∷ [] → IsWrite c line file start action value
   write-of command.Command.What h = clash cc
+  write-of command.Command.BareOpen h = absurd (subst (IsWhole (call.write file start action value)) (sym (one-same h)) w)
   write-of (command.Command.Open files floor) h = absurd (subst (IsWhole (call.write file start action value)) (sym (one-same h)) w)
   write-of (command.Command.Cut n) h = clash cc
   write-of (command.Command.Call k from) h = write-by k from (whole-call m (asked k (drop from line)) (call.write file start action value) e (one-same h) w)

@@ -20,7 +20,7 @@ use Rattle.commands.specs.declared.printing.Reply.{Reply}
 use Rattle.commands.specs.Commands.{parsed}
 use Rattle.desk.specs.declared.talking.Desk.{Desk}
 use Rattle.desk.specs.Wording.{callReply, openReply}
-use Rattle.desk.specs.Conversation.{After, isOpen, isStruck, conversed, spoken, saidTo, firstDesk}
+use Rattle.desk.specs.Conversation.{After, isOpen, isStruck, bareFiles, bareFloor, conversed, spoken, saidTo, firstDesk}
 use Rattle.promises.specs.Runs.{Box, sheetOf, Event, calls, opens, cuts, answerTo, numbered, Run}
 use Rattle.promises.specs.Promises.{boxAfter}
 
@@ -66,6 +66,7 @@ openEvent m files floor = opens floor (m .fates) (cond (isFile mostFiles files) 
 -- `what` and `cut` are no events
 abbrev pub eventsOf : Memory → Command → List ℕ → List Event
 eventsOf m command.Command.What line = []
+eventsOf m command.Command.BareOpen line = openEvent m bareFiles (bareFloor (m .sheet)) ∷ []
 eventsOf m (command.Command.Open files floor) line = openEvent m files floor ∷ []
 eventsOf m (command.Command.Cut n) line = []
 eventsOf m (command.Command.Call k from) line = callEvent m (asked k (drop from line)) ∷ []
@@ -86,19 +87,24 @@ abbrev pub inWords : (List ℕ → Reply) → Event → Option (List ℕ) → Re
 inWords word e (some numbers) = word numbers
 inWords word e none = unheard e
 
+abbrev pub openHeard : Box → Memory → ℕ → ℕ → Reply
+openHeard b m files floor = inWords openReply (openEvent m files floor) (numbered (answerTo b (openEvent m files floor)))
+
 -- the reply to a line, by what the box is heard to answer to its event
 abbrev pub replyHeard : Box → Memory → Command → List ℕ → Reply
 replyHeard b m command.Command.What line = reply.Reply.What
-replyHeard b m (command.Command.Open files floor) line = inWords openReply (openEvent m files floor) (numbered (answerTo b (openEvent m files floor)))
+replyHeard b m command.Command.BareOpen line = openHeard b m bareFiles (bareFloor (m .sheet))
+replyHeard b m (command.Command.Open files floor) line = openHeard b m files floor
 replyHeard b m (command.Command.Cut n) line = reply.Reply.Cut n
 replyHeard b m (command.Command.Call k from) line =
     inWords (callReply k) (callEvent m (asked k (drop from line))) (numbered (answerTo b (callEvent m (asked k (drop from line)))))
 
 -- ---- the statements
 
--- the openings keep one file count: one that could have rows is for that many
+-- the openings keep one file count: one without numbers is for eight, and one that could have rows for that many
 abbrev pub Keeps : ℕ → Command → Type 0
 Keeps files command.Command.What = Unit {0}
+Keeps files command.Command.BareOpen = bareFiles ≡ files
 Keeps files (command.Command.Open n floor) = isFile mostFiles n ≡ true → n ≡ files
 Keeps files (command.Command.Cut n) = Unit {0}
 Keeps files (command.Command.Call k from) = Unit {0}

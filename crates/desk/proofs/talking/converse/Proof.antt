@@ -20,6 +20,12 @@ enum-told c = search needs
 only-requires : tie.Need-only-requires
 only-requires c κs = search needs
 
+enum-told-2 : tie.Need-enum-told-2
+enum-told-2 c = search needs
+
+bare-start-requires : tie.Need-bare-start-requires
+bare-start-requires c κs = search needs
+
 enum-known-command : tie.Need-enum-known-command
 enum-known-command c = search needs
 
@@ -60,13 +66,8 @@ same-length-3 c = search needs
 
 returns-2 : tie.Need-returns-2
 returns-2 c =
-    let a = c .before .before .before .before .before .before .before .before .before .before .before .before .before .before .before .before .args in
-    line-by (a .desk) (now (a .sheet)) (now (a .fates)) (now (a .rows)) (now (a .line)) _ _ _ (c .before .before .before .before .before .before .before .before .before .before .before .parse .ensures) (c .before .before .before .before .before .before .before .before .before .command .given .1) (c .before .before .before .before .start .ensures)
-
-returns-3 : tie.Need-returns-3
-returns-3 c =
-    let a = c .before .before .before .before .before .before .before .before .before .before .args in
-    line-by (a .desk) (now (a .sheet)) (now (a .fates)) (now (a .rows)) (now (a .line)) _ _ _ (c .before .before .before .before .before .parse .ensures) (c .before .before .before .command2 .given .1) (ap (λ (t : Turn). leftAfter t (now (a .sheet)) (now (a .fates)) (now (a .rows))) (c .only2 .ensures) ∙ ap (λ (d : Desk). replied (reply.Reply.Cut (c .before .before .before .command2 .given .0 .0)) d (now (a .sheet)) (now (a .fates)) (now (a .rows))) (c .before .with-cut .ensures))
+    let a = c .before .before .before .before .before .before .before .before .before .before .before .before .before .before .before .args in
+    line-by (a .desk) (now (a .sheet)) (now (a .fates)) (now (a .rows)) (now (a .line)) _ _ _ (c .before .before .before .before .before .before .before .before .before .before .parse .ensures) (c .before .before .before .before .before .before .before .before .enum-told2 .given .1) (c .before .before .before .before .bare-start .ensures)
 
 same-length-4 : tie.Need-same-length-4
 same-length-4 c = search needs
@@ -77,8 +78,27 @@ same-length-5 c = search needs
 same-length-6 : tie.Need-same-length-6
 same-length-6 c = search needs
 
+returns-3 : tie.Need-returns-3
+returns-3 c =
+    let a = c .before .before .before .before .before .before .before .before .before .before .before .before .before .before .before .before .args in
+    line-by (a .desk) (now (a .sheet)) (now (a .fates)) (now (a .rows)) (now (a .line)) _ _ _ (c .before .before .before .before .before .before .before .before .before .before .before .parse .ensures) (c .before .before .before .before .before .before .before .before .before .command .given .1) (c .before .before .before .before .start .ensures)
+
 returns-4 : tie.Need-returns-4
 returns-4 c =
+    let a = c .before .before .before .before .before .before .before .before .before .before .args in
+    line-by (a .desk) (now (a .sheet)) (now (a .fates)) (now (a .rows)) (now (a .line)) _ _ _ (c .before .before .before .before .before .parse .ensures) (c .before .before .before .command2 .given .1) (ap (λ (t : Turn). leftAfter t (now (a .sheet)) (now (a .fates)) (now (a .rows))) (c .only2 .ensures) ∙ ap (λ (d : Desk). replied (reply.Reply.Cut (c .before .before .before .command2 .given .0 .0)) d (now (a .sheet)) (now (a .fates)) (now (a .rows))) (c .before .with-cut .ensures))
+
+same-length-7 : tie.Need-same-length-7
+same-length-7 c = search needs
+
+same-length-8 : tie.Need-same-length-8
+same-length-8 c = search needs
+
+same-length-9 : tie.Need-same-length-9
+same-length-9 c = search needs
+
+returns-5 : tie.Need-returns-5
+returns-5 c =
     let a = c .before .before .before .before .before .before .before .before .before .before .before .before .before .before .before .before .before .before .before .args in
     line-by (a .desk) (now (a .sheet)) (now (a .fates)) (now (a .rows)) (now (a .line)) _ _ _ (c .before .before .before .before .before .before .before .before .before .before .before .before .before .before .parse .ensures) (c .before .before .before .before .before .before .before .before .before .before .before .before .command3 .given .1) (c .before .before .before .before .before .before .call-now .ensures ∙ ap (calledFor (a .desk) (now (a .sheet)) (now (a .fates)) (now (a .rows)) _) (c .before .before .before .before .before .before .before .rest .ensures))
 
@@ -89,6 +109,8 @@ converse-spec =
     parse-requires
     enum-told
     only-requires
+    enum-told-2
+    bare-start-requires
     enum-known-command
     start-requires
     enum-known-command-2
@@ -102,8 +124,12 @@ converse-spec =
     same-length-2
     same-length-3
     returns-2
-    returns-3
     same-length-4
     same-length-5
     same-length-6
-    returns-4)
+    returns-3
+    returns-4
+    same-length-7
+    same-length-8
+    same-length-9
+    returns-5)
