@@ -49,7 +49,7 @@ impl Author {
     }
 
     fn command(&mut self) -> String {
-        // under the last time as its floor a state has no writes any more
+        // with the last time as the floor nothing can be written
         let lines = self.desk.session.as_ref().map_or(2, |now| if now.floor == u64::MAX { 5 } else { 30 });
         if self.random.once_in(lines) {
             return self.open();

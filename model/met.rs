@@ -7,12 +7,12 @@ use std::collections::BTreeMap;
 
 /// Every answer that the program can give, by command, and every refusal that can be reached.
 const ANSWERS: &str = "open open,open no 1,open no 2,\
-    bare open,bare open of a sheet without an image,bare open below an image of a higher file,\
+    bare open,bare open of a sheet without an image,bare open no 2,\
     bare open after one for more files,bare open without a state,bare open while a cut waits,\
     bare open with the highest start committed,bare open with the highest start aborted,bare open with the highest start undecided,\
     bare open with a newer image that starts lower,bare open with a torn image that starts higher,\
     write just below a bare floor no 10,write at a bare floor no 10,write just above a bare floor,\
-    write at a torn start above a bare floor,write at or below the highest start,\
+    write above a bare floor and not above a torn start,write at or below the highest start,\
     begin begin,begin lost,begin closed,begin no 11,\
     write write,write lost,write closed,write no 3,write no 4,write no 5,write no 6,write no 8,write no 10,write no 11,\
     read read,read none,read closed,read no 3,read no 5,read no 6,read no 9,\
@@ -28,7 +28,7 @@ struct Before {
     used: u64,
     cut: Option<u64>,
     is_open: bool,
-    highest: u64, // start of any image
+    highest: u64, // the floor that a bare opening would have
 }
 
 /// A conversation as it goes on.
@@ -75,7 +75,7 @@ impl Watch {
             return vec![];
         }
         if self.desk.session.is_none() {
-            return vec!["bare open below an image of a higher file"];
+            return vec!["bare open no 2"];
         }
         let sheet = &self.desk.sheet;
         let Some(highest) = sheet.highest(BARE_FILES) else {
@@ -87,15 +87,14 @@ impl Watch {
             Fate::Undecided => "bare open with the highest start undecided",
         };
         let is_newest_lower = sheet.images.last().is_some_and(|newest| newest.start < highest.start);
-        let besides = [
+        let besides = met(&[
             (earlier > BARE_FILES, "bare open after one for more files"),
             (!before.is_open, "bare open without a state"),
             (before.cut.is_some(), "bare open while a cut waits"),
             (is_newest_lower, "bare open with a newer image that starts lower"),
             (self.torn > highest.start, "bare open with a torn image that starts higher"),
-        ];
-        let met = besides.into_iter().filter(|(is_met, _)| *is_met).map(|(_, what)| what);
-        ["bare open", by_fate].into_iter().chain(met).collect()
+        ]);
+        ["bare open", by_fate].into_iter().chain(besides).collect()
     }
 
     /// Which writes tell a bare opening's floor, the file's own end being below it; and which are below the highest start.
@@ -110,18 +109,21 @@ impl Watch {
         };
         let is_refused = answer.starts_with("no");
         if !self.is_bare {
-            return if !is_refused && start <= before.highest { vec!["write at or below the highest start"] } else { vec![] };
+            return met(&[(!is_refused && start <= before.highest, "write at or below the highest start")]);
         }
-        let tells = now.floor > now.end_of(&self.desk.sheet, file);
-        match (start.wrapping_sub(now.floor), is_refused) {
-            (u64::MAX, true) if tells => vec!["write just below a bare floor no 10"],
-            (0, true) if tells => vec!["write at a bare floor no 10"],
-            (1, false) if start <= self.torn => vec!["write just above a bare floor", "write at a torn start above a bare floor"],
-            (1, false) => vec!["write just above a bare floor"],
-            (_, false) if start <= self.torn => vec!["write at a torn start above a bare floor"],
-            _ => vec![],
-        }
+        let is_told = now.floor > now.end_of(&self.desk.sheet, file);
+        met(&[
+            (is_told && is_refused && start.wrapping_add(1) == now.floor, "write just below a bare floor no 10"),
+            (is_told && is_refused && start == now.floor, "write at a bare floor no 10"),
+            (is_told && !is_refused && start.wrapping_sub(1) == now.floor, "write just above a bare floor"),
+            (!is_refused && start <= self.torn, "write above a bare floor and not above a torn start"),
+        ])
     }
+}
+
+/// What of these was met.
+fn met(cases: &[(bool, &'static str)]) -> Vec<&'static str> {
+    cases.iter().filter(|(is_met, _)| *is_met).map(|(_, what)| *what).collect()
 }
 
 /// A decision that is answered and has stored nothing was asked again.

@@ -1,7 +1,7 @@
-/* Points of documents 01 and 02 that the command program cannot show, at the calls themselves: a cold row that stays cold under refusals 1 to
-   6 and is rebuilt under the later ones, damaged rows, a page above the end that is not blank, a link that leads nowhere, as many
+/* Points of documents 01 and 02 that the command program cannot show, at the calls themselves: a cold row that stays cold under refusals 1
+   to 6 and is rebuilt under the later ones, damaged rows, a page above the end that is not blank, a link that leads nowhere, as many
    links as a sheet can have, an outcome that is lost on two pages, a decision that is asked again, also with fates and sheets that no call
-   has left so, and the highest start. Prints a line for each and 'N passed, M failed'. */
+   has left so, and the highest start of any bytes. Prints a line for each and 'N passed, M failed'. */
 #include "door.h"
 #include "plain.h"
 #include "tell.h"
