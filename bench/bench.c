@@ -14,8 +14,8 @@ static const uint8_t value[32] = "opens at eight, shuts at six";
 static const uint8_t none[32];
 
 /* How a sheet is filled: actions are an opening, six images and an outcome each, and may have a small one below them, an opening and its
-   outcome. */
-enum fill { BLANK, OPENINGS, IMAGES, TORN, ACTIONS, SMALL_ACTION, LINKS, TOKENS };
+   outcome. Images are all under one opening, and their starts grow with the place, or fall. */
+enum fill { BLANK, OPENINGS, IMAGES, FALLING_IMAGES, TORN, ACTIONS, SMALL_ACTION, LINKS, TOKENS };
 
 struct sheet {
     uint8_t *bytes, *fates;
@@ -69,6 +69,8 @@ static uint64_t test_place(struct sheet s, uint64_t action) {
 }
 static uint64_t run_outcome_oldest(struct sheet s) { return test_place(s, 1); }
 static uint64_t run_outcome_newest(struct sheet s) { return test_place(s, s.pages - 7); }
+
+static uint64_t run_highest(struct sheet s) { return door_highest_start(s.bytes, PAGE * s.pages, FILES); }
 
 /* One commit a page of the action that was committed last. */
 static uint64_t run_again(struct sheet s) {
@@ -202,7 +204,7 @@ static struct sheet filled(enum fill fill, uint64_t pages) {
         else if (fill == TOKENS)
             plain_pack(page, 2, USED, p - 1, 1, 0, 1, value, p);
         else
-            plain_pack(page, 2, USED, 1 + p % (FILES - 1), 1, p / 2, p, value, p);
+            plain_pack(page, 2, USED, 1 + p % (FILES - 1), 1, p / 2, fill == FALLING_IMAGES ? pages + 2 - p : p, value, p);
         if (fill == TORN)
             page[63] = 0;
     }
@@ -288,6 +290,8 @@ static void time_recovery(void) {
         {"rebuild, file absent", run_absent, ACTIONS, 0, 0.1, 0, {0}, 0},
         {"test, outcome newest", run_outcome_newest, ACTIONS, -2, 0, 0, {0}, 0},
         {"test, outcome oldest", run_outcome_oldest, SMALL_ACTION, 2, 0.1, 0, {0}, 0},
+        {"highest start, growing", run_highest, IMAGES, -2, 0.1, 0, {0}, 0},
+        {"highest start, falling", run_highest, FALLING_IMAGES, -2, 0, 0, {0}, 0},
         {"one byte of each page read in C", run_touch, ACTIONS, -1, 0, 0, {0}, 0},
         {"every byte read once in C", run_bytes, ACTIONS, -1, 0, 0, {0}, 0},
     };

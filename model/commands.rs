@@ -1,11 +1,13 @@
-//! The command language of document 01, and a conversation in it.
+//! The command language of documents 01 and 02, and a conversation in it.
 
 use crate::histories::{Change, Decision, Fate, Refusal, Session, Sheet, Version};
 
 const LONGEST_LINE: usize = 255;
 const PAGE: u64 = 64;
+pub const BARE_FILES: u64 = 8; // of an opening without numbers
 
 enum Command {
+    BareOpen,
     Open { files: u64, floor: u64 },
     Begin,
     Write { file: u64, start: u64, action: u64, text: Vec<u8> },
@@ -41,7 +43,7 @@ fn parsed(line: &[u8]) -> Option<Command> {
     }
     let words: Vec<&[u8]> = line.split(|byte| *byte == b' ').collect();
     Some(match (words[0], &words[1..]) {
-        (b"open", []) => Command::Open { files: 8, floor: 0 },
+        (b"open", []) => Command::BareOpen,
         (b"open", [f, t]) => Command::Open { files: number(f)?, floor: number(t)? },
         (b"begin", []) => Command::Begin,
         (b"write", [f, s, a, t]) => Command::Write { file: number(f)?, start: number(s)?, action: number(a)?, text: text(t)? },
@@ -71,12 +73,18 @@ impl Desk {
                 self.cut = Some(n);
                 format!("cut {}", n)
             }
+            Some(Command::BareOpen) => self.open(BARE_FILES, self.highest_start()),
             Some(Command::Open { files, floor }) => self.open(files, floor),
             Some(command) => match self.session.take() {
                 None => "closed".to_string(),
                 Some(session) => self.call(session, command),
             },
         }
+    }
+
+    /// The floor of an opening without numbers.
+    pub fn highest_start(&self) -> u64 {
+        self.sheet.highest(BARE_FILES).map_or(0, |image| image.start)
     }
 
     fn open(&mut self, files: u64, floor: u64) -> String {
@@ -111,7 +119,7 @@ impl Desk {
                 self.session = Some(now);
                 return self.sheet.test(action).map_or_else(no, |(fate, place)| format!("test {} {}", fate as u64, place));
             }
-            Command::Open { .. } | Command::Cut(_) => unreachable!(),
+            Command::BareOpen | Command::Open { .. } | Command::Cut(_) => unreachable!(),
         };
         match change {
             Ok(change) => self.append(now, change),

@@ -46,6 +46,14 @@ impl File {
     }
 }
 
+/// An image that is stored whole, whatever becomes of its action.
+pub struct Image {
+    pub place: u64,
+    pub file: u64,
+    pub start: u64,
+    pub action: u64,
+}
+
 /// What stays when the supply is cut.
 #[derive(Default)]
 pub struct Sheet {
@@ -53,7 +61,7 @@ pub struct Sheet {
     pub fates: BTreeMap<u64, Fate>,
     pub outcomes: BTreeMap<u64, u64>, // by action, the place at which it was decided
     pub files: BTreeMap<u64, File>,
-    images: Vec<(u64, u64)>, // the place and file of every image, those of aborted actions included
+    pub images: Vec<Image>, // every one, those of aborted actions included
 }
 
 /// What goes: the numbers of an opening, and the latest times that were read since.
@@ -94,10 +102,15 @@ impl Sheet {
         if !(1..=MOST_FILES).contains(&files) {
             return refused(1);
         }
-        if let Some((place, _)) = self.images.iter().rev().find(|(_, file)| *file > files) {
-            return Err(Refusal(2, *place));
+        if let Some(image) = self.images.iter().rev().find(|image| image.file > files) {
+            return Err(Refusal(2, image.place));
         }
         Ok(Session { files, floor, seen: BTreeMap::new(), seen_token: BTreeMap::new() })
+    }
+
+    /// The image with the highest start among those of so many files, if there is any: the floor of an opening without numbers.
+    pub fn highest(&self, files: u64) -> Option<&Image> {
+        self.images.iter().filter(|image| image.file <= files).max_by_key(|image| image.start)
     }
 
     /// Stores a whole page: what it says holds from now on.
@@ -109,7 +122,7 @@ impl Sheet {
                 self.fates.insert(place, Fate::Undecided);
             }
             Change::Image { file, start, action, value } => {
-                self.images.push((place, file));
+                self.images.push(Image { place, file, start, action });
                 let version = Version { place, start, value };
                 self.files.entry(file).or_default().token = Some(Token { action, version });
             }

@@ -14,6 +14,7 @@ struct Author {
     random: Random,
     desk: Desk,
     files: u64, // of most openings
+    bare: u64,  // of twelve openings, how many have no numbers
     cuts: u64,  // one in so many lines
     noise: u64,
     hurries: bool, // to a full sheet
@@ -28,10 +29,11 @@ pub fn list(seed: u64) -> List {
 
 pub fn list_of(seed: u64, length: u64, hurries: bool) -> List {
     let mut random = Random::new(seed);
-    let files = random.pick(&[8, 8, 8, 1, 2, 3, 40, MOST_FILES]);
+    let files = random.pick(&[8, 8, 8, 16, 1, 2, 3, 40, MOST_FILES]);
+    let bare = random.pick(&[1, 3, 6]);
     let cuts = random.pick(&[8, 15, 40, 200]);
     let noise = random.pick(&[10, 30, 30, 100]);
-    let mut author = Author { random, desk: Desk::default(), files, cuts, noise, hurries };
+    let mut author = Author { random, desk: Desk::default(), files, bare, cuts, noise, hurries };
     let lines = (0..length).map(|_| author.next_line()).collect();
     List { lines, ends_in_newline: !author.random.once_in(4) }
 }
@@ -47,8 +49,9 @@ impl Author {
     }
 
     fn command(&mut self) -> String {
-        let is_open = self.desk.session.is_some();
-        if self.random.once_in(if is_open { 30 } else { 2 }) {
+        // with the last time as the floor nothing can be written
+        let lines = self.desk.session.as_ref().map_or(2, |now| if now.floor == u64::MAX { 5 } else { 30 });
+        if self.random.once_in(lines) {
             return self.open();
         }
         if self.random.once_in(self.cuts) {
@@ -74,7 +77,7 @@ impl Author {
             0 => self.random.pick(&[0, MOST_FILES + 1, u64::MAX, 1 << 32]),
             1 => 1 + self.random.below(self.files),
             2 => self.files + self.random.below(3),
-            3 => return "open".to_string(),
+            n if n < 3 + self.bare => return "open".to_string(),
             _ => self.files,
         };
         let file = self.file();
@@ -172,12 +175,7 @@ impl Author {
         if self.token(file).is_some() && !self.random.once_in(4) {
             file = 1 + self.random.below(self.files);
         }
-        let floor = self.desk.session.as_ref().map_or(0, |now| now.floor);
-        let start = match self.random.below(10) {
-            0 => self.time(file),
-            1 => self.end(file).max(floor),
-            _ => self.end(file).max(floor).saturating_add(1 + self.random.below(3)),
-        };
+        let start = self.start(file);
         let length = match self.random.below(20) {
             0 => 33 + self.random.below(180),
             1 => 32,
@@ -186,6 +184,20 @@ impl Author {
         let action = self.action(12);
         let text: String = (0..length).map(|_| (0x21 + self.random.below(0x5E)) as u8 as char).collect();
         format!("write {} {} {} {}", file, start, action, text)
+    }
+
+    /// Mostly just above what bars the file, and now and then at it or just below. While a cut waits often far above, so that a torn
+    /// image can start higher than all others.
+    fn start(&mut self, file: u64) -> u64 {
+        let floor = self.desk.session.as_ref().map_or(0, |now| now.floor);
+        let bar = self.end(file).max(floor);
+        match self.random.below(12) {
+            0 => self.time(file),
+            1 | 2 => bar,
+            3 => bar.saturating_sub(1),
+            _ if self.desk.cut.is_some() => bar.saturating_add(1 + self.random.below(20)),
+            _ => bar.saturating_add(1 + self.random.below(3)),
+        }
     }
 
     /// A line with something wrong, or only odd, about it.

@@ -7,29 +7,17 @@ mod commands;
 mod compare;
 mod histories;
 mod lists;
+mod met;
 mod points;
 mod random;
 
 use commands::Desk;
-use histories::PAGES;
 use lists::List;
 use std::collections::BTreeMap;
 use std::io::{self, BufRead, Write};
 
 const SEED: u64 = 20261115;
 const COMMANDS: u64 = 200_000;
-
-/// Every answer that the program can give, by command, and every refusal that can be reached.
-const ANSWERS: &str = "open open,open no 1,open no 2,\
-    begin begin,begin lost,begin closed,begin no 11,\
-    write write,write lost,write closed,write no 3,write no 4,write no 5,write no 6,write no 8,write no 10,write no 11,\
-    read read,read none,read closed,read no 3,read no 5,read no 6,read no 9,\
-    test test 1,test test 2,test test 3,test closed,test no 5,\
-    commit commit,commit lost,commit closed,commit no 5,commit no 6,commit no 11,\
-    commit again,commit again while a cut waits,commit again on a full sheet,\
-    abort abort,abort lost,abort closed,abort no 5,abort no 6,abort no 11,\
-    abort again,abort again while a cut waits,abort again on a full sheet,\
-    cut cut,what";
 
 struct Tally {
     passed: u64,
@@ -45,61 +33,6 @@ impl Tally {
             self.failed += 1;
         }
     }
-}
-
-/// An answer's kind: the command's first word, and of the answer what makes it that answer.
-fn kind(line: &[u8], answer: &str) -> String {
-    let command = String::from_utf8_lossy(line.split(|byte| *byte == b' ').next().unwrap_or(b""));
-    let words: Vec<&str> = answer.split(' ').collect();
-    match words[..] {
-        ["what"] => "what".to_string(),
-        ["no" | "test", number, ..] => format!("{} {} {}", command, words[0], number),
-        _ => format!("{} {}", command, words[0]),
-    }
-}
-
-/// A decision that is answered and has stored nothing was asked again; `used` and `cut` are as they were before it.
-fn kinds(line: &[u8], answer: &str, desk: &Desk, used: u64, cut: Option<u64>) -> Vec<String> {
-    let kind = kind(line, answer);
-    let again = match kind.as_str() {
-        "commit commit" if desk.sheet.used == used => "commit again",
-        "abort abort" if desk.sheet.used == used => "abort again",
-        _ => return vec![kind],
-    };
-    let mut kinds = vec![again.to_string()];
-    if cut.is_some() {
-        kinds.push(format!("{} while a cut waits", again));
-    }
-    if used == PAGES {
-        kinds.push(format!("{} on a full sheet", again));
-    }
-    kinds
-}
-
-fn count(list: &List, counts: &mut BTreeMap<String, u64>) {
-    let mut desk = Desk::default();
-    for line in &list.lines {
-        let (used, cut) = (desk.sheet.used, desk.cut);
-        let answer = desk.answer(line);
-        for kind in kinds(line, &answer, &desk, used, cut) {
-            *counts.entry(kind).or_insert(0) += 1;
-        }
-    }
-}
-
-/// Each answer must have come once in 4,000 commands, and none that is not listed.
-fn is_covered(counts: &BTreeMap<String, u64>, commands: u64) -> bool {
-    let mut is_right = true;
-    for answer in ANSWERS.split(',') {
-        let n = counts.get(answer).copied().unwrap_or(0);
-        println!("  {:>8}  {}{}", n, answer, if n <= commands / 4000 { "  too seldom" } else { "" });
-        is_right &= n > commands / 4000;
-    }
-    for answer in counts.keys().filter(|answer| !ANSWERS.split(',').any(|listed| listed == answer.as_str())) {
-        println!("  not listed: {}", answer);
-        is_right = false;
-    }
-    is_right
 }
 
 /// The answers that 01 fixes: the model must give them, and so must the program.
@@ -135,7 +68,7 @@ fn check(program: &str, seed: u64, commands: u64) -> bool {
         let list = lists::list(seed.wrapping_add(conversations));
         done += list.lines.len() as u64;
         conversations += 1;
-        count(&list, &mut counts);
+        met::count(&list, &mut counts);
         alike = compare::agree(program, list);
         if conversations % 1000 == 0 {
             eprintln!("{} conversations, {} of {} commands", conversations, done, commands);
@@ -143,7 +76,7 @@ fn check(program: &str, seed: u64, commands: u64) -> bool {
     }
     tally.tell(&format!("{} random commands in {} conversations", done, conversations), alike);
     if alike {
-        let covered = is_covered(&counts, done);
+        let covered = met::is_covered(&counts, done);
         tally.tell("every answer and refusal came often", covered);
     } else {
         println!("seed {} begins with it", seed.wrapping_add(conversations - 1));

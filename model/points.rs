@@ -93,6 +93,74 @@ pub const POINTS: &[Point] = &[
         output: "open 0 0 / begin 1 / write 2 / abort 3 / no 2 2 / closed / open 3 0 / no 1 0 / closed / no 1 0",
     },
     Point {
+        what: "a bare open of a sheet without an image: floor 0",
+        input: "open / begin / open / write 1 1 1 a",
+        output: "open 0 0 / begin 1 / open 1 1 / write 2",
+    },
+    Point {
+        what: "a bare open after a commit: no file is written at or below the highest start",
+        input: "open / begin / write 1 10 1 a / commit 1 / open / begin / write 2 9 4 b / write 2 10 4 b / write 2 11 4 b",
+        output: "open 0 0 / begin 1 / write 2 / commit 3 / open 3 0 / begin 4 / no 10 0 / no 10 0 / write 5",
+    },
+    Point {
+        what: "a bare open counts aborted images",
+        input: "open / begin / write 1 10 1 a / abort 1 / open / begin / write 1 10 4 b / write 1 11 4 b",
+        output: "open 0 0 / begin 1 / write 2 / abort 3 / open 3 0 / begin 4 / no 10 0 / write 5",
+    },
+    Point {
+        what: "a bare open counts undecided images",
+        input: "open / begin / write 1 10 1 a / open / write 2 10 1 b / write 2 11 1 b",
+        output: "open 0 0 / begin 1 / write 2 / open 2 1 / no 10 0 / write 3",
+    },
+    Point {
+        what: "a bare open counts no torn image, and a whole one though its reply was lost",
+        input: "open / begin / cut 63 / write 1 10 1 a / open / write 1 1 1 a / cut 64 / write 2 10 1 b / open / \
+                write 3 10 1 c / write 3 11 1 c",
+        output: "open 0 0 / begin 1 / cut 63 / lost / open 2 1 / write 3 / cut 64 / lost / open 4 1 / no 10 0 / write 5",
+    },
+    Point {
+        what: "a bare open looks past the newest image",
+        input: "open / begin / write 1 20 1 a / write 2 10 1 b / commit 1 / open / begin / write 3 20 5 c / write 3 21 5 c",
+        output: "open 0 0 / begin 1 / write 2 / write 3 / commit 4 / open 4 0 / begin 5 / no 10 0 / write 6",
+    },
+    Point {
+        what: "a bare open after a refused opening",
+        input: "open / begin / write 1 10 1 a / open 257 0 / test 1 / open / write 2 10 1 b / write 2 11 1 b",
+        output: "open 0 0 / begin 1 / write 2 / no 1 0 / closed / open 2 1 / no 10 0 / write 3",
+    },
+    Point {
+        what: "a bare open uses up no cut",
+        input: "open / begin / write 1 10 1 a / cut 20 / open / write 2 10 1 b / write 2 11 1 b / open / write 2 11 1 b",
+        output: "open 0 0 / begin 1 / write 2 / cut 20 / open 2 1 / no 10 0 / lost / open 3 1 / write 4",
+    },
+    Point {
+        what: "floor 0 is still to be had, and forgotten at the next bare open",
+        input: "open / begin / write 1 10 1 a / open 8 0 / write 2 1 1 b / open / write 3 10 1 c / open 8 5 / write 3 5 1 c / \
+                write 3 6 1 c",
+        output: "open 0 0 / begin 1 / write 2 / open 2 1 / write 3 / open 3 1 / no 10 0 / open 3 1 / no 10 0 / write 4",
+    },
+    Point {
+        what: "a start at the last time bars every write under a bare open",
+        input: "open / begin / write 1 18446744073709551615 1 a / abort 1 / open / begin / write 2 18446744073709551615 4 b / \
+                open 8 18446744073709551614 / write 2 18446744073709551615 4 b",
+        output: "open 0 0 / begin 1 / write 2 / abort 3 / open 3 0 / begin 4 / no 10 0 / open 4 1 / write 5",
+    },
+    Point {
+        what: "a bare open is for 8 files",
+        input: "open 16 0 / begin / write 8 10 1 a / open / write 9 11 1 b / write 1 10 1 b / write 1 11 1 b",
+        output: "open 0 0 / begin 1 / write 2 / open 2 1 / no 3 0 / no 10 0 / write 3",
+    },
+    Point {
+        what: "a bare open of a sheet with an image of file 9",
+        input: "open 16 0 / begin / write 9 10 1 a / write 8 5 1 b / abort 1 / open / begin / open 16 0 / begin / write 1 1 5 c",
+        output: "open 0 0 / begin 1 / write 2 / write 3 / abort 4 / no 2 2 / closed / open 4 0 / begin 5 / write 6",
+    },
+    Point {
+        what: "a time that was read and never written does not bar a bare open's writes",
+        input: "open / read 1 60 0 / begin / cut 0 / begin / open / write 1 52 1 a / commit 1 / read 1 60 0",
+        output: "open 0 0 / none / begin 1 / cut 0 / lost / open 1 1 / write 2 / commit 3 / read 2 52 a",
+    },
+    Point {
         what: "grammar before state",
         input: "begin x / begin / open 8 / open  8 0 /  open / open  / OPEN / open 8 -0 / open 8 +0 / / read 1 1 / \
                 test 18446744073709551616 / test 18446744073709551615 / open 0008 00 / test 4294967297 / write 1 1 1 / \

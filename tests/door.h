@@ -9,6 +9,7 @@ uint64_t bench_seek(const uint8_t *sheet, size_t size, uint64_t files, uint64_t 
 uint64_t bench_pack(uint8_t *sheet, size_t size, uint64_t files, uint64_t used, const uint8_t *value);
 uint64_t bench_inspect(const uint8_t *sheet, size_t size, uint64_t files);
 uint64_t bench_walk(const uint8_t *sheet, size_t size, const uint8_t *fates, size_t pages, uint64_t files, uint64_t file, uint64_t end);
+uint64_t door_highest_start(const uint8_t *sheet, size_t size, uint64_t files);
 void door_call(uint8_t *sheet, size_t size, uint8_t *fates, size_t pages, uint64_t *rows, size_t numbers, uint64_t end, uint64_t floor,
                uint64_t undecided, uint64_t kind, uint64_t file, uint64_t time, uint64_t action, const uint8_t *value, size_t length,
                uint64_t *told, size_t count);

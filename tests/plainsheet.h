@@ -1,5 +1,5 @@
-/* A sheet in plain C, read page by page as document 01 says it: what is sealed, the fates, where an outcome lies, a file's row, an opening. Places are
-   counted from 1. */
+/* A sheet in plain C, read page by page as documents 01 and 02 say it: what is sealed, the fates, where an outcome lies, the highest start,
+   a file's row, an opening. Places are counted from 1. */
 #ifndef PLAINSHEET_H
 #define PLAINSHEET_H
 #include "door.h"
@@ -26,9 +26,10 @@ static int is_blank(uint64_t place) {
 }
 static int is_torn(uint64_t place) { return page_at(place)[0] >= 1 && page_at(place)[0] <= 3 && page_at(place)[63] == 0; }
 static int is_opening(uint64_t place) { return page_at(place)[0] == 1 && plain_fits(page_at(place), place, FILES); }
-static int is_sealed(uint64_t place) {
-    return plain_fits(page_at(place), place, FILES) && (page_at(place)[0] == 1 || is_opening(action_of(place)));
+static int is_sealed_for(uint64_t place, uint64_t files) {
+    return plain_fits(page_at(place), place, files) && (page_at(place)[0] == 1 || is_opening(action_of(place)));
 }
+static int is_sealed(uint64_t place) { return is_sealed_for(place, FILES); }
 static int is_kind(uint64_t place, int kind) { return page_at(place)[0] == kind && is_sealed(place); }
 static int is_image(uint64_t place, uint64_t file) { return file_of(place) == file && is_kind(place, 2); }
 static int is_bad(uint64_t place) { return is_blank(place) || (!is_torn(place) && !is_sealed(place)); }
@@ -54,6 +55,15 @@ static uint8_t fate_of(uint64_t action, uint64_t upto) {
         return 0;
     uint64_t place = outcome_of(action, upto);
     return place ? (uint8_t)(page_at(place)[1] + 1) : 1;
+}
+
+/* The highest start of any image up to a place that is sealed for so many files, 0 if there is none. */
+__attribute__((unused)) static uint64_t highest_start(uint64_t upto, uint64_t files) {
+    uint64_t highest = 0;
+    for (uint64_t p = 1; p <= upto && files <= 256; p++)
+        if (page_at(p)[0] == 2 && is_sealed_for(p, files) && start_of(p) > highest)
+            highest = start_of(p);
+    return highest;
 }
 
 /* A file's row by the fates that are lent, or by the pages up to the end if none are. */

@@ -1,7 +1,7 @@
-/* Points of documents 01 and 02 that the command program cannot show, at the calls themselves: a cold row that stays cold under refusals 1 to
-   6 and is rebuilt under the later ones, damaged rows, a page above the end that is not blank, a link that leads nowhere, as many
-   links as a sheet can have, an outcome that is lost on two pages, and a decision that is asked again, also with fates and sheets that
-   no call has left so. Prints a line for each and 'N passed, M failed'. */
+/* Points of documents 01 and 02 that the command program cannot show, at the calls themselves: a cold row that stays cold under refusals 1
+   to 6 and is rebuilt under the later ones, damaged rows, a page above the end that is not blank, a link that leads nowhere, as many
+   links as a sheet can have, an outcome that is lost on two pages, a decision that is asked again, also with fates and sheets that no call
+   has left so, and the highest start of any bytes. Prints a line for each and 'N passed, M failed'. */
 #include "door.h"
 #include "plain.h"
 #include "tell.h"
@@ -110,7 +110,7 @@ static void pages_in_the_way(void) {
 /* A sheet with as many links as its pages allow: an opening, then images of file 1, each linked to the page below it and starting at
    its own place, so that a read at time t must end at page t. */
 enum { MOST_PAGES = 65536 };
-static uint8_t chain[MOST_PAGES * PAGE], chain_fates[MOST_PAGES];
+static uint8_t chain[(MOST_PAGES + 1) * PAGE], chain_fates[MOST_PAGES];
 
 static void put_link(uint64_t file, uint64_t place) {
     plain_pack(chain + PAGE * (place - 1), 2, 0, file, 1, place == 2 ? 0 : place - 1, place, none, place);
@@ -254,7 +254,7 @@ static void false_fates(void) {
 /* The longest way down: 65,536 pages, and the outcome at page 2, or at the last. */
 static int told_place(uint64_t place) {
     uint64_t number[NUMBERS] = {0}, told[TOLD];
-    struct lent l = {chain, sizeof chain, chain_fates, MOST_PAGES, number, NUMBERS, MOST_PAGES, 0, 0};
+    struct lent l = {chain, MOST_PAGES * PAGE, chain_fates, MOST_PAGES, number, NUMBERS, MOST_PAGES, 0, 0};
     set_chain(MOST_PAGES);
     plain_pack(chain + PAGE * (place - 1), 3, 1, 0, 1, 0, 0, none, place);
     make_call(l, (struct call){.kind = TEST, .action = 1}, told);
@@ -293,6 +293,74 @@ static void lost_replies(void) {
     told("and on 65,536 pages, wherever it lies", told_place(2) && told_place(MOST_PAGES) && told_place(40000));
 }
 
+/* The highest start of the ten pages for two files. */
+static uint64_t highest(void) { return door_highest_start(sheet, sizeof sheet, 2); }
+
+/* Set up anew, with one byte of a page changed. */
+static uint64_t highest_with(uint64_t place, int byte, int to) {
+    set_up();
+    sheet[PAGE * (place - 1) + (uint64_t)byte] = (uint8_t)to;
+    return highest();
+}
+
+/* With an image of file 1 under action 1 put at a place. */
+static uint64_t highest_put(uint64_t place, uint64_t start) {
+    set_up();
+    put(2, 0, 1, 1, 0, start, place);
+    return highest();
+}
+
+static void which_starts_count(void) {
+    set_up();
+    told("the highest start is an undecided image's", highest() == 30);
+    put(3, 2, 0, 7, 0, 0, 9);
+    told("or an aborted one's", highest() == 30);
+    told("or a committed one's, the oldest", highest_put(2, 31) == 31);
+    told("or that of one above a blank page, or below one", highest_put(10, 31) == 31 && highest_put(10, 29) == 30);
+    told("a torn image does not count", highest_with(8, 63, 0) == 20);
+    told("nor one whose check word is spoilt", highest_with(8, 60, sheet[PAGE * 7 + 60] ^ 1) == 20);
+    told("nor one whose opening is bad, torn or blank", highest_with(7, 30, 1) == 20 && highest_with(7, 63, 0) == 20
+                                                            && (memset(sheet + PAGE * 6, 0, PAGE), highest() == 20));
+    set_up();
+    put(2, 0, 1, 6, 5, 30, 8);
+    told("nor one under an outcome's place", highest() == 20);
+    told("every byte of a start counts", highest_put(2, 1ULL << 32) == 1ULL << 32 && highest_put(2, 1ULL << 56) == 1ULL << 56
+                                             && highest_put(9, 255) == 255 && highest_put(9, UINT64_MAX) == UINT64_MAX);
+}
+
+static void sizes_and_counts(void) {
+    memset(sheet, 0, sizeof sheet);
+    told("a blank sheet has the highest start 0", highest() == 0);
+    set_up();
+    int empty = 1, one = 1;
+    for (size_t size = 0; size < 2 * PAGE; size++)
+        empty = empty && door_highest_start(sheet, size, 2) == 0;
+    for (size_t size = 2 * PAGE; size < 5 * PAGE; size++)
+        one = one && door_highest_start(sheet, size, 2) == 10;
+    told("so have 0 to 127 bytes, 63 and 65 among them, with an image on page 2", empty);
+    told("128 to 319 bytes have its start: whole pages count", one);
+    put(2, 0, 8, 7, 0, 40, 9);
+    put(2, 0, 256, 7, 0, 50, 10);
+    static const uint64_t files[] = {0, 1, 7, 8, 255, 256, 257, 1ULL << 32, UINT64_MAX};
+    static const uint64_t must[] = {0, 30, 30, 40, 40, 50, 0, 0, 0};
+    int all = 1;
+    for (size_t i = 0; i < sizeof files / sizeof *files; i++)
+        all = all && door_highest_start(sheet, sizeof sheet, files[i]) == must[i];
+    told("of file counts 0 to 257 and above: the images of so many files, none for 0 and above 256", all);
+}
+
+static uint64_t highest_of(uint64_t pages) { return door_highest_start(chain, PAGE * pages, 1); }
+
+static void longest_sheets(void) {
+    set_chain(MOST_PAGES);
+    told("65,536 pages whose starts grow", highest_of(MOST_PAGES) == MOST_PAGES);
+    put_link(1, MOST_PAGES + 1);
+    told("an image at place 65,537 does not count, and those below it do", highest_of(MOST_PAGES + 1) == MOST_PAGES);
+    for (uint64_t place = 2; place <= MOST_PAGES; place++)
+        plain_pack(chain + PAGE * (place - 1), 2, 0, 1, 1, 0, MOST_PAGES + 1 - place, none, place);
+    told("65,536 pages whose starts fall", highest_of(MOST_PAGES) == MOST_PAGES - 1 && highest_of(MOST_PAGES + 1) == MOST_PAGES - 1);
+}
+
 int main(void) {
     cold_rows();
     damaged_rows();
@@ -302,6 +370,9 @@ int main(void) {
     asked_again();
     false_fates();
     lost_replies();
+    which_starts_count();
+    sizes_and_counts();
+    longest_sheets();
     printf("%d passed, %d failed\n", passed, failed);
     return failed != 0;
 }

@@ -1,5 +1,5 @@
-/* The proved recovery layer beside a plain one, written here from document 01 page by page: open, rebuild and inspect on random
-   sheets, lawful, unlawful, damaged and cut. Prints a line for each test and 'N passed, M failed'. */
+/* The proved recovery layer beside a plain one, written here from documents 01 and 02 page by page: open, rebuild, inspect and the highest
+   start on random sheets, lawful, unlawful, damaged and cut. Prints a line for each test and 'N passed, M failed'. */
 #include "plainsheet.h"
 
 enum { SHEETS = 8000, LARGE_SHEETS = 40, UNTOUCHED = 77 };
@@ -28,6 +28,9 @@ static uint64_t inspected(void) {
 
 /* ---- random sheets */
 
+/* A start above another: mostly a little, now and then by any power of two, so that each of its bytes tells. Far up there is none. */
+static uint64_t later(uint64_t start) { return start + 1 + (below(16) ? below(30) : (uint64_t)1 << below(64)); }
+
 /* A page at a place that goes on from those below: mostly lawful, and now and then not. It may be cut, and the place be blank again. */
 static void add_page(uint64_t place, int wild) {
     static const uint8_t none[PAGE];
@@ -41,7 +44,7 @@ static void add_page(uint64_t place, int wild) {
     else if (kind == 4)
         plain_pack(page, 3, 1 + (int)below(2), 0, action, 0, 0, none, place);
     else
-        plain_pack(page, 2, 3, file, action, below(20) || !wild ? row[1] : below(place), row[2] + (below(20) || !wild ? 1 : 0),
+        plain_pack(page, 2, 3, file, action, below(20) || !wild ? row[1] : below(place), below(20) || !wild ? later(row[2]) : row[2],
                    value, place);
     if (!page_fits(place) && !(wild && below(4) == 0))
         plain_pack(page, 1, 0, 0, place, 0, 0, none, place);
@@ -149,6 +152,75 @@ static int inspects_alike(uint64_t (*count)(void), int sheets, int wild) {
     return wild ? lawful > sheets / 20 && lawful < sheets - sheets / 20 && far > sheets / 20 : lawful == sheets;
 }
 
+/* What a sheet has met where its highest start was asked for; several may come at once. */
+enum { NO_IMAGE, UNDECIDED_HIGHEST, COMMITTED_HIGHEST, ABORTED_HIGHEST, NEWEST_LOWER, TORN_HIGHER, NO_OPENING, HIGHER_FILE, SPOILT_HIGHER,
+       PART_HIGHER, NO_FILES, FAR, MET };
+static const char *const met[MET] = {"no sealed image", "the highest undecided", "the highest committed", "the highest aborted",
+                                     "the newest image lower", "a torn image higher", "an image without its opening higher",
+                                     "a higher file's image higher", "a spoilt image higher", "part of an image higher",
+                                     "images, but a count of 0 files or above 256", "a start above 2^56"};
+static int seen_met[MET];
+
+/* Of a page with an image's kind byte that starts at the highest start or above it, where so many bytes are lent: what it is. */
+static int image_met(uint64_t place, uint64_t size, uint64_t files) {
+    uint64_t whole = size / PAGE;
+    if (place > whole)
+        return place == whole + 1 && size % PAGE > 0 && is_sealed_for(place, files) ? PART_HIGHER : MET;
+    if (is_sealed_for(place, files))
+        return NO_IMAGE + fate_of(action_of(place), whole);
+    if (is_torn(place))
+        return TORN_HIGHER;
+    if (is_sealed(place))
+        return HIGHER_FILE;
+    return plain_fits(page_at(place), place, files) ? NO_OPENING : SPOILT_HIGHER;
+}
+
+static void meet(uint64_t size, uint64_t files, uint64_t highest) {
+    uint64_t newest = size / PAGE;
+    if (files < 1 || files > 256) {
+        seen_met[NO_FILES] += highest_start(newest, FILES) > 0;
+        return;
+    }
+    while (newest > 0 && !(page_at(newest)[0] == 2 && is_sealed_for(newest, files)))
+        newest--;
+    seen_met[NO_IMAGE] += newest == 0;
+    seen_met[NEWEST_LOWER] += newest > 0 && start_of(newest) < highest;
+    seen_met[FAR] += highest >> 56 > 0;
+    for (uint64_t p = 1; p <= pages; p++) {
+        int what = page_at(p)[0] == 2 && start_of(p) >= highest ? image_met(p, size, files) : MET;
+        if (what < MET && (start_of(p) > highest || what <= ABORTED_HIGHEST))
+            seen_met[what]++;
+    }
+}
+
+static int all_met(int least) {
+    int all = 1;
+    for (int i = 0; i < MET; i++)
+        if (seen_met[i] < least)
+            all = (printf("only %d times: %s\n", seen_met[i], met[i]), 0);
+    return all;
+}
+
+/* For many file counts; of every third sheet some bytes only are lent. All of the above must come so often at least. */
+static int starts_alike(uint64_t (*count)(void), int sheets, int wild, int least) {
+    static const uint64_t counts[] = {0, 1, 2, FILES - 1, FILES, FILES + 1, 8, 256, 257, UINT64_MAX};
+    memset(seen_met, 0, sizeof seen_met);
+    for (int k = 0; k < sheets; k++) {
+        fill_sheet(count(), wild);
+        uint64_t size = below(3) ? PAGE * pages : below(PAGE * pages);
+        for (size_t i = 0; i < sizeof counts / sizeof *counts; i++) {
+            uint64_t highest = highest_start(size / PAGE, counts[i]), got = door_highest_start(sheet, size, counts[i]);
+            meet(size, counts[i], highest);
+            if (got != highest) {
+                printf("%llu bytes for %llu files: %llu, expected %llu\n", (unsigned long long)size, (unsigned long long)counts[i],
+                       (unsigned long long)got, (unsigned long long)highest);
+                return 0;
+            }
+        }
+    }
+    return all_met(least);
+}
+
 /* Line 1: the lengths. */
 static int sizes_alike(void) {
     uint8_t fates[4] = {0};
@@ -221,11 +293,14 @@ int main(int count, char **words) {
     told("rebuild, any rows and fates", rebuilds_alike(small_count, SHEETS));
     told("inspect, lawful sheets", inspects_alike(small_count, SHEETS, 0));
     told("inspect, any sheets", inspects_alike(small_count, SHEETS, 1));
+    told("highest start, lawful sheets", starts_alike(small_count, SHEETS, 0, 0));
+    told("highest start, any sheets", starts_alike(small_count, SHEETS, 1, SHEETS / 40));
     told("open, lawful sheets of more than 1,024 pages", opens_alike(large_count, LARGE_SHEETS, 0));
     told("open, any sheets of more than 1,024 pages", opens_alike(large_count, LARGE_SHEETS, 1));
     told("rebuild, on more than 1,024 pages", rebuilds_alike(large_count, LARGE_SHEETS));
     told("inspect, lawful sheets of more than 1,024 pages", inspects_alike(large_count, LARGE_SHEETS, 0));
     told("inspect, any sheets of more than 1,024 pages", inspects_alike(large_count, LARGE_SHEETS, 1));
+    told("highest start, any sheets of more than 1,024 pages", starts_alike(large_count, LARGE_SHEETS, 1, 0));
     told("open and inspect, 65,536 pages", longest_is_right());
     printf("%d passed, %d failed\n", passed, failed);
     return failed != 0;
