@@ -1,13 +1,13 @@
 -- Document 01's listing as a conversation: it keeps one file count, so it is a run. And three short ones, computed to their replies: the text
 -- that one shows was typed; a commit that is asked again while a cut waits; and what a bare `open` protects from, and what not.
-use Prim.Native.Nat.{ℕ}
+use Prim.Native.Nat.{ℕ, _<_}
 use mathlib.Core.Path.{_≡_, refl}
 use mathlib.Core.List.{List, [], _∷_, _++_}
 use lib.ListN.{replicate}
 use Rattle.commands.specs.Names.{openName, beginName, writeName, readName, testName, commitName, abortName, cutName}
 use Rattle.commands.specs.Commands.{words, numberOf, three, isText, alone, withOne, withTwo, withThree, withText, commandOf, parsed}
 use Rattle.promises.specs.Runs.{Run}
-use Rattle.program.specs.Program.{Memory, memoryOf, runOf, AllKeep, pageCount, turned, memoryAfter}
+use Rattle.program.specs.Program.{Memory, memoryOf, talked, runOf, AllKeep, pageCount, turned, memoryAfter}
 use Rattle.calls.specs.declared.making.Call as code
 use Rattle.commands.specs.declared.parsing.Command as command
 use Rattle.commands.specs.declared.printing.Reply as reply
@@ -16,7 +16,7 @@ use Rattle.commands.specs.Replies.{decimal, spaced}
 use Rattle.page.specs.Table.{head, front, packed, fieldsOf, lowest, highest, within, between, meetsRules, isPageOf, torn}
 use Rattle.page.specs.Answers.{inBounds, tested}
 use Rattle.recovery.specs.Places.{tabulate}
-use Rattle.recovery.specs.Log.{fateOf, outcomeOf, imagesOf, versionsOf, tokenOf, highestStart}
+use Rattle.recovery.specs.Log.{image, fateOf, outcomeOf, imagesOf, versionsOf, tokenOf, highestStart}
 use Rattle.recovery.specs.Sheet.{decoded, sealed, pages}
 use Rattle.recovery.specs.World.{down, warmRow, rowHolds, lentRight, endOf, highestBad, undecidedOf, coldRows, opened}
 use Rattle.recovery.specs.Lent.{rowsOf, flat, sizesRight, openLeaves}
@@ -30,6 +30,7 @@ use Rattle.desk.specs.Conversation.{After, firstDesk, startedFor, openedFor, ca
 use Rattle.program.specs.Typing.{WasTyped, textOf}
 use Rattle.program.proofs.Proved.{program}
 use Rattle.program.proofs.TextTyped.{reads-typed}
+use Rattle.program.proofs.NotBackdated.{nothing-backdated}
 
 -- ---- lines as they are typed
 
@@ -130,3 +131,26 @@ pub floor-needed : replies small (untilCut ++ reopened)
     ∷ reply.Reply.Opened 3 0 ∷ reply.Reply.Begun 4 ∷ reply.Reply.No 10 0 ∷ reply.Reply.Written 5 ∷ reply.Reply.Committed 6 ∷ reply.Reply.Shown 5 52 1 ∷ []
 unfolding words numberOf three isText alone withOne withTwo withThree withText commandOf parsed decimal spaced openName beginName writeName readName testName commitName abortName cutName callReply openReply startedFor openedFor calledFor acted head front packed fieldsOf lowest highest within between meetsRules isPageOf torn inBounds tested tabulate fateOf outcomeOf imagesOf versionsOf tokenOf highestStart decoded sealed pages down warmRow rowHolds lentRight endOf highestBad undecidedOf coldRows opened rowsOf flat sizesRight openLeaves follow eachRow call packedEntry withPage callLeaves mixed isRefused
 floor-needed = refl
+
+-- an image of an action that is still undecided, on page 2: what is accepted after the next `open` starts above it
+unfoldable undecided : Memory
+undecided = talked small (openName ∷ beginName ∷ writes 1 50 1 (65 ∷ []) ∷ [])
+
+is-bare : parsed openName ≡ command.Command.BareOpen
+unfolding words numberOf three isText alone withOne withTwo withThree withText commandOf parsed decimal spaced openName beginName writeName readName testName commitName abortName cutName
+is-bare = refl
+
+is-write : parsed (writes 2 52 1 (66 ∷ [])) ≡ command.Command.Call (code.Call.Write 2 52 1) 13
+unfolding words numberOf three isText alone withOne withTwo withThree withText commandOf parsed decimal spaced openName beginName writeName readName testName commitName abortName cutName
+is-write = refl
+
+is-written : turned (talked undecided (openName ∷ [])) (writes 2 52 1 (66 ∷ [])) .turn .reply ≡ reply.Reply.Written 3
+unfolding words numberOf three isText alone withOne withTwo withThree withText commandOf parsed decimal spaced openName beginName writeName readName testName commitName abortName cutName callReply openReply startedFor openedFor calledFor acted undecided head front packed fieldsOf lowest highest within between meetsRules isPageOf torn inBounds tested tabulate fateOf outcomeOf imagesOf versionsOf tokenOf highestStart decoded sealed pages down warmRow rowHolds lentRight endOf highestBad undecidedOf coldRows opened rowsOf flat sizesRight openLeaves follow eachRow call packedEntry withPage callLeaves mixed isRefused
+is-written = refl
+
+on-page-2 : sealed 8 (undecided .sheet) 2 ≡ image (record { file = 1; action = 1; link = 0; start = 50; value = 65 ∷ [] })
+unfolding words numberOf three isText alone withOne withTwo withThree withText commandOf parsed decimal spaced openName beginName writeName readName testName commitName abortName cutName callReply openReply startedFor openedFor calledFor acted undecided head front packed fieldsOf lowest highest within between meetsRules isPageOf torn inBounds tested tabulate fateOf outcomeOf imagesOf versionsOf tokenOf highestStart decoded sealed pages down warmRow rowHolds lentRight endOf highestBad undecidedOf coldRows opened rowsOf flat sizesRight openLeaves follow eachRow call packedEntry withPage callLeaves mixed isRefused
+on-page-2 = refl
+
+pub nothing-backdated-met : 50 < 52
+nothing-backdated-met = nothing-backdated undecided openName [] (writes 2 52 1 (66 ∷ [])) 2 52 1 13 3 2 _ is-bare tt is-write is-written on-page-2
