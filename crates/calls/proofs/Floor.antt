@@ -1,8 +1,8 @@
 -- The floor: every call leaves it as it was, and a write that is answered starts above it. So where it is no lower than the highest start of
 -- a sheet, no write is answered at or below any start there. Shuts out a store that lets a version be backdated. Assumes nothing.
-use Prim.Native.Nat.{ℕ, _/_, _≤_, _<_}
+use Prim.Native.Nat.{ℕ, _≤_, _<_}
 use mathlib.Core.Path.{_≡_, refl}
-use mathlib.Core.Bool.{Bool, _&&_}
+use mathlib.Core.Bool.{_&&_}
 use mathlib.Core.List.{List}
 use native.Mathlib.Omega.{arith}
 use lib.ListN.{length}
@@ -16,7 +16,7 @@ use Rattle.recovery.specs.declared.Row.{Row}
 use Rattle.recovery.specs.declared.State.{State}
 use Rattle.recovery.specs.declared.Answer.the-variants.{Stored}
 use Rattle.recovery.specs.World.{World, Result, refuse, fateAt, warmRow, rowHolds, lentRight, isFile}
-use Rattle.recovery.specs.Lent.{Left, lent, whole, rowLength, pagesOf, refused}
+use Rattle.recovery.specs.Lent.{Left, lent, whole, pagesOf, refused}
 use Rattle.recovery.proofs.HighestStart.{none-later}
 use Rattle.calls.specs.Calls.{Call, write, hasAction, isDecided, ifUndecided, forUndecided, onWrite, on, call}
 use Rattle.calls.specs.Leaves.{lower, callLeaves}

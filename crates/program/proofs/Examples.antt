@@ -7,7 +7,7 @@ use lib.ListN.{replicate}
 use Rattle.commands.specs.Names.{openName, beginName, writeName, readName, testName, commitName, abortName, cutName}
 use Rattle.commands.specs.Commands.{words, numberOf, three, isText, alone, withOne, withTwo, withThree, withText, commandOf, parsed}
 use Rattle.promises.specs.Runs.{Run}
-use Rattle.program.specs.Program.{Memory, memoryOf, talked, runOf, AllKeep, pageCount, turned, memoryAfter}
+use Rattle.program.specs.Program.{Memory, memoryOf, runOf, AllKeep, pageCount, turned, memoryAfter}
 use Rattle.calls.specs.declared.making.Call as code
 use Rattle.commands.specs.declared.parsing.Command as command
 use Rattle.commands.specs.declared.printing.Reply as reply
@@ -16,7 +16,7 @@ use Rattle.commands.specs.Replies.{decimal, spaced}
 use Rattle.page.specs.Table.{head, front, packed, fieldsOf, lowest, highest, within, between, meetsRules, isPageOf, torn}
 use Rattle.page.specs.Answers.{inBounds, tested}
 use Rattle.recovery.specs.Places.{tabulate}
-use Rattle.recovery.specs.Log.{image, fateOf, outcomeOf, imagesOf, versionsOf, tokenOf, highestStart}
+use Rattle.recovery.specs.Log.{Image, image, fateOf, outcomeOf, imagesOf, versionsOf, tokenOf, highestStart}
 use Rattle.recovery.specs.Sheet.{decoded, sealed, pages}
 use Rattle.recovery.specs.World.{down, warmRow, rowHolds, lentRight, endOf, highestBad, undecidedOf, coldRows, opened}
 use Rattle.recovery.specs.Lent.{rowsOf, flat, sizesRight, openLeaves}
@@ -132,9 +132,14 @@ pub floor-needed : replies small (untilCut ++ reopened)
 unfolding words numberOf three isText alone withOne withTwo withThree withText commandOf parsed decimal spaced openName beginName writeName readName testName commitName abortName cutName callReply openReply startedFor openedFor calledFor acted head front packed fieldsOf lowest highest within between meetsRules isPageOf torn inBounds tested tabulate fateOf outcomeOf imagesOf versionsOf tokenOf highestStart decoded sealed pages down warmRow rowHolds lentRight endOf highestBad undecidedOf coldRows opened rowsOf flat sizesRight openLeaves follow eachRow call packedEntry withPage callLeaves mixed isRefused
 floor-needed = refl
 
--- an image of an action that is still undecided, on page 2: what is accepted after the next `open` starts above it
-unfoldable undecided : Memory
-undecided = talked small (openName ∷ beginName ∷ writes 1 50 1 (65 ∷ []) ∷ [])
+-- ---- an image of an action that is still undecided, on page 2: what is accepted after the next `open` starts above it
+
+unfoldable begun : List (List ℕ)
+begun = openName ∷ beginName ∷ writes 1 50 1 (65 ∷ []) ∷ []
+
+begun-keeps : AllKeep 8 begun
+unfolding words numberOf three isText alone withOne withTwo withThree withText commandOf parsed decimal spaced openName beginName writeName readName testName commitName abortName cutName begun
+begun-keeps = (refl, (tt, (tt, tt)))
 
 is-bare : parsed openName ≡ command.Command.BareOpen
 unfolding words numberOf three isText alone withOne withTwo withThree withText commandOf parsed decimal spaced openName beginName writeName readName testName commitName abortName cutName
@@ -144,13 +149,16 @@ is-write : parsed (writes 2 52 1 (66 ∷ [])) ≡ command.Command.Call (code.Cal
 unfolding words numberOf three isText alone withOne withTwo withThree withText commandOf parsed decimal spaced openName beginName writeName readName testName commitName abortName cutName
 is-write = refl
 
-is-written : turned (talked undecided (openName ∷ [])) (writes 2 52 1 (66 ∷ [])) .turn .reply ≡ reply.Reply.Written 3
-unfolding words numberOf three isText alone withOne withTwo withThree withText commandOf parsed decimal spaced openName beginName writeName readName testName commitName abortName cutName callReply openReply startedFor openedFor calledFor acted undecided head front packed fieldsOf lowest highest within between meetsRules isPageOf torn inBounds tested tabulate fateOf outcomeOf imagesOf versionsOf tokenOf highestStart decoded sealed pages down warmRow rowHolds lentRight endOf highestBad undecidedOf coldRows opened rowsOf flat sizesRight openLeaves follow eachRow call packedEntry withPage callLeaves mixed isRefused
+is-written : turned (after (begun ++ openName ∷ [])) (writes 2 52 1 (66 ∷ [])) .turn .reply ≡ reply.Reply.Written 3
+unfolding words numberOf three isText alone withOne withTwo withThree withText commandOf parsed decimal spaced openName beginName writeName readName testName commitName abortName cutName callReply openReply startedFor openedFor calledFor acted head front packed fieldsOf lowest highest within between meetsRules isPageOf torn inBounds tested tabulate fateOf outcomeOf imagesOf versionsOf tokenOf highestStart decoded sealed pages down warmRow rowHolds lentRight endOf highestBad undecidedOf coldRows opened rowsOf flat sizesRight openLeaves follow eachRow call packedEntry withPage callLeaves mixed isRefused begun
 is-written = refl
 
-on-page-2 : sealed 8 (undecided .sheet) 2 ≡ image (record { file = 1; action = 1; link = 0; start = 50; value = 65 ∷ [] })
-unfolding words numberOf three isText alone withOne withTwo withThree withText commandOf parsed decimal spaced openName beginName writeName readName testName commitName abortName cutName callReply openReply startedFor openedFor calledFor acted undecided head front packed fieldsOf lowest highest within between meetsRules isPageOf torn inBounds tested tabulate fateOf outcomeOf imagesOf versionsOf tokenOf highestStart decoded sealed pages down warmRow rowHolds lentRight endOf highestBad undecidedOf coldRows opened rowsOf flat sizesRight openLeaves follow eachRow call packedEntry withPage callLeaves mixed isRefused
+abbrev first : Image
+first = record { file = 1; action = 1; link = 0; start = 50; value = 65 ∷ [] }
+
+on-page-2 : sealed 8 (after begun .sheet) 2 ≡ image first
+unfolding words numberOf three isText alone withOne withTwo withThree withText commandOf parsed decimal spaced openName beginName writeName readName testName commitName abortName cutName callReply openReply startedFor openedFor calledFor acted head front packed fieldsOf lowest highest within between meetsRules isPageOf torn inBounds tested tabulate fateOf outcomeOf imagesOf versionsOf tokenOf highestStart decoded sealed pages down warmRow rowHolds lentRight endOf highestBad undecidedOf coldRows opened rowsOf flat sizesRight openLeaves follow eachRow call packedEntry withPage callLeaves mixed isRefused begun
 on-page-2 = refl
 
 pub nothing-backdated-met : 50 < 52
-nothing-backdated-met = nothing-backdated undecided openName [] (writes 2 52 1 (66 ∷ [])) 2 52 1 13 3 2 _ is-bare tt is-write is-written on-page-2
+nothing-backdated-met = nothing-backdated (replicate 256 0) (replicate 1280 0) refl begun openName [] (writes 2 52 1 (66 ∷ [])) 2 52 1 13 3 2 first begun-keeps is-bare tt is-write is-written on-page-2

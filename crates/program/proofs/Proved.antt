@@ -29,14 +29,14 @@ use Rattle.program.proofs.Meets.{Met, met-off, met-sheet, AllRows, line
 -- ---- each event is allowed
 
 -- a start that was typed fits 64 bits: the parser takes no other number
-abbrev Fits : List ℕ → Command → Type 0
+abbrev pub Fits : List ℕ → Command → Type 0
 Fits line command.Command.What = Unit {0}
 Fits line command.Command.BareOpen = Unit {0}
 Fits line (command.Command.Open files floor) = Unit {0}
 Fits line (command.Command.Cut n) = Unit {0}
 Fits line (command.Command.Call k from) = Typed (asked k (drop from line))
 
-start-fits : (line : List ℕ) → Fits line (parsed line)
+pub start-fits : (line : List ℕ) → Fits line (parsed line)
 start-fits line = every-line line (Fits line) (record {
   what = tt;
   opens-bare = tt;
@@ -64,7 +64,7 @@ module _ (files : ℕ) (m : Memory) (s : AllRows (m .rows)) where
           length-take-le (rowLength * n) (m .rows) (omega (arith, s)) ∙ ap (λ m. rowLength * m) (h e)
       go false e q = absurd (omega (arith, sizes-right (pageSize * pageCount) (length (m .fates)) 0 q .some-files))
 
-  event-allowed : (c : Command) (line : List ℕ) → Fits line c → Keeps files c → AllAllowed pageCount files (eventsOf m c line)
+  pub event-allowed : (c : Command) (line : List ℕ) → Fits line c → Keeps files c → AllAllowed pageCount files (eventsOf m c line)
   event-allowed command.Command.What line f h = tt
   event-allowed command.Command.BareOpen line f h = (open-allowed bareFiles (bareFloor (m .sheet)) (λ e. h), tt)
   event-allowed (command.Command.Open n floor) line f h = (open-allowed n floor h, tt)

@@ -1,12 +1,12 @@
 -- The highest start of a sheet, as the code walks down to it; and no image of the sheet starts above it. Assumes nothing.
-use Prim.Native.Nat.{ℕ, zero, suc, max, _*_, _-_, _/_, _<_, _≤_}
+use Prim.Native.Nat.{ℕ, zero, suc, _-_, _/_, _<_, _≤_}
 use mathlib.Core.Path.{_≡_, refl, sym, ap, _∙_}
 use mathlib.Core.Bool.{Bool, true, false, cond}
 use mathlib.Core.List.{List, [], _∷_}
 use native.Mathlib.Omega.{arith}
 use native.Mathlib.Numerals.{sub-one}
 use lib.ListN.{length}
-use lib.Dec.{ltb, leb}
+use lib.Dec.{ltb}
 use borrow.Author.Tests.{ltb-true, ltb-false}
 use Rattle.encoding.proofs.Logic.{by-test, clash}
 use Rattle.page.specs.declared.Page.{Page}
