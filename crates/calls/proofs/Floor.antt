@@ -10,13 +10,13 @@ use lib.Dec.{eqb, leb, ltb}
 use borrow.Author.Tests.{ltb-true}
 use Rattle.encoding.proofs.Logic.{and-true, by-test, clash}
 use Rattle.page.specs.Layout.{valueSize}
-use Rattle.recovery.specs.Log.{Image, image, highestStart}
+use Rattle.recovery.specs.Log.{Image, image}
 use Rattle.recovery.specs.Sheet.{sealed}
 use Rattle.recovery.specs.declared.Row.{Row}
 use Rattle.recovery.specs.declared.State.{State}
 use Rattle.recovery.specs.declared.Answer.the-variants.{Stored}
 use Rattle.recovery.specs.World.{World, Result, refuse, fateAt, warmRow, rowHolds, lentRight, isFile}
-use Rattle.recovery.specs.Lent.{Left, lent, whole, pagesOf, refused}
+use Rattle.recovery.specs.Lent.{Left, highestStartOf, lent, whole, refused}
 use Rattle.recovery.proofs.HighestStart.{none-later}
 use Rattle.calls.specs.Calls.{Call, write, hasAction, isDecided, ifUndecided, forUndecided, onWrite, on, call}
 use Rattle.calls.specs.Leaves.{lower, callLeaves}
@@ -78,6 +78,6 @@ module _ (s fates rows : List ℕ) (state : State) (f start a : ℕ) (value : Li
       {x = lower s (state .end) (call w (write f start a value))} {y = refused 1 0 s fates rows state} (λ e. late-write w f start a value place) (λ e h. clash cc)
 
   -- and so above every sealed image of a sheet whose highest start is no higher
-  pub not-backdated : (t : List ℕ) (files : ℕ) → highestStart (pagesOf t files) ≤ state .floor → callLeaves s fates rows state (write f start a value) .answer ≡ Stored place
+  pub not-backdated : (t : List ℕ) (files : ℕ) → highestStartOf t files ≤ state .floor → callLeaves s fates rows state (write f start a value) .answer ≡ Stored place
       → (p : ℕ) (i : Image) → sealed files t p ≡ image i → i .start < start
   not-backdated t files h e p i q = omega (arith, h, above-floor e, none-later files t p i q)

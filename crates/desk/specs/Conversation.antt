@@ -7,9 +7,8 @@ use lib.Dec.{eqb, leb}
 use Rattle.page.specs.Layout.{pageSize, mostFiles}
 use Rattle.recovery.specs.declared.State.{State}
 use Rattle.recovery.specs.Numbers.{numbersOf, isRefused}
-use Rattle.recovery.specs.Log.{highestStart}
 use Rattle.recovery.specs.World.{isFile}
-use Rattle.recovery.specs.Lent.{Left, rowLength, pagesOf, closed, openLeaves}
+use Rattle.recovery.specs.Lent.{Left, rowLength, highestStartOf, closed, openLeaves}
 use Rattle.calls.specs.declared.making.Call.{Call}
 use Rattle.calls.specs.Asked.{asked}
 use Rattle.calls.specs.Leaves.{callLeaves}
@@ -103,12 +102,12 @@ startedFor d s fates rows files floor =
     (lending rows (rowLength * files) (openedFor d s fates (take (rowLength * files) rows) files floor))
     (replied (reply.Reply.No 1 0) (record { on = false; files = d .files; state = closed; cut = d .cut }) s fates rows)
 
--- `open` without numbers is for eight files, and its floor is the highest start on the sheet, so that nothing can be backdated
+-- a bare `open`, without numbers, is for eight files, and its floor is the highest start on the sheet: nothing can be backdated
 abbrev pub bareFiles : ℕ
 bareFiles = 8
 
 abbrev pub bareFloor : List ℕ → ℕ
-bareFloor s = highestStart (pagesOf s bareFiles)
+bareFloor s = highestStartOf s bareFiles
 
 abbrev pub conversed : Desk → List ℕ → List ℕ → List ℕ → Command → List ℕ → After
 conversed d s fates rows command.Command.What line = replied reply.Reply.What d s fates rows

@@ -9,8 +9,7 @@ use recovery::numbers_of;
 use recovery::refuse;
 ghost use mathlib.Core.Path.{_≡_};
 ghost use lib.ListN.{length};
-ghost use Rattle.recovery.specs.Log.{highestStart};
-ghost use Rattle.recovery.specs.Lent.{leftBy, pagesOf, openLeaves, rebuildLeaves};
+ghost use Rattle.recovery.specs.Lent.{highestStartOf, leftBy, openLeaves, rebuildLeaves};
 ghost use Rattle.harness.specs.Door.{numberCount, eightNumbers, callOf, made, stateWith, left, given};
 
 // How many numbers are given.
@@ -154,7 +153,7 @@ pub extern "C" fn door_rebuild(
 // The highest start of the images on a sheet.
 #[no_mangle]
 pub extern "C" fn door_highest_start(sheet: &[u8], files: u64) -> u64
-    ensures { λ r. ⌜ r ≡ highestStart (pagesOf (now (sheet .entry)) files) ⌝ }
+    ensures { λ r. ⌜ r ≡ highestStartOf (now (sheet .entry)) files ⌝ }
 {
     recovery::highest_start(sheet, files)
 }

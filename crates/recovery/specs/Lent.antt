@@ -8,7 +8,7 @@ use lib.Seq.{sets}
 use lib.Dec.{eqb}
 use Rattle.page.specs.Layout.{pageSize}
 use Rattle.recovery.specs.Places.{tabulate}
-use Rattle.recovery.specs.Log.{Entry}
+use Rattle.recovery.specs.Log.{Entry, highestStart}
 use Rattle.recovery.specs.Sheet.{pages}
 use Rattle.recovery.specs.declared.Row.{Row}
 use Rattle.recovery.specs.declared.State.{State}
@@ -50,6 +50,10 @@ putRow xs j r = sets xs (rowLength * j) (numbers r)
 
 abbrev pub pagesOf : List ℕ → ℕ → List Entry
 pagesOf s files = pages files (length s / pageSize) s
+
+-- the highest start of any image of a sheet that is sealed for a file count
+abbrev pub highestStartOf : List ℕ → ℕ → ℕ
+highestStartOf s files = highestStart (pagesOf s files)
 
 abbrev pub lent : List ℕ → List ℕ → List ℕ → State → World
 lent s fates rows state = record {

@@ -117,13 +117,16 @@ abbrev pub startOf : Option Placed → ℕ
 startOf (some x) = x .image .start
 startOf none = 0
 
--- ---- the highest start of any image, 0 if there is none: whatever became of its action
+-- ---- the highest start of any image, 0 if there is none, whatever became of its action; the order of the pages does not count
+
+abbrev pub startStep : Entry → ℕ → ℕ
+startStep blank x = x
+startStep torn x = x
+startStep bad x = x
+startStep opening x = x
+startStep (image i) x = max (i .start) x
+startStep (outcome a c) x = x
 
 unfoldable pub highestStart : List Entry → ℕ
 highestStart [] = 0
-highestStart (blank ∷ l) = highestStart l
-highestStart (torn ∷ l) = highestStart l
-highestStart (bad ∷ l) = highestStart l
-highestStart (opening ∷ l) = highestStart l
-highestStart (image i ∷ l) = max (i .start) (highestStart l)
-highestStart (outcome a c ∷ l) = highestStart l
+highestStart (g ∷ l) = startStep g (highestStart l)

@@ -2,7 +2,7 @@
 use mathlib.Core.Path.{_≡_}
 use mathlib.Core.List.{List, []}
 use mathlib.Core.Bool.{Bool, true, false, cond, _&&_, _||_}
-use Prim.Native.Nat.{ℕ, pred, max, _/_}
+use Prim.Native.Nat.{ℕ, pred, _/_}
 use lib.ListN.{length}
 use lib.Dec.{eqb, leb}
 use Rattle.page.specs.declared.Page.{Page}
@@ -11,7 +11,7 @@ use Rattle.page.specs.declared.Sought.{Sought}
 use Rattle.page.specs.Layout.{pageSize}
 use Rattle.page.specs.Answers.{tested, onImage}
 use Rattle.recovery.specs.Places.{nth}
-use Rattle.recovery.specs.Log.{Entry, blank, torn, bad, opening, image, outcome, outcomeOf}
+use Rattle.recovery.specs.Log.{outcomeOf}
 use Rattle.recovery.specs.Sheet.{pageBytes, isOpening, decoded}
 use Rattle.recovery.specs.World.{World, down, rebuiltRow, fateIn, cold, isFile, rowHolds}
 use Rattle.recovery.specs.Lent.{rowLength, rowsOf, putRow, pagesOf, sizesRight}
@@ -59,15 +59,6 @@ rowFromPages s fates files file end = rebuiltRow (down (pagesOf s files) end) (f
 -- the place of an action's newest sealed outcome, from the pages up to the end
 unfoldable pub outcomeIn : List ℕ → ℕ → ℕ → ℕ → ℕ
 outcomeIn s files end a = outcomeOf (down (pagesOf s files) end) a
-
--- a start, or that of a page if it is a higher one
-abbrev pub orHigher : ℕ → Entry → ℕ
-orHigher start blank = start
-orHigher start torn = start
-orHigher start bad = start
-orHigher start opening = start
-orHigher start (image i) = max (i .start) start
-orHigher start (outcome a c) = start
 
 -- a row as its numbers stand on the sheet: what line 7 asks needs nothing else of what is lent
 abbrev pub sheetWorld : List ℕ → ℕ → ℕ → World

@@ -4,14 +4,13 @@ use crate::lookup::part_at;
 use page::Page;
 use page::Sought;
 ghost use mathlib.Core.Path.{_≡_};
-ghost use Rattle.recovery.specs.Log.{highestStart};
+ghost use Rattle.recovery.specs.Log.{startStep};
 ghost use Rattle.recovery.specs.Sheet.{sealed};
-ghost use Rattle.recovery.specs.Lent.{pagesOf};
-ghost use Rattle.recovery.specs.Steps.{orHigher};
+ghost use Rattle.recovery.specs.Lent.{highestStartOf};
 
 // A start, or that of the sealed image at a place if it is higher.
 fn or_higher(sheet: &[u8], place: u64, files: u64, start: u64) -> u64
-    ensures { λ r. ⌜ r ≡ orHigher start (sealed files (now (sheet .entry)) place) ⌝ }
+    ensures { λ r. ⌜ r ≡ startStep (sealed files (now (sheet .entry)) place) start ⌝ }
 {
     let found = Page::seek_above(part_at(sheet, place), place, files, start);
     let Sought::Image(image) = found else {
@@ -26,7 +25,7 @@ fn or_higher(sheet: &[u8], place: u64, files: u64, start: u64) -> u64
 // The highest start of any sealed image, 0 if there is none. From the last page down: starts mostly grow, so that soon every image is
 // passed over by its start alone.
 pub fn highest_start(sheet: &[u8], files: u64) -> u64
-    ensures { λ r. ⌜ r ≡ highestStart (pagesOf (now (sheet .entry)) files) ⌝ }
+    ensures { λ r. ⌜ r ≡ highestStartOf (now (sheet .entry)) files ⌝ }
 {
     let mut highest: u64 = 0;
     let mut place = (sheet.len() / Page::SIZE) as u64;

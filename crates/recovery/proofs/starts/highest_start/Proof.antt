@@ -1,7 +1,7 @@
 -- `recovery::starts::highest_start`. The invariant: the highest start above the walk's place. Assumes nothing.
 use Rattle.recovery.proofs.HighestStart.{startAbove, none-yet, one-lower, all-seen}
 use Rattle.recovery.specs.Sheet.{sealed}
-use Rattle.recovery.specs.Steps.{orHigher}
+use Rattle.recovery.specs.Log.{startStep}
 use lib.ListN.{length}
 use denote.Ref.{now}
 use native.Mathlib.Omega.{arith}
@@ -34,7 +34,7 @@ loop-again c =
     let l = c .before .before in
     let a = l .before .before .args in
     let p = l .loop .place in
-    (omega arith, c .or-higher .ensures ∙ ap (λ x. orHigher x (sealed (a .files) (now (a .sheet)) p)) (l .loop .inv .1) ∙ one-lower (a .files) (now (a .sheet)) p (c .before .loop-test .taken) (l .loop .inv .0))
+    (omega arith, c .or-higher .ensures ∙ ap (startStep (sealed (a .files) (now (a .sheet)) p)) (l .loop .inv .1) ∙ one-lower (a .files) (now (a .sheet)) p (c .before .loop-test .taken) (l .loop .inv .0))
 
 returns : tie.Need-returns Inv-loop μ-loop
 returns c =
