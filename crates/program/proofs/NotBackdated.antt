@@ -1,25 +1,25 @@
--- From an `open` without numbers on nothing is backdated: its floor stays until the next opening, and each such one has the images of the one
--- before. Shuts out a program whose floor is 0, or goes by the committed images alone. Assumes nothing.
+-- From a bare `open` on nothing is backdated: its floor stays until the next opening, and the next bare one finds the same images. Shuts out a
+-- program whose floor is 0 after a cut, or goes by the committed images alone, or is passed over while a cut waits. Assumes nothing.
 use Prim.Native.Nat.{ℕ, _*_, _≤_, _<_}
 use mathlib.Core.Path.{_≡_, refl, sym, ap, _∙_, subst}
 use mathlib.Core.List.{List, [], _∷_, _++_}
-use mathlib.Core.Bool.{Bool, true, false, false≢true}
+use mathlib.Core.Bool.{true, false≢true}
+use mathlib.Core.Logic.{_⊎_, inl, inr}
 use native.Mathlib.Omega.{arith}
-use lib.ListN.{length, take, drop}
-use lib.Dec.{leb}
-use borrow.Author.Tests.{not-true, leb-true, leb-false}
+use lib.ListN.{take, drop}
+use borrow.Author.Tests.{not-true}
 use Rattle.encoding.proofs.Logic.{by-test, and-true, clash}
 use Rattle.page.specs.Layout.{mostFiles}
-use Rattle.recovery.specs.declared.Answer as answers
-use Rattle.recovery.specs.declared.Answer.{Answer}
-use Rattle.recovery.specs.Log.{Image, blank, image}
+use Rattle.recovery.specs.declared.Answer.the-variants.{Stored}
+use Rattle.recovery.specs.Log.{Image, image}
 use Rattle.recovery.specs.Sheet.{sealed}
-use Rattle.recovery.specs.Numbers.{numbersOf, isRefused}
-use Rattle.recovery.specs.World.{isFile}
+use Rattle.recovery.specs.Numbers.{isRefused}
+use Rattle.recovery.specs.World.{sizes, isFile}
 use Rattle.recovery.specs.Lent.{Left, rowLength, openLeaves}
 use Rattle.recovery.proofs.HighestStart.{none-later}
 use Rattle.recovery.proofs.Refused.{opened-floor}
 use Rattle.calls.specs.declared.making.Call as code
+use Rattle.calls.specs.Calls.{Call, begin, write, read, test, decide, rebuild}
 use Rattle.calls.specs.Asked.{asked}
 use Rattle.calls.specs.Leaves.{callLeaves}
 use Rattle.calls.proofs.Floor.{floor-stays, above-floor}
@@ -28,101 +28,75 @@ use Rattle.commands.specs.declared.parsing.Command.{Command}
 use Rattle.commands.specs.declared.printing.Reply as reply
 use Rattle.commands.specs.Commands.{parsed}
 use Rattle.desk.specs.declared.talking.Desk.{Desk}
-use Rattle.desk.specs.Wording.{callReply}
 use Rattle.desk.specs.Conversation.{After, answered, lost, isStruck, acted, actedBy, openedFor, lending, replied, isOpen, calledFor, startedFor, bareFiles, bareFloor, conversed}
-use Rattle.promises.specs.Runs.{Box, sheetOf, Event, runs, AllAllowed}
-use Rattle.promises.proofs.bytes.Replaced.{bad-image}
-use Rattle.promises.proofs.boxes.Boxes.{Reached, page-lies, log-page, page-above}
-use Rattle.promises.proofs.boxes.BoxRuns.{reached-on, reached}
+use Rattle.promises.specs.Runs.{Box, on, sheetOf, Event, callOn, after, runs, Allowed, AllAllowed}
+use Rattle.promises.specs.Promises.{IsPageOf}
+use Rattle.promises.proofs.logs.Outcomes.{Lies}
+use Rattle.promises.proofs.boxes.Boxes.{Reached}
+use Rattle.promises.proofs.boxes.BoxRuns.{reached-next, reached-on, reached}
+use Rattle.promises.proofs.boxes.Found.{some-is, not-heard}
 use Rattle.promises.proofs.boxes.Extends.{stays}
-use Rattle.program.specs.Program.{Memory, memoryOf, turned, talked, firstMemory, eventsOf, Keeps, pageCount, memoryAfter, runOf}
-use Rattle.program.specs.Backdating.{IsUnnumbered, AllUnnumbered, NothingBackdated}
-use Rattle.program.proofs.Meets.{Met, met-sheet, AllRows, line-steps}
-use Rattle.program.proofs.Proved.{start-fits, event-allowed, from-first}
+use Rattle.promises.proofs.answers.Origins.{solid-image, page-lies-in, lies-page, Adds, from-event}
+use Rattle.program.specs.Program.{Memory, memoryOf, turned, talked, firstMemory, callEvent, openEvent, eventsOf, Keeps, AllLines, memoryAfter, runOf, boxNow}
+use Rattle.program.specs.Backdating.{IsUnnumbered, NothingBackdated}
+use Rattle.program.proofs.Meets.{Met, met-on, met-off, leftFor, met-sheet, AllRows, line-steps}
+use Rattle.program.proofs.Proved.{Fits, start-fits, event-allowed, from-first}
 
--- ---- a call leaves the floor, and a write that is answered starts above it
-
-module _ (m : Memory) (k : code.Call) (value : List ℕ) where
-  abbrev n : ℕ
-  n = rowLength * m .desk .files
-
-  -- what the call leaves
-  abbrev X : Left
-  X = callLeaves (m .sheet) (m .fates) (take n (m .rows)) (m .desk .state) (asked k value)
-
-  is-on : isOpen (m .desk) ≡ true → m .desk .on ≡ true
-  is-on o = and-true (m .desk .on) (isFile mostFiles (m .desk .files)) o .0
-
-  -- whatever holds of what is left without a state, of a cut and of an answer
-  call-ways : (P : After → Type 0) → (isOpen (m .desk) ≡ false → P (replied reply.Reply.Closed (m .desk) (m .sheet) (m .fates) (m .rows)))
-      → P (lending (m .rows) n (lost (m .desk) (m .sheet) X)) → (isOpen (m .desk) ≡ true → P (lending (m .rows) n (answered (m .desk) k X)))
-      → P (calledFor (m .desk) (m .sheet) (m .fates) (m .rows) k value)
-  unfolding calledFor acted
-  call-ways P closed cut told =
-      by-test P (isOpen (m .desk)) {x = lending (m .rows) n (actedBy (m .desk) (m .sheet) k X)} {y = replied reply.Reply.Closed (m .desk) (m .sheet) (m .fates) (m .rows)}
-      (λ o. by-test (λ (x : After). P (lending (m .rows) n x)) (isStruck (m .desk) (X .state)) {x = lost (m .desk) (m .sheet) X} {y = answered (m .desk) k X} (λ e. cut) (λ e. told o)) closed
-
-written-is : (file start action place : ℕ) (x : Answer) → callReply (code.Call.Write file start action) (numbersOf x) ≡ reply.Reply.Written place → x ≡ answers.Answer.Stored place
-unfolding callReply
-written-is f s a place (answers.Answer.Refused n p) h = clash cc
-written-is f s a place (answers.Answer.Opened n p) h = clash cc
-written-is f s a place (answers.Answer.Rebuilt n m o p) h = clash cc
-written-is f s a place (answers.Answer.Stored p) h = let z : p ≡ place = cc in λ x. answers.Answer.Stored (z x)
-written-is f s a place (answers.Answer.Value p t n) h = clash cc
-written-is f s a place answers.Answer.Nothing h = clash cc
-written-is f s a place (answers.Answer.Told n p) h = clash cc
+-- ---- the floor, while there is a state, is no lower than a time
 
 module _ (low : ℕ) where
-  -- while there is a state, its floor is no lower
-  abbrev Under : Desk → Type 0
-  Under d = d .on ≡ true → low ≤ d .state .floor
+  abbrev Above : Desk → Type 0
+  Above d = d .on ≡ true → low ≤ d .state .floor
 
-  call-under : (m : Memory) (k : code.Call) (value : List ℕ) → Under (m .desk) → Under (calledFor (m .desk) (m .sheet) (m .fates) (m .rows) k value .turn .desk)
-  call-under m k value u = call-ways m k value (λ (x : After). Under (x .turn .desk)) (λ o. u) (λ h. absurd (false≢true h))
-      (λ o h. omega (arith, u (is-on m k value o), floor-stays (m .sheet) (m .fates) (take (n m k value) (m .rows)) (m .desk .state) (asked k value)))
+  is-on : (d : Desk) → isOpen d ≡ true → d .on ≡ true
+  is-on d o = and-true (d .on) (isFile mostFiles (d .files)) o .0
 
-  write-late : (m : Memory) (file start action place : ℕ) (value : List ℕ) → Under (m .desk)
-      → calledFor (m .desk) (m .sheet) (m .fates) (m .rows) (code.Call.Write file start action) value .turn .reply ≡ reply.Reply.Written place → low < start
-  write-late m file start action place value u =
-      let k : code.Call = code.Call.Write file start action in
-      call-ways m k value (λ (x : After). x .turn .reply ≡ reply.Reply.Written place → low < start) (λ o h. clash cc) (λ h. clash cc)
-      (λ o h. omega (
-        arith,
-        u (is-on m k value o),
-        above-floor (m .sheet) (m .fates) (take (n m k value) (m .rows)) (m .desk .state) file start action value place (written-is file start action place (X m k value .answer) h),
-      ))
-
-  open-under : (m : Memory) (line : List ℕ) → low ≤ bareFloor (m .sheet) → Under (conversed (m .desk) (m .sheet) (m .fates) (m .rows) command.Command.BareOpen line .turn .desk)
+  open-above : (m : Memory) (line : List ℕ) → low ≤ bareFloor (m .sheet) → Above (conversed (m .desk) (m .sheet) (m .fates) (m .rows) command.Command.BareOpen line .turn .desk)
   unfolding startedFor openedFor
-  open-under m line l h =
+  open-above m line l h =
       let x : Left = openLeaves (m .sheet) (m .fates) (take (rowLength * bareFiles) (m .rows)) (bareFloor (m .sheet)) in
       omega (arith, opened-floor (m .sheet) (m .fates) (take (rowLength * bareFiles) (m .rows)) (bareFloor (m .sheet)) (not-true (isRefused (x .answer)) h))
 
--- ---- an image stays on the sheet
+  call-above : (m : Memory) (k : code.Call) (value : List ℕ) → Above (m .desk) → Above (calledFor (m .desk) (m .sheet) (m .fates) (m .rows) k value .turn .desk)
+  unfolding calledFor acted
+  call-above m k value u =
+      let rows : List ℕ = take (rowLength * m .desk .files) (m .rows) in
+      let x : Left = callLeaves (m .sheet) (m .fates) rows (m .desk .state) (asked k value) in
+      by-test (λ (y : After). Above (y .turn .desk)) (isOpen (m .desk))
+      {x = lending (m .rows) (rowLength * m .desk .files) (actedBy (m .desk) (m .sheet) k x)} {y = replied reply.Reply.Closed (m .desk) (m .sheet) (m .fates) (m .rows)}
+      (λ o. by-test (λ (y : After). Above (y .turn .desk)) (isStruck (m .desk) (x .state)) {x = lost (m .desk) (m .sheet) x} {y = answered (m .desk) k x}
+      (λ e h. absurd (false≢true h)) (λ e h. omega (arith, u (is-on (m .desk) o), floor-stays (m .sheet) (m .fates) rows (m .desk .state) (asked k value)))) (λ o. u)
 
-image-stays : (b : Box) → Reached pageCount bareFiles b → (es : List Event) → AllAllowed pageCount bareFiles es → (p : ℕ) (i : Image) → sealed bareFiles (sheetOf b) p ≡ image i
-    → sealed bareFiles (sheetOf (runs b es)) p ≡ image i
-image-stays b r es al p i e = go (leb p (length (r .log))) refl
-  where
-    lies : (1 ≤ p) × (p ≤ pageCount)
-    lies = page-lies pageCount bareFiles (sheetOf b) p (image i) (r .at .long) (bad-image i) e
+  -- what is stored starts above it
+  late : (m : Left) (k : Call) (q : ℕ) (j : Image) → callOn m k .answer ≡ Stored q → IsPageOf k (image j) → m .state .floor < j .start
+  late m begin q j e h = clash cc
+  late m (write file start action value) q j e h =
+      let z : j .start ≡ start = cc in
+      omega (arith, above-floor (m .sheet) (m .fates) (m .rows) (m .state) file start action value q e)
+  late m (read file time action) q j e h = absurd h
+  late m (test action) q j e h = absurd h
+  late m (decide action c) q j e h = clash cc
+  late m (rebuild file) q j e h = absurd h
 
-    go : (z : Bool) → leb p (length (r .log)) ≡ z → sealed bareFiles (sheetOf (runs b es)) p ≡ image i
-    go true h =
-        let high : p ≤ length (r .log) = leb-true p (length (r .log)) h in
-        stays pageCount bareFiles b r es al p (image i) (lies .0) high (sym (log-page pageCount bareFiles b r p (lies .0) high) ∙ e)
-    go false h = let z : blank ≡ image i = sym (page-above pageCount bareFiles b r p (leb-false p (length (r .log)) h) (lies .1)) ∙ e in clash cc
+  adds-late : (m : Memory) (b : Box) → Met m b → Above (m .desk) → (e : Event) (q : ℕ) (j : Image) → Adds b e q (image j) → low < j .start
+  adds-late m b (met-on o a) u e q j h = omega (arith, u (is-on (m .desk) o), late (leftFor m a) (h .by) q j (some-is (h .stored)) (h .page))
+  adds-late m b (met-off o) u e q j h = not-heard (h .stored)
 
 -- ---- line by line
 
-module _ (p : ℕ) (i : Image) where
-  -- a conversation that has reached a box, with the image on its sheet
-  record Has (m : Memory) : Type 0 where
+module _ (pages : ℕ) (first : List ℕ) (p : ℕ) (i : Image) where
+  -- every image was on the first sheet too, or starts above
+  abbrev Others : Box → Type 0
+  Others b = (q : ℕ) (j : Image) → sealed bareFiles (sheetOf b) q ≡ image j → (sealed bareFiles first q ≡ image j) ⊎ (i .start < j .start)
+
+  -- a conversation that has reached a box with the image on its sheet
+  record Holds (m : Memory) : Type 0 where
     pub box : Box
     pub met : Met m box
     pub rows : AllRows (m .rows)
-    pub reached : Reached pageCount bareFiles box
-    pub here : sealed bareFiles (m .sheet) p ≡ image i
+    pub reached : Reached pages bareFiles box
+    pub here : sealed bareFiles (sheetOf box) p ≡ image i
+    pub others : Others box
 
   keeps : (c : Command) → IsUnnumbered c → Keeps bareFiles c
   keeps command.Command.What h = tt
@@ -131,52 +105,92 @@ module _ (p : ℕ) (i : Image) where
   keeps (command.Command.Cut n) h = tt
   keeps (command.Command.Call k from) h = tt
 
-  line-has : (m : Memory) (line : List ℕ) → IsUnnumbered (parsed line) → Has m → Has (memoryOf (turned m line))
-  line-has m line h x =
-      let es : List Event = eventsOf m (parsed line) line in
-      let al : AllAllowed pageCount bareFiles es = event-allowed bareFiles m (x .rows) (parsed line) line (start-fits line) (keeps (parsed line) h) in
-      let y = line-steps m (x .rows) (x .box) (x .met) line (parsed line) in
-      let there : sealed bareFiles (sheetOf (runs (x .box) es)) p ≡ image i =
-      image-stays (x .box) (x .reached) es al p i (ap (λ s. sealed bareFiles s p) (sym (met-sheet m (x .box) (x .met))) ∙ x .here) in
-      record {
-        box = runs (x .box) es;
-        met = y .next;
-        rows = y .rows;
-        reached = reached-on pageCount bareFiles (x .box) (x .reached) es al;
-        here = ap (λ s. sealed bareFiles s p) (met-sheet (memoryOf (turned m line)) (runs (x .box) es) (y .next)) ∙ there;
-      }
+  -- ---- an event, and a line of one or none
 
-  opened-under : (m : Memory) (line : List ℕ) → Has m → Under (i .start) (conversed (m .desk) (m .sheet) (m .fates) (m .rows) command.Command.BareOpen line .turn .desk)
-  opened-under m line x = open-under (i .start) m line (none-later bareFiles (m .sheet) p i (x .here))
+  module _ (m : Memory) (x : Holds m) where
+    goes-on : (m′ : Memory) (es : List Event) → AllAllowed pages bareFiles es → Met m′ (runs (x .box) es) → AllRows (m′ .rows) → Others (runs (x .box) es) → Holds m′
+    goes-on m′ es al h long o =
+        let l = page-lies-in pages bareFiles (x .box) (x .reached) p (image i) (solid-image i) (x .here) in
+        record {
+          box = runs (x .box) es;
+          met = h;
+          rows = long;
+          reached = reached-on pages bareFiles (x .box) (x .reached) es al;
+          here = stays pages bareFiles (x .box) (x .reached) es al p (image i) (l .low) (l .high) (l .here);
+          others = o;
+        }
 
-  line-under : (m : Memory) (line : List ℕ) (c : Command) → IsUnnumbered c → Has m → Under (i .start) (m .desk)
-      → Under (i .start) (conversed (m .desk) (m .sheet) (m .fates) (m .rows) c line .turn .desk)
-  line-under m line command.Command.What h x u = u
-  line-under m line command.Command.BareOpen h x u = opened-under m line x
-  line-under m line (command.Command.Open files floor) h x u = absurd h
-  line-under m line (command.Command.Cut n) h x u = u
-  line-under m line (command.Command.Call k from) h x u = call-under (i .start) m k (drop from line) u
+    after-event : (e : Event) → Allowed pages bareFiles e → ((q : ℕ) (j : Image) → Adds (x .box) e q (image j) → i .start < j .start) → Others (after (x .box) e)
+    after-event e t f q j h =
+        go (from-event pages bareFiles (x .box) (x .reached) e t q (image j) (solid-image j)
+        (page-lies-in pages bareFiles (after (x .box) e) (reached-next pages bareFiles (x .box) (x .reached) e t) q (image j) (solid-image j) h))
+      where
+        go : Lies (x .reached .log) q (image j) ⊎ Adds (x .box) e q (image j) → (sealed bareFiles first q ≡ image j) ⊎ (i .start < j .start)
+        go (inl l) = x .others q j (lies-page pages bareFiles (x .box) (x .reached) q (image j) l)
+        go (inr a) = inr (f q j a)
 
-  lines-under : (m : Memory) (lines : List (List ℕ)) → AllUnnumbered lines → Has m → Under (i .start) (m .desk) → Under (i .start) (talked m lines .desk)
-  lines-under m [] h x u = u
-  lines-under m (line ∷ lines) h x u =
-      lines-under (memoryOf (turned m line)) lines (h .1) (line-has m line (h .0) x) (line-under m line (parsed line) (h .0) x u)
+    -- what a line leaves
+    module _ (line : List ℕ) where
+      abbrev next : Command → Memory
+      next c = memoryOf (conversed (m .desk) (m .sheet) (m .fates) (m .rows) c line)
+
+      stepped : (c : Command) → AllAllowed pages bareFiles (eventsOf m c line) → Others (runs (x .box) (eventsOf m c line)) → Holds (next c)
+      stepped c al o = let y = line-steps m (x .rows) (x .box) (x .met) line c in goes-on (next c) (eventsOf m c line) al (y .next) (y .rows) o
+
+      allowed : (c : Command) → Fits line c → IsUnnumbered c → AllAllowed pages bareFiles (eventsOf m c line)
+      allowed c f h = event-allowed pages bareFiles m (x .rows) c line f (keeps c h)
+
+      bare-holds : Holds (next command.Command.BareOpen)
+      bare-holds = let al = allowed command.Command.BareOpen tt tt in stepped command.Command.BareOpen al (after-event (openEvent m bareFiles (bareFloor (m .sheet))) (al .0) (λ q j h. absurd (h .whole)))
+
+      bare-above : Above (i .start) (next command.Command.BareOpen .desk)
+      bare-above = open-above (i .start) m line (none-later bareFiles (m .sheet) p i (ap (λ s. sealed bareFiles s p) (met-sheet m (x .box) (x .met)) ∙ x .here))
+
+      line-holds : (c : Command) → Fits line c → IsUnnumbered c → Above (i .start) (m .desk) → Holds (next c)
+      line-holds command.Command.What f h u = stepped command.Command.What tt (x .others)
+      line-holds command.Command.BareOpen f h u = bare-holds
+      line-holds (command.Command.Open files floor) f h u = absurd h
+      line-holds (command.Command.Cut n) f h u = stepped (command.Command.Cut n) tt (x .others)
+      line-holds (command.Command.Call k from) f h u =
+          let c : Command = command.Command.Call k from in
+          let e : Event = callEvent m (asked k (drop from line)) in
+          let al = allowed c f h in
+          stepped c al (after-event e (al .0) (adds-late (i .start) m (x .box) (x .met) u e))
+
+      line-above : (c : Command) → IsUnnumbered c → Above (i .start) (m .desk) → Above (i .start) (next c .desk)
+      line-above command.Command.What h u = u
+      line-above command.Command.BareOpen h u = bare-above
+      line-above (command.Command.Open files floor) h u = absurd h
+      line-above (command.Command.Cut n) h u = u
+      line-above (command.Command.Call k from) h u = call-above (i .start) m k (drop from line) u
+
+  lines-hold : (m : Memory) (lines : List (List ℕ)) → AllLines IsUnnumbered lines → Above (i .start) (m .desk) → Holds m → Holds (talked m lines)
+  lines-hold m [] h u x = x
+  lines-hold m (line ∷ lines) h u x =
+      lines-hold (memoryOf (turned m line)) lines (h .1) (line-above m x line (parsed line) (h .0) u) (line-holds m x line (parsed line) (start-fits line) (h .0) u)
 
 -- ---- a conversation
 
-talked-join : (m : Memory) (xs ys : List (List ℕ)) → talked m (xs ++ ys) ≡ talked (talked m xs) ys
+talked-join : (m : Memory) (xs ys : List (List ℕ)) → talked (talked m xs) ys ≡ talked m (xs ++ ys)
 talked-join m [] ys = refl
 talked-join m (x ∷ xs) ys = talked-join (memoryOf (turned m x)) xs ys
 
-module _ (fates rows : List ℕ) (long : AllRows rows) where
-  pub nothing-backdated : NothingBackdated fates rows
-  nothing-backdated before bare later line file start action from place p i keep b none w h here =
-      let m : Memory = memoryAfter bareFiles fates rows before in
-      let r = from-first bareFiles refl fates rows long before keep in
-      let x : Has p i m = record { box = _; met = r .met; rows = r .rows; reached = reached pageCount bareFiles (runOf bareFiles fates rows before) (record { sized = refl; allowed = r .allowed }); here = here } in
-      let un : IsUnnumbered (parsed bare) = subst IsUnnumbered (sym b) tt in
-      let u : Under (i .start) (turned m bare .turn .desk) = subst (λ c. Under (i .start) (conversed (m .desk) (m .sheet) (m .fates) (m .rows) c bare .turn .desk)) (sym b) (opened-under p i m bare x) in
-      let z : Memory = talked (memoryOf (turned m bare)) later in
-      write-late (i .start) z file start action place (drop from line) (lines-under p i (memoryOf (turned m bare)) later none (line-has p i m bare un x) u)
-      (subst (λ c. conversed (z .desk) (z .sheet) (z .fates) (z .rows) c line .turn .reply ≡ reply.Reply.Written place) w
-      (ap (λ (v : Memory). turned v line .turn .reply) (sym (talked-join (firstMemory fates rows) before (bare ∷ later))) ∙ h))
+module _ (pages : ℕ) (sized : sizes pages pages bareFiles ≡ true) (fates rows : List ℕ) (long : AllRows rows) where
+  pub nothing-backdated : NothingBackdated pages fates rows
+  nothing-backdated before bare later p q i j keep b none here there =
+      let m : Memory = memoryAfter pages bareFiles fates rows before in
+      let r = from-first pages bareFiles sized fates rows long before keep in
+      let b₀ : Box = boxNow pages bareFiles fates rows before in
+      let same : m .sheet ≡ sheetOf b₀ = met-sheet m b₀ (r .met) in
+      let x : Holds pages (m .sheet) p i m = record {
+        box = b₀;
+        met = r .met;
+        rows = r .rows;
+        reached = reached pages bareFiles (runOf pages bareFiles fates rows before) (record { sized = sized; allowed = r .allowed });
+        here = ap (λ s. sealed bareFiles s p) (sym same) ∙ here;
+        others = λ q j h. inl (ap (λ s. sealed bareFiles s q) same ∙ h);
+      } in
+      let y : Holds pages (m .sheet) p i (memoryOf (turned m bare)) = subst (λ c. Holds pages (m .sheet) p i (memoryOf (conversed (m .desk) (m .sheet) (m .fates) (m .rows) c bare))) (sym b) (bare-holds pages (m .sheet) p i m x bare) in
+      let u : Above (i .start) (turned m bare .turn .desk) = subst (λ c. Above (i .start) (conversed (m .desk) (m .sheet) (m .fates) (m .rows) c bare .turn .desk)) (sym b) (bare-above pages (m .sheet) p i m x bare) in
+      let z = lines-hold pages (m .sheet) p i (memoryOf (turned m bare)) later none u y in
+      z .others q j (ap (λ s. sealed bareFiles s q) (sym (met-sheet _ (z .box) (z .met)) ∙ ap (λ (v : Memory). v .sheet) (talked-join (firstMemory pages fates rows) before (bare ∷ later))) ∙ there)

@@ -9,7 +9,7 @@ use lib.Seq.{length-take-le}
 use borrow.Author.Tests.{eq-eqb}
 use Rattle.encoding.proofs.Logic.{by-test}
 use Rattle.page.specs.Layout.{pageSize, mostFiles}
-use Rattle.recovery.specs.World.{isFile}
+use Rattle.recovery.specs.World.{sizes, isFile}
 use Rattle.recovery.specs.Lent.{rowLength, sizesRight}
 use Rattle.recovery.proofs.Sizes.{sizes-right}
 use Rattle.recovery.proofs.Lookups.{is-file}
@@ -23,7 +23,7 @@ use Rattle.desk.specs.Conversation.{bareFiles, bareFloor, spoken, saidTo}
 use Rattle.promises.specs.Runs.{Box, Event, runs, Typed, Allowed, AllAllowed, blankBox}
 use Rattle.promises.proofs.bytes.Mixed.{first-ordered}
 use Rattle.promises.proofs.boxes.BoxRuns.{runs-join}
-use Rattle.program.specs.Program.{Memory, memoryOf, turned, talked, firstMemory, strikes, callEvent, openEvent, eventsOf, eventsIn, Keeps, AllKeep, pageCount, Program}
+use Rattle.program.specs.Program.{Memory, memoryOf, turned, talked, firstMemory, strikes, callEvent, openEvent, eventsOf, eventsIn, Keeps, AllKeep, Program}
 use Rattle.program.proofs.Meets.{Met, met-off, met-sheet, AllRows, line-steps}
 
 -- ---- each event is allowed
@@ -50,21 +50,21 @@ start-fits line = every-line line (Fits line) (record {
   writes = λ file start action from fits inside text. fits;
 })
 
-module _ (files : ℕ) (m : Memory) (s : AllRows (m .rows)) where
-  call-allowed : (k : Call) → Typed k → Allowed pageCount files (callEvent m k)
-  call-allowed k h = by-test (Allowed pageCount files) (strikes m k) (λ e. (h, first-ordered (m .desk .cut))) (λ e. h)
+module _ (pages files : ℕ) (m : Memory) (s : AllRows (m .rows)) where
+  call-allowed : (k : Call) → Typed k → Allowed pages files (callEvent m k)
+  call-allowed k h = by-test (Allowed pages files) (strikes m k) (λ e. (h, first-ordered (m .desk .cut))) (λ e. h)
 
-  open-allowed : (n floor : ℕ) → (isFile mostFiles n ≡ true → n ≡ files) → Allowed pageCount files (openEvent m n floor)
+  open-allowed : (n floor : ℕ) → (isFile mostFiles n ≡ true → n ≡ files) → Allowed pages files (openEvent m n floor)
   open-allowed n floor h = go (isFile mostFiles n) refl
     where
-      go : (z : Bool) → isFile mostFiles n ≡ z → sizesRight (pageSize * pageCount) (length (m .fates)) (length (cond z (take (rowLength * n) (m .rows)) [])) ≡ true
+      go : (z : Bool) → isFile mostFiles n ≡ z → sizesRight (pageSize * pages) (length (m .fates)) (length (cond z (take (rowLength * n) (m .rows)) [])) ≡ true
           → length (cond z (take (rowLength * n) (m .rows)) []) ≡ rowLength * files
       go true e q =
           let f = is-file mostFiles n e in
           length-take-le (rowLength * n) (m .rows) (omega (arith, s)) ∙ ap (λ m. rowLength * m) (h e)
-      go false e q = absurd (omega (arith, sizes-right (pageSize * pageCount) (length (m .fates)) 0 q .some-files))
+      go false e q = absurd (omega (arith, sizes-right (pageSize * pages) (length (m .fates)) 0 q .some-files))
 
-  pub event-allowed : (c : Command) (line : List ℕ) → Fits line c → Keeps files c → AllAllowed pageCount files (eventsOf m c line)
+  pub event-allowed : (c : Command) (line : List ℕ) → Fits line c → Keeps files c → AllAllowed pages files (eventsOf m c line)
   event-allowed command.Command.What line f h = tt
   event-allowed command.Command.BareOpen line f h = (open-allowed bareFiles (bareFloor (m .sheet)) (λ e. h), tt)
   event-allowed (command.Command.Open n floor) line f h = (open-allowed n floor h, tt)
@@ -77,19 +77,19 @@ allowed-join : (n files : ℕ) (es es′ : List Event) → AllAllowed n files es
 allowed-join n files [] es′ h k = k
 allowed-join n files (e ∷ es) es′ h k = (h .0, allowed-join n files es es′ (h .1) k)
 
-pub record Reaches (files : ℕ) (m : Memory) (b : Box) (lines : List (List ℕ)) : Type 0 where
-  pub allowed : AllAllowed pageCount files (eventsIn m lines)
+pub record Reaches (pages files : ℕ) (m : Memory) (b : Box) (lines : List (List ℕ)) : Type 0 where
+  pub allowed : AllAllowed pages files (eventsIn m lines)
   pub met : Met (talked m lines) (runs b (eventsIn m lines))
   pub rows : AllRows (talked m lines .rows)
 
-reaches : (files : ℕ) (m : Memory) (b : Box) → AllRows (m .rows) → Met m b → (lines : List (List ℕ)) → AllKeep files lines → Reaches files m b lines
-reaches files m b s h [] k = record { allowed = tt; met = h; rows = s }
-reaches files m b s h (line ∷ lines) k =
+reaches : (pages files : ℕ) (m : Memory) (b : Box) → AllRows (m .rows) → Met m b → (lines : List (List ℕ)) → AllKeep files lines → Reaches pages files m b lines
+reaches pages files m b s h [] k = record { allowed = tt; met = h; rows = s }
+reaches pages files m b s h (line ∷ lines) k =
     let x = line-steps m s b h line (parsed line) in
     let e = eventsOf m (parsed line) line in
-    let r = reaches files (memoryOf (turned m line)) (runs b e) (x .rows) (x .next) lines (k .1) in
+    let r = reaches pages files (memoryOf (turned m line)) (runs b e) (x .rows) (x .next) lines (k .1) in
     record {
-      allowed = allowed-join pageCount files e (eventsIn (memoryOf (turned m line)) lines) (event-allowed files m s (parsed line) line (start-fits line) (k .0)) (r .allowed);
+      allowed = allowed-join pages files e (eventsIn (memoryOf (turned m line)) lines) (event-allowed pages files m s (parsed line) line (start-fits line) (k .0)) (r .allowed);
       met = subst (Met (talked m (line ∷ lines))) (sym (runs-join b e (eventsIn (memoryOf (turned m line)) lines))) (r .met);
       rows = r .rows;
     }
@@ -98,13 +98,13 @@ said-is : (m : Memory) (line out : List ℕ) → AllRows (m .rows) → saidTo (m
 unfolding saidTo
 said-is m line out s = rw (eq-eqb (length (m .rows)) (rowLength * mostFiles) s)
 
-module _ (files : ℕ) (some : isFile mostFiles files ≡ true) (fates rows : List ℕ) (long : AllRows rows) where
-  pub from-first : (lines : List (List ℕ)) → AllKeep files lines → Reaches files (firstMemory fates rows) (blankBox pageCount) lines
-  from-first lines k = reaches files (firstMemory fates rows) (blankBox pageCount) long (met-off refl) lines k
+module _ (pages files : ℕ) (sized : sizes pages pages files ≡ true) (fates rows : List ℕ) (long : AllRows rows) where
+  pub from-first : (lines : List (List ℕ)) → AllKeep files lines → Reaches pages files (firstMemory pages fates rows) (blankBox pages) lines
+  from-first lines k = reaches pages files (firstMemory pages fates rows) (blankBox pages) long (met-off refl) lines k
 
-  pub program : Program files fates rows
+  pub program : Program pages files fates rows
   program = record {
-    is-run = λ lines k. record { sized = some; allowed = from-first lines k .allowed };
+    is-run = λ lines k. record { sized = sized; allowed = from-first lines k .allowed };
     same-sheet = λ lines k. met-sheet _ _ (from-first lines k .met);
     same-reply = λ lines line k. let r = from-first lines k in line-steps _ (r .rows) _ (r .met) line (parsed line) .reply;
     same-bytes = λ lines line out k. said-is _ line out (from-first lines k .rows);

@@ -10,7 +10,7 @@ use Rattle.page.specs.Layout.{mostFiles}
 use Rattle.page.specs.Answers.{valueIn}
 use Rattle.recovery.specs.Log.{blank, image}
 use Rattle.recovery.specs.Sheet.{pageBytes, sealed}
-use Rattle.recovery.specs.World.{isFile}
+use Rattle.recovery.specs.World.{sizes}
 use Rattle.recovery.specs.Lent.{rowLength}
 use Rattle.recovery.specs.Numbers.{numbersOf}
 use Rattle.recovery.specs.declared.Answer as answers
@@ -33,7 +33,7 @@ use Rattle.promises.proofs.boxes.BoxShown.{box-shows}
 use Rattle.promises.specs.Promises.{IsWhole, WasWritten}
 use Rattle.promises.proofs.answers.Heard.{hears}
 use Rattle.promises.proofs.Proved.{promised}
-use Rattle.program.specs.Program.{Memory, memoryOf, turned, talked, firstMemory, strikes, callEvent, openEvent, eventsOf, eventsIn, inWords, AllKeep, pageCount}
+use Rattle.program.specs.Program.{Memory, memoryOf, turned, talked, firstMemory, strikes, callEvent, openEvent, eventsOf, eventsIn, inWords, AllKeep}
 use Rattle.program.specs.Typing.{WasTyped, textOf, ReadsTyped}
 use Rattle.program.proofs.Meets.{met-sheet, line-steps}
 use Rattle.program.proofs.Proved.{Reaches, from-first}
@@ -150,9 +150,9 @@ module _ (m : Memory) (b : Box) (file time action place start size : ℕ) where
 
 -- ---- so the text was typed
 
-module _ (files : ℕ) (some-files : isFile mostFiles files ≡ true) (fates rows : List ℕ) (long : length rows ≡ rowLength * mostFiles) (lines : List (List ℕ)) (keep : AllKeep files lines) where
+module _ (pages files : ℕ) (sized : sizes pages pages files ≡ true) (fates rows : List ℕ) (long : length rows ≡ rowLength * mostFiles) (lines : List (List ℕ)) (keep : AllKeep files lines) where
   abbrev m₀ : Memory
-  m₀ = firstMemory fates rows
+  m₀ = firstMemory pages fates rows
 
   abbrev m : Memory
   m = talked m₀ lines
@@ -161,13 +161,13 @@ module _ (files : ℕ) (some-files : isFile mostFiles files ≡ true) (fates row
   es = eventsIn m₀ lines
 
   abbrev b : Box
-  b = runs (blankBox pageCount) es
+  b = runs (blankBox pages) es
 
-  r : Reaches files m₀ (blankBox pageCount) lines
-  r = from-first files some-files fates rows long lines keep
+  r : Reaches pages files m₀ (blankBox pages) lines
+  r = from-first pages files sized fates rows long lines keep
 
-  run : Run pageCount files es
-  run = record { sized = some-files; allowed = r .allowed }
+  run : Run pages files es
+  run = record { sized = sized; allowed = r .allowed }
 
   module _ (line : List ℕ) (file time action from place start size : ℕ) where
     abbrev c : Command
@@ -180,19 +180,19 @@ module _ (files : ℕ) (some-files : isFile mostFiles files ≡ true) (fates row
       a : Answered m b file time action place start size
       a = was-answered m b file time action place start size (sym (line-steps m (r .rows) b (r .met) line c .reply) ∙ h)
 
-      written : WasWritten pageCount files es file action place start size
-      written = promised pageCount files .was-written es file time action place start size run (hears b (calls (call.read file time action)) (answers.Answer.Value place start size) (a .answer))
+      written : WasWritten pages files es file action place start size
+      written = promised pages files .was-written es file time action place start size run (hears b (calls (call.read file time action)) (answers.Answer.Value place start size) (a .answer))
 
       sheet-is : x .sheet ≡ sheetOf (after b (calls (call.read file time action)))
       sheet-is = met-sheet (memoryOf x) (runs b (eventsOf m c line)) (line-steps m (r .rows) b (r .met) line c .next) ∙ ap (λ e. sheetOf (after b e)) (a .event)
 
       not-blank : sealed files (sheetOf b) place ≡ blank → ⊥
       not-blank q =
-          let v = box-shows pageCount files b (reached pageCount files es run) file time action place start size (a .answer) in
+          let v = box-shows pages files b (reached pages files es run) file time action place start size (a .answer) in
           let z : image (v .seen) ≡ blank = sym (v .here) ∙ q in clash cc
 
       page-is : pageBytes (x .sheet) place ≡ pageBytes (sheetOf b) place
-      page-is = ap (λ s. pageBytes s place) sheet-is ∙ box-kept pageCount files b (reached pageCount files es run) (calls (call.read file time action) ∷ []) (tt, tt) place not-blank
+      page-is = ap (λ s. pageBytes s place) sheet-is ∙ box-kept pages files b (reached pages files es run) (calls (call.read file time action) ∷ []) (tt, tt) place not-blank
 
       text-is : textOf x ≡ written .value
       text-is = ap (λ y. shown y (x .sheet)) h ∙ ap (λ p. take size (valueIn p)) page-is ∙ written .bytes
@@ -204,9 +204,9 @@ module _ (files : ℕ) (some-files : isFile mostFiles files ≡ true) (fates row
           let w = write-of (o .memory) (o .line) (d .event) file start (written .writer) (written .value) (d .whole) (parsed (o .line)) (o .is) in
           record { before = o .before; line = o .line; rest = o .rest; parts = o .parts; action = written .writer; from = w .from; is = w .is; text-is = w .text ∙ sym text-is }
 
-pub reads-typed : (files : ℕ) → isFile mostFiles files ≡ true → (fates rows : List ℕ) → length rows ≡ rowLength * mostFiles → ReadsTyped files fates rows
-reads-typed files s fates rows long lines line file time action from place start size keep e =
-    let u : Memory = talked (firstMemory fates rows) lines in
+pub reads-typed : (pages files : ℕ) → sizes pages pages files ≡ true → (fates rows : List ℕ) → length rows ≡ rowLength * mostFiles → ReadsTyped pages files fates rows
+reads-typed pages files s fates rows long lines line file time action from place start size keep e =
+    let u : Memory = talked (firstMemory pages fates rows) lines in
     subst (λ c. conversed (u .desk) (u .sheet) (u .fates) (u .rows) c line .turn .reply ≡ reply.Reply.Shown place start size
     → WasTyped lines file start (textOf (conversed (u .desk) (u .sheet) (u .fates) (u .rows) c line))) (sym e)
-    (typed files s fates rows long lines keep line file time action from place start size)
+    (typed pages files s fates rows long lines keep line file time action from place start size)

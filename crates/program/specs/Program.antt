@@ -43,12 +43,9 @@ abbrev pub talked : Memory → List (List ℕ) → Memory
 talked m [] = m
 talked m (line ∷ lines) = talked (memoryOf (turned m line)) lines
 
--- it begins with a blank sheet of 256 pages and no state, whatever the fates and rows hold
-abbrev pub pageCount : ℕ
-pageCount = 256
-
-abbrev pub firstMemory : List ℕ → List ℕ → Memory
-firstMemory fates rows = record { desk = firstDesk; sheet = replicate (pageSize * pageCount) 0; fates = fates; rows = rows }
+-- it begins with a blank sheet, the console's of 256 pages, and no state, whatever the fates and rows hold
+abbrev pub firstMemory : ℕ → List ℕ → List ℕ → Memory
+firstMemory pages fates rows = record { desk = firstDesk; sheet = replicate (pageSize * pages) 0; fates = fates; rows = rows }
 
 -- ---- a line as an event
 
@@ -101,7 +98,12 @@ replyHeard b m (command.Command.Call k from) line =
 
 -- ---- the statements
 
--- the openings keep one file count: one without numbers is for eight, and one that could have rows for that many
+-- each line's command is so
+abbrev pub AllLines : (Command → Type 0) → List (List ℕ) → Type 0
+AllLines is [] = Unit {0}
+AllLines is (line ∷ lines) = is (parsed line) × AllLines is lines
+
+-- the openings keep one file count: a bare one, which is for eight, and every other that could have rows
 abbrev pub Keeps : ℕ → Command → Type 0
 Keeps files command.Command.What = Unit {0}
 Keeps files command.Command.BareOpen = bareFiles ≡ files
@@ -110,23 +112,22 @@ Keeps files (command.Command.Cut n) = Unit {0}
 Keeps files (command.Command.Call k from) = Unit {0}
 
 abbrev pub AllKeep : ℕ → List (List ℕ) → Type 0
-AllKeep files [] = Unit {0}
-AllKeep files (line ∷ lines) = Keeps files (parsed line) × AllKeep files lines
+AllKeep files lines = AllLines (Keeps files) lines
 
-module _ (files : ℕ) (fates rows : List ℕ) where
+module _ (pages files : ℕ) (fates rows : List ℕ) where
   abbrev pub memoryAfter : List (List ℕ) → Memory
-  memoryAfter lines = talked (firstMemory fates rows) lines
+  memoryAfter lines = talked (firstMemory pages fates rows) lines
 
   abbrev pub runOf : List (List ℕ) → List Event
-  runOf lines = eventsIn (firstMemory fates rows) lines
+  runOf lines = eventsIn (firstMemory pages fates rows) lines
 
   -- the box that the conversation's run has reached
   abbrev pub boxNow : List (List ℕ) → Box
-  boxNow lines = boxAfter pageCount files (runOf lines)
+  boxNow lines = boxAfter pages files (runOf lines)
 
   pub record Program : Type 0 where
     -- a conversation is a run
-    pub is-run : (lines : List (List ℕ)) → AllKeep files lines → Run pageCount files (runOf lines)
+    pub is-run : (lines : List (List ℕ)) → AllKeep files lines → Run pages files (runOf lines)
     -- its sheet is the run's sheet
     pub same-sheet : (lines : List (List ℕ)) → AllKeep files lines → memoryAfter lines .sheet ≡ sheetOf (boxNow lines)
     -- the reply to the next line is what the run hears

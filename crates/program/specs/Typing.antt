@@ -25,8 +25,8 @@ pub record WasTyped (lines : List (List ℕ)) (file start : ℕ) (text : List �
 abbrev pub textOf : After → List ℕ
 textOf x = shown (x .turn .reply) (x .sheet)
 
-abbrev pub ReadsTyped : ℕ → List ℕ → List ℕ → Type 0
-ReadsTyped files fates rows = (lines : List (List ℕ)) (line : List ℕ) (file time action from place start size : ℕ) → AllKeep files lines
+abbrev pub ReadsTyped : ℕ → ℕ → List ℕ → List ℕ → Type 0
+ReadsTyped pages files fates rows = (lines : List (List ℕ)) (line : List ℕ) (file time action from place start size : ℕ) → AllKeep files lines
     → parsed line ≡ command.Command.Call (call.Call.Read file time action) from
-    → turned (memoryAfter files fates rows lines) line .turn .reply ≡ reply.Reply.Shown place start size
-    → WasTyped lines file start (textOf (turned (memoryAfter files fates rows lines) line))
+    → turned (memoryAfter pages files fates rows lines) line .turn .reply ≡ reply.Reply.Shown place start size
+    → WasTyped lines file start (textOf (turned (memoryAfter pages files fates rows lines) line))
