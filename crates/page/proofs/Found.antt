@@ -10,7 +10,7 @@ use lib.ListN.{length}
 use types.Run.{OneOf, miss}
 use denote.Enum.Declared.{tagOf}
 use Rattle.encoding.specs.Bytes.{zeros}
-use Rattle.encoding.proofs.Logic.{and-true}
+use Rattle.encoding.proofs.Logic.{and-true, and-both}
 use Rattle.page.specs.declared.Page.{Page}
 use Rattle.page.specs.declared.Unpacked.{Unpacked}
 use Rattle.page.specs.declared.Unpacked.the-variants.{Refused, Blank, Torn, Opening, Image, Outcome, Unfit}
@@ -18,6 +18,7 @@ use Rattle.page.proofs.Unpacked.{the-type}
 use Rattle.page.specs.Layout.{valueSize, pageSize}
 use Rattle.page.specs.Table.{fieldsOf, opening, lowest, highest, meetsRules, isPageOf, fits, torn}
 use Rattle.page.specs.Answers.{inBounds, tested, onImage, isOutcomeOf}
+use Rattle.page.specs.Steps.{hasKind}
 use Rattle.page.proofs.Rules.{Between, between-true, InBounds, in-bounds}
 
 -- the fields of a page of one kind that fits
@@ -141,11 +142,23 @@ off-outcome (Image p) a k = refl
 off-outcome (Outcome p) a k = absurd (miss no-outcome-tags 5 tt k)
 off-outcome Unfit a k = refl
 
+-- ---- the size and the kind
+
+pub kind-size : (s : List ℕ) (kind : ℕ) → hasKind s kind ≡ true → length s ≡ pageSize
+unfolding hasKind
+kind-size s kind h = eqb-true (length s) pageSize (and-true (eqb (length s) pageSize) (eqb (fieldsOf s .kind) kind) h .0)
+
+pub fits-kind : {s : List ℕ} {place files kind : ℕ} {p : Page} → Fits s place files p kind → hasKind s kind ≡ true
+unfolding hasKind
+fits-kind {s} {kind = kind} h =
+    and-both (eqb (length s) pageSize) (eqb (fieldsOf s .kind) kind) (eq-eqb (length s) pageSize (h .bounds .size-is))
+    (eq-eqb (fieldsOf s .kind) kind (ap (λ (x : Page). x .kind) (sym (h .fields-are)) ∙ h .kind-is))
+
 -- ---- an outcome of an action, by its fields
 
 module _ (s : List ℕ) (place files a : ℕ) where
-  -- a part that does not have its size, its kind or its action is none
-  pub no-outcome : (length s ≡ pageSize → fieldsOf s .kind ≡ 3 → fieldsOf s .action ≡ a → ⊥) → false ≡ isOutcomeOf a (tested s place files)
+  -- a part that does not have its kind or its action is none
+  pub no-outcome : (hasKind s 3 ≡ true → fieldsOf s .action ≡ a → ⊥) → false ≡ isOutcomeOf a (tested s place files)
   unfolding isOutcomeOf
   no-outcome h = go (tested s place files) refl
     where
@@ -158,7 +171,7 @@ module _ (s : List ℕ) (place files a : ℕ) where
       go Unfit e = refl
       go (Outcome p) e =
           let f = found s place files (Outcome p) e in
-          sym (ne-eqb (p .action) a (λ z. h (f .bounds .size-is) (ap (λ (x : Page). x .kind) (sym (f .fields-are)) ∙ f .kind-is) (ap (λ (x : Page). x .action) (sym (f .fields-are)) ∙ z)))
+          sym (ne-eqb (p .action) a (λ z. h (fits-kind f) (ap (λ (x : Page). x .action) (sym (f .fields-are)) ∙ z)))
 
   -- an outcome that has its action is
   pub this-outcome : (p : Page) → Outcome p ≡ tested s place files → fieldsOf s .action ≡ a → true ≡ isOutcomeOf a (tested s place files)

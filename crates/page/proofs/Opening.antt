@@ -1,5 +1,5 @@
 -- An opening is known by its place: the check word and all 64 bytes, eight at a time. Assumes nothing.
-use Prim.Native.Nat.{ℕ, zero, suc, _+_, _*_, _/_, _%_, _^_, _≤_, _<_}
+use Prim.Native.Nat.{ℕ, _+_, _*_, _^_, _≤_, _<_}
 use mathlib.Core.Path.{_≡_, refl, sym, ap, subst, _∙_}
 use mathlib.Core.Bool.{Bool, true, _&&_, false≢true}
 use mathlib.Core.List.{List, _++_}
@@ -8,7 +8,7 @@ use borrow.Author.Tests.{eqb-true, eq-eqb}
 use lib.Dec.{eqb}
 use lib.ListN.{length, replicate}
 use lib.Seq.{take-all}
-use Rattle.encoding.specs.Bytes.{AreBytes, part, bytes, zeros, same, check}
+use Rattle.encoding.specs.Bytes.{AreBytes, bytes, zeros, same, check}
 use Rattle.encoding.specs.WordSteps.{few}
 use Rattle.encoding.proofs.Logic.{and-true, and-both, bool-ext}
 use Rattle.encoding.proofs.Numbers.{bytes-join, number-bytes, zeros-are, same-refl, same-true}
@@ -21,7 +21,7 @@ use Rattle.page.specs.Layout.{kindAt, actionAt, startAt, valueAt, placeA
 use Rattle.page.specs.Table.{cell, head, front, packed, field, fieldsOf, valueOf, opening, lowest, highest, between, meetsRules, isPageOf}
 use Rattle.page.specs.Answers.{tested, isOpeningPage}
 use Rattle.page.proofs.Rules.{InBounds}
-use Rattle.page.proofs.RoundTrip.{length-front, packed-tested, ruled}
+use Rattle.page.proofs.RoundTrip.{packed-tested, ruled}
 use Rattle.page.proofs.Quick.{cell-as, on}
 use Rattle.page.proofs.Found.{found, opening-is}
 use Rattle.page.proofs.Obeyed.{opening-rules}

@@ -1,10 +1,9 @@
 -- The quick looks, by an image's kind and one field more, say what the page test says. Assumes nothing.
 use Prim.Native.Nat.{ℕ}
 use mathlib.Core.Path.{_≡_, refl, sym, ap, _∙_}
-use mathlib.Core.Bool.{Bool, true, false, _&&_, false≢true}
+use mathlib.Core.Bool.{Bool, true, false, false≢true}
 use mathlib.Core.List.{List}
-use borrow.Author.Tests.{eqb-true, eq-eqb}
-use Rattle.encoding.proofs.Logic.{and-true, is-false}
+use Rattle.encoding.proofs.Logic.{and-true, and-both, is-false}
 use lib.Dec.{eqb}
 use lib.ListN.{length}
 use Rattle.page.specs.declared.Page.{Page}
@@ -14,14 +13,14 @@ use Rattle.page.specs.declared.Sought as sought
 use Rattle.page.specs.Layout.{pageSize}
 use Rattle.page.specs.Table.{fieldsOf}
 use Rattle.page.specs.Answers.{tested, imageThat, imageOfFile}
-use Rattle.page.specs.Steps.{named}
-use Rattle.page.proofs.Found.{found}
+use Rattle.page.specs.Steps.{hasKind, named}
+use Rattle.page.proofs.Found.{found, kind-size, fits-kind}
 
 -- ---- an image that passes a test
 
 module _ (passes : Page → Bool) (s : List ℕ) (place files : ℕ) where
-  -- a part that does not have its size or its kind, or whose fields do not pass, is none
-  pub no-image : (length s ≡ pageSize → fieldsOf s .kind ≡ 2 → passes (fieldsOf s) ≡ true → ⊥) → sought.Sought.Other ≡ imageThat passes (tested s place files)
+  -- a part that does not have its kind, or whose fields do not pass, is none
+  pub no-image : (hasKind s 2 ≡ true → passes (fieldsOf s) ≡ true → ⊥) → sought.Sought.Other ≡ imageThat passes (tested s place files)
   no-image h = go (tested s place files) refl
     where
       go : (u : Unpacked) → u ≡ tested s place files → sought.Sought.Other ≡ imageThat passes u
@@ -33,7 +32,7 @@ module _ (passes : Page → Bool) (s : List ℕ) (place files : ℕ) where
       go Unfit e = refl
       go (Image p) e =
           let f = found s place files (Image p) e in
-          let other : passes p ≡ false = is-false (passes p) (λ z. h (f .bounds .size-is) (ap (λ (x : Page). x .kind) (sym (f .fields-are)) ∙ f .kind-is) (ap passes (sym (f .fields-are)) ∙ z)) in
+          let other : passes p ≡ false = is-false (passes p) (λ z. h (fits-kind f) (ap passes (sym (f .fields-are)) ∙ z)) in
           rw other
 
   -- one whose fields pass, and that the page test calls an image, is
@@ -55,15 +54,15 @@ module _ (s : List ℕ) (place files file : ℕ) where
   -- a part that is not named so is no image of the file
   pub unnamed : named s file ≡ false → sought.Sought.Other ≡ imageOfFile file (tested s place files)
   unfolding named imageOfFile
-  unnamed h = no-image ofFile s place files (λ size kind f. false≢true (sym (simp (eq-eqb (length s) pageSize size, eq-eqb (fieldsOf s .kind) 2 kind, f) at h)))
+  unnamed h = no-image ofFile s place files (λ k f. false≢true (sym h ∙ and-both (hasKind s 2) (ofFile (fieldsOf s)) k f))
 
   pub named-size : named s file ≡ true → length s ≡ pageSize
   unfolding named
-  named-size h = eqb-true (length s) pageSize (and-true (eqb (length s) pageSize) (eqb (fieldsOf s .kind) 2) (and-true (eqb (length s) pageSize && eqb (fieldsOf s .kind) 2) (ofFile (fieldsOf s)) h .0) .0)
+  named-size h = kind-size s 2 (and-true (hasKind s 2) (ofFile (fieldsOf s)) h .0)
 
   named-file : named s file ≡ true → ofFile (fieldsOf s) ≡ true
   unfolding named
-  named-file h = and-true (eqb (length s) pageSize && eqb (fieldsOf s .kind) 2) (ofFile (fieldsOf s)) h .1
+  named-file h = and-true (hasKind s 2) (ofFile (fieldsOf s)) h .1
 
   -- one that is, and that the page test calls an image, is the file's
   pub named-image : (x : Page) → named s file ≡ true → Image x ≡ tested s place files → sought.Sought.Image x ≡ imageOfFile file (tested s place files)

@@ -12,6 +12,9 @@ unfoldable pub framed : List ℕ → ℕ → Bool
 framed s place =
     eqb (getD s markAt 0) endMark && eqb (field placeAt checkAt s) place && eqb (field spareAt fileAt s) 0 && eqb (getD s spareEndAt 0) 0
 
--- a part of a page's size with the kind of an image and with this file
+-- a part of a page's size with this kind; one with the kind of an image and with this file
+unfoldable pub hasKind : List ℕ → ℕ → Bool
+hasKind s kind = eqb (length s) pageSize && eqb (fieldsOf s .kind) kind
+
 unfoldable pub named : List ℕ → ℕ → Bool
-named s file = eqb (length s) pageSize && eqb (fieldsOf s .kind) 2 && eqb (fieldsOf s .file) file
+named s file = hasKind s 2 && eqb (fieldsOf s .file) file

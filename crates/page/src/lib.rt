@@ -16,7 +16,7 @@ ghost use lib.ListN.{length, take, replicate};
 ghost use Rattle.encoding.specs.Bytes.{bytes, zeros, same, check};
 ghost use Rattle.page.specs.Layout.{valueAt, pageSize, mostPlaces, valueSize};
 ghost use Rattle.page.specs.Table.{head, front, packed, field, fieldsOf, opening, image, outcome, lowest, highest, within, between, used, meetsRules, isPageOf, torn};
-ghost use Rattle.page.specs.Steps.{framed, named};
+ghost use Rattle.page.specs.Steps.{framed, hasKind, named};
 ghost use Rattle.page.specs.Answers.{inBounds, byKind, tested, isBlankPage, isOpeningPage, isOutcomeOf, packs, imageOfFile, imageAbove, valueIn};
 
 // The fields of a page (a log record), kind to start. The 32 bytes of the value stay beside it.
@@ -384,14 +384,21 @@ impl Page {
         Page::is_packed_opening(part, place)
     }
 
-    // Whether the page test finds an outcome of this action, by its kind and action before anything else.
-    pub fn is_outcome_of(part: &[u8], place: u64, files: u64, action: u64) -> bool
-        ensures { λ r. ⌜ r ≡ isOutcomeOf action (tested (now (part .entry)) place files) ⌝ }
+    // A part of a page's size with this kind.
+    fn has_kind(part: &[u8], kind: u64) -> bool
+        ensures { λ r. ⌜ r ≡ hasKind (now (part .entry)) kind ⌝ }
     {
         if part.len() != Page::SIZE {
             return false;
         }
-        if byte_at(part, Page::KIND) != 3 {
+        byte_at(part, Page::KIND) == kind
+    }
+
+    // Whether the page test finds an outcome of this action, by its kind and action before anything else.
+    pub fn is_outcome_of(part: &[u8], place: u64, files: u64, action: u64) -> bool
+        ensures { λ r. ⌜ r ≡ isOutcomeOf action (tested (now (part .entry)) place files) ⌝ }
+    {
+        if !Page::has_kind(part, 3) {
             return false;
         }
         if field(part, Page::ACTION, Page::LINK) != action {
@@ -407,10 +414,7 @@ impl Page {
     pub fn names(part: &[u8], file: u64) -> bool
         ensures { λ r. ⌜ r ≡ named (now (part .entry)) file ⌝ }
     {
-        if part.len() != Page::SIZE {
-            return false;
-        }
-        if byte_at(part, Page::KIND) != 2 {
+        if !Page::has_kind(part, 2) {
             return false;
         }
         field(part, Page::FILE, Page::ACTION) == file
@@ -434,10 +438,7 @@ impl Page {
     pub fn seek_above(part: &[u8], place: u64, files: u64, time: u64) -> Sought
         ensures { λ r. ⌜ r ≡ imageAbove time (tested (now (part .entry)) place files) ⌝ }
     {
-        if part.len() != Page::SIZE {
-            return Sought::Other;
-        }
-        if byte_at(part, Page::KIND) != 2 {
+        if !Page::has_kind(part, 2) {
             return Sought::Other;
         }
         if field(part, Page::START, Page::VALUE) <= time {

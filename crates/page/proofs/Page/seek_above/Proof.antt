@@ -3,14 +3,14 @@ use Rattle.page.specs.Table.{fieldsOf}
 use Rattle.page.specs.Answers.{imageAbove}
 use Rattle.page.specs.declared.Sought.{Sought}
 use Rattle.page.specs.declared.Page.{Page}
-use Rattle.page.proofs.Found.{off-image}
+use Rattle.page.proofs.Found.{kind-size, off-image}
 use Rattle.page.proofs.Seek.{no-image, read-again}
-use Rattle.encoding.proofs.Numbers.{number-byte}
+use Rattle.encoding.proofs.Logic.{refused, passed}
 use Prim.Native.Nat.{ℕ}
 use native.Mathlib.Omega.{arith}
 use lib.Dec.{ltb}
 use denote.Ref.{now}
-use mathlib.Core.Bool.{Bool, cond}
+use mathlib.Core.Bool.{Bool, cond, false≢true}
 use mathlib.Core.Path.{sym, ap, _∙_}
 use borrow.Author.Tests.{ltb-true, lt-ltb}
 use borrow.Author.Needs.{needs}
@@ -20,27 +20,21 @@ use Rattle.page.proofs.Page.seek_above.Tie as tie
 abbrev later : ℕ → Page → Bool
 later time p = ltb time (p .start)
 
+has-kind-requires : tie.Need-has-kind-requires
+has-kind-requires c κs = search needs
+
 returns : tie.Need-returns
 unfolding imageAbove
-returns c = no-image (later _) _ _ _ (λ size kind start. c .if1 .taken size)
+returns c = no-image (later _) _ _ _ (λ kind start. false≢true (sym (refused (c .before .has-kind .ensures) (c .if1 .taken)) ∙ kind))
 
-byte-at-requires : tie.Need-byte-at-requires
-byte-at-requires c κs = search needs
+field-requires : tie.Need-field-requires
+field-requires c κs = omega (arith, kind-size _ 2 (passed (c .before .has-kind .ensures) (c .if1 .left)))
 
 returns-2 : tie.Need-returns-2
 unfolding imageAbove fieldsOf
 returns-2 c =
-    let s = now (c .before .before .before .before .args .part) in
-    no-image (later _) _ _ _ (λ size kind start. c .if2 .taken (c .before .byte-at .ensures .0 ∙ sym (number-byte s 0) ∙ kind))
-
-field-requires : tie.Need-field-requires
-field-requires c κs = search needs
-
-returns-3 : tie.Need-returns-3
-unfolding imageAbove fieldsOf
-returns-3 c =
-    let a = c .before .before .before .before .before .before .args in
-    no-image (later (a .time)) (now (a .part)) _ _ (λ size kind start. omega (arith, c .before .field .ensures, ltb-true (a .time) (fieldsOf (now (a .part)) .start) start))
+    let a = c .before .before .before .before .before .args in
+    no-image (later (a .time)) (now (a .part)) _ _ (λ kind start. omega (arith, c .before .field .ensures, ltb-true (a .time) (fieldsOf (now (a .part)) .start) start))
 
 test-requires : tie.Need-test-requires
 test-requires c κs = search needs
@@ -48,21 +42,21 @@ test-requires c κs = search needs
 enum-told : tie.Need-enum-told
 enum-told c = search needs
 
-returns-4 : tie.Need-returns-4
+returns-3 : tie.Need-returns-3
 unfolding imageAbove
-returns-4 c =
-    let a = c .before .before .before .before .before .before .before .before .args in
+returns-3 c =
+    let a = c .before .before .before .before .before .before .before .args in
     off-image (c .before .test .result) (λ (p : Page). cond (later (a .time) p) (Sought.Image p) Sought.Other) Sought.Other (c .match .keys2)
     ∙ ap (imageAbove (a .time)) (c .before .test .ensures)
 
 fields-requires : tie.Need-fields-requires
-fields-requires c κs = search needs
+fields-requires c κs = let k = c .before .before .before .before .before in kind-size _ 2 (passed (k .before .has-kind .ensures) (k .if1 .left))
 
-returns-5 : tie.Need-returns-5
+returns-4 : tie.Need-returns-4
 unfolding imageAbove fieldsOf
-returns-5 c =
+returns-4 c =
     let t = c .before .before .before in
-    let a = t .before .before .before .before .before .before .before .args in
+    let a = t .before .before .before .before .before .before .args in
     read-again (later (a .time)) (now (a .part)) _ _ _ _ (sym (c .before .enum-told .given .1) ∙ t .test .ensures) (c .fields .ensures)
     (lt-ltb (a .time) (fieldsOf (now (a .part)) .start) (omega (arith, t .before .before .field .ensures)))
 
@@ -70,13 +64,12 @@ pub seek-above-spec : {M : Type 1} → statement M
 seek-above-spec =
     tie.close
     (tie.spec
+    has-kind-requires
     returns
-    byte-at-requires
-    returns-2
     field-requires
-    returns-3
+    returns-2
     test-requires
     enum-told
-    returns-4
+    returns-3
     fields-requires
-    returns-5)
+    returns-4)
