@@ -4,7 +4,7 @@ use crate::histories::{Change, Decision, Fate, Refusal, Session, Sheet, Version}
 
 const LONGEST_LINE: usize = 255;
 const PAGE: u64 = 64;
-pub const BARE_FILES: u64 = 8; // of an opening without numbers
+pub const BARE_FILES: u64 = 8; // of a bare `open`
 
 enum Command {
     BareOpen,
@@ -82,7 +82,7 @@ impl Desk {
         }
     }
 
-    /// The floor of an opening without numbers.
+    /// The floor of a bare `open`.
     pub fn highest_start(&self) -> u64 {
         self.sheet.highest(BARE_FILES).map_or(0, |image| image.start)
     }

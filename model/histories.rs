@@ -1,5 +1,6 @@
 //! The store as documents 01 and 02 tell it, at the level of histories: each file has its versions and at most one token, each action
-//! a fate and the place at which it was decided, and every append uses up one place. There are no bytes here, no rows and no links.
+//! a fate and the place at which it was decided, every image that was stored whole stays, and every append uses up one place. There are no
+//! bytes here, no rows and no links.
 
 use std::collections::BTreeMap;
 
@@ -108,7 +109,7 @@ impl Sheet {
         Ok(Session { files, floor, seen: BTreeMap::new(), seen_token: BTreeMap::new() })
     }
 
-    /// The image with the highest start among those of so many files, if there is any: the floor of an opening without numbers.
+    /// The image with the highest start among those of so many files, if there is any: the floor of a bare `open`.
     pub fn highest(&self, files: u64) -> Option<&Image> {
         self.images.iter().filter(|image| image.file <= files).max_by_key(|image| image.start)
     }

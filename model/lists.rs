@@ -14,7 +14,7 @@ struct Author {
     random: Random,
     desk: Desk,
     files: u64, // of most openings
-    bare: u64,  // of twelve openings, how many have no numbers
+    bare: u64,  // of twelve openings, how many are bare
     cuts: u64,  // one in so many lines
     noise: u64,
     hurries: bool, // to a full sheet

@@ -5,7 +5,8 @@ use crate::histories::{Fate, PAGES};
 use crate::lists::List;
 use std::collections::BTreeMap;
 
-/// Every answer that the program can give, by command, and every refusal that can be reached.
+/// Every answer that the program can give, by command, and every refusal that can be reached; and what else must come: decisions asked
+/// again, what a sheet is like at a bare `open`, and writes about its floor.
 const ANSWERS: &str = "open open,open no 1,open no 2,\
     bare open,bare open of a sheet without an image,bare open no 2,\
     bare open after one for more files,bare open without a state,bare open while a cut waits,\
@@ -28,7 +29,7 @@ struct Before {
     used: u64,
     cut: Option<u64>,
     is_open: bool,
-    highest: u64, // the floor that a bare opening would have
+    highest: u64, // the floor that a bare `open` would have
 }
 
 /// A conversation as it goes on.
@@ -66,7 +67,7 @@ impl Watch {
         more.into_iter().map(str::to_string).chain([kind]).collect()
     }
 
-    /// Which image a bare opening has its floor from, and what else lay about.
+    /// Which image a bare `open` has its floor from, and what else lay about.
     fn opened(&mut self, line: &[u8], before: &Before) -> Vec<&'static str> {
         let earlier = self.files;
         self.is_bare = line == b"open";
@@ -97,7 +98,7 @@ impl Watch {
         ["bare open", by_fate].into_iter().chain(besides).collect()
     }
 
-    /// Which writes tell a bare opening's floor, the file's own end being below it; and which are below the highest start.
+    /// Which writes tell the floor of a bare `open`, the file's own end being below it; and which are below the highest start.
     fn written(&mut self, line: &[u8], answer: &str, before: &Before) -> Vec<&'static str> {
         let words: Vec<u64> = String::from_utf8_lossy(line).split(' ').map(|word| word.parse().unwrap_or(0)).collect();
         let (file, start) = (words[1], words[2]);

@@ -35,7 +35,7 @@ impl Tally {
     }
 }
 
-/// The answers that 01 fixes: the model must give them, and so must the program.
+/// The answers that 01 and 02 fix: the model must give them, and so must the program.
 fn check_points(program: &str, tally: &mut Tally) {
     for point in points::POINTS {
         let list = List { lines: points::lines(point.input), ends_in_newline: true };

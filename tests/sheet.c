@@ -152,20 +152,36 @@ static int inspects_alike(uint64_t (*count)(void), int sheets, int wild) {
     return wild ? lawful > sheets / 20 && lawful < sheets - sheets / 20 && far > sheets / 20 : lawful == sheets;
 }
 
-/* What a sheet has met where its highest start was asked for; several may come at once. */
+/* What there may be where the highest start is asked for; several may come at once. After the first come fates 1 to 3, in this order. */
 enum { NO_IMAGE, UNDECIDED_HIGHEST, COMMITTED_HIGHEST, ABORTED_HIGHEST, NEWEST_LOWER, TORN_HIGHER, NO_OPENING, HIGHER_FILE, SPOILT_HIGHER,
-       PART_HIGHER, NO_FILES, FAR, MET };
-static const char *const met[MET] = {"no sealed image", "the highest undecided", "the highest committed", "the highest aborted",
-                                     "the newest image lower", "a torn image higher", "an image without its opening higher",
-                                     "a higher file's image higher", "a spoilt image higher", "part of an image higher",
-                                     "images, but a count of 0 files or above 256", "a start above 2^56"};
-static int seen_met[MET];
+       PART_HIGHER, NO_FILES, FAR, CASES };
+
+/* How often each must come at least on lawful sheets, on any and on large ones; 0 where it cannot, or comes too seldom to be asked for. */
+enum { LAWFUL, ANY, LARGE };
+static const struct {
+    const char *name;
+    int least[3];
+} each_case[CASES] = {
+    [NO_IMAGE] = {"no sealed image", {5000, 5000, 0}},
+    [UNDECIDED_HIGHEST] = {"the highest undecided", {5000, 5000, 50}},
+    [COMMITTED_HIGHEST] = {"the highest committed", {1000, 1000, 0}},
+    [ABORTED_HIGHEST] = {"the highest aborted", {1000, 1000, 10}},
+    [NEWEST_LOWER] = {"the newest image lower", {2000, 2000, 50}},
+    [TORN_HIGHER] = {"a torn image higher", {500, 500, 0}},
+    [NO_OPENING] = {"an image without its opening higher", {0, 500, 0}},
+    [HIGHER_FILE] = {"a higher file's image higher", {2000, 2000, 50}},
+    [SPOILT_HIGHER] = {"a spoilt image higher", {0, 500, 0}},
+    [PART_HIGHER] = {"part of an image higher", {200, 200, 0}},
+    [NO_FILES] = {"images, but a count of 0 files or above 256", {5000, 5000, 50}},
+    [FAR] = {"a start above 2^56", {100, 100, 0}},
+};
+static int case_counts[CASES];
 
 /* Of a page with an image's kind byte that starts at the highest start or above it, where so many bytes are lent: what it is. */
-static int image_met(uint64_t place, uint64_t size, uint64_t files) {
+static int case_of_image(uint64_t place, uint64_t size, uint64_t files) {
     uint64_t whole = size / PAGE;
     if (place > whole)
-        return place == whole + 1 && size % PAGE > 0 && is_sealed_for(place, files) ? PART_HIGHER : MET;
+        return place == whole + 1 && size % PAGE > 0 && is_sealed_for(place, files) ? PART_HIGHER : CASES;
     if (is_sealed_for(place, files))
         return NO_IMAGE + fate_of(action_of(place), whole);
     if (is_torn(place))
@@ -175,42 +191,42 @@ static int image_met(uint64_t place, uint64_t size, uint64_t files) {
     return plain_fits(page_at(place), place, files) ? NO_OPENING : SPOILT_HIGHER;
 }
 
-static void meet(uint64_t size, uint64_t files, uint64_t highest) {
+static void count_cases(uint64_t size, uint64_t files, uint64_t highest) {
     uint64_t newest = size / PAGE;
     if (files < 1 || files > 256) {
-        seen_met[NO_FILES] += highest_start(newest, FILES) > 0;
+        case_counts[NO_FILES] += highest_start(newest, FILES) > 0;
         return;
     }
     while (newest > 0 && !(page_at(newest)[0] == 2 && is_sealed_for(newest, files)))
         newest--;
-    seen_met[NO_IMAGE] += newest == 0;
-    seen_met[NEWEST_LOWER] += newest > 0 && start_of(newest) < highest;
-    seen_met[FAR] += highest >> 56 > 0;
+    case_counts[NO_IMAGE] += newest == 0;
+    case_counts[NEWEST_LOWER] += newest > 0 && start_of(newest) < highest;
+    case_counts[FAR] += highest >> 56 > 0;
     for (uint64_t p = 1; p <= pages; p++) {
-        int what = page_at(p)[0] == 2 && start_of(p) >= highest ? image_met(p, size, files) : MET;
-        if (what < MET && (start_of(p) > highest || what <= ABORTED_HIGHEST))
-            seen_met[what]++;
+        int what = page_at(p)[0] == 2 && start_of(p) >= highest ? case_of_image(p, size, files) : CASES;
+        if (what < CASES && (start_of(p) > highest || what <= ABORTED_HIGHEST))
+            case_counts[what]++;
     }
 }
 
-static int all_met(int least) {
+static int all_came(int where) {
     int all = 1;
-    for (int i = 0; i < MET; i++)
-        if (seen_met[i] < least)
-            all = (printf("only %d times: %s\n", seen_met[i], met[i]), 0);
+    for (int i = 0; i < CASES; i++)
+        if (case_counts[i] < each_case[i].least[where])
+            all = (printf("only %d times: %s\n", case_counts[i], each_case[i].name), 0);
     return all;
 }
 
-/* For many file counts; of every third sheet some bytes only are lent. All of the above must come so often at least. */
-static int starts_alike(uint64_t (*count)(void), int sheets, int wild, int least) {
+/* For many file counts; of every third sheet some bytes only are lent. */
+static int starts_alike(uint64_t (*count)(void), int sheets, int wild, int where) {
     static const uint64_t counts[] = {0, 1, 2, FILES - 1, FILES, FILES + 1, 8, 256, 257, UINT64_MAX};
-    memset(seen_met, 0, sizeof seen_met);
+    memset(case_counts, 0, sizeof case_counts);
     for (int k = 0; k < sheets; k++) {
         fill_sheet(count(), wild);
         uint64_t size = below(3) ? PAGE * pages : below(PAGE * pages);
         for (size_t i = 0; i < sizeof counts / sizeof *counts; i++) {
             uint64_t highest = highest_start(size / PAGE, counts[i]), got = door_highest_start(sheet, size, counts[i]);
-            meet(size, counts[i], highest);
+            count_cases(size, counts[i], highest);
             if (got != highest) {
                 printf("%llu bytes for %llu files: %llu, expected %llu\n", (unsigned long long)size, (unsigned long long)counts[i],
                        (unsigned long long)got, (unsigned long long)highest);
@@ -218,7 +234,7 @@ static int starts_alike(uint64_t (*count)(void), int sheets, int wild, int least
             }
         }
     }
-    return all_met(least);
+    return all_came(where);
 }
 
 /* Line 1: the lengths. */
@@ -293,14 +309,14 @@ int main(int count, char **words) {
     told("rebuild, any rows and fates", rebuilds_alike(small_count, SHEETS));
     told("inspect, lawful sheets", inspects_alike(small_count, SHEETS, 0));
     told("inspect, any sheets", inspects_alike(small_count, SHEETS, 1));
-    told("highest start, lawful sheets", starts_alike(small_count, SHEETS, 0, 0));
-    told("highest start, any sheets", starts_alike(small_count, SHEETS, 1, SHEETS / 40));
+    told("highest start, lawful sheets", starts_alike(small_count, SHEETS, 0, LAWFUL));
+    told("highest start, any sheets", starts_alike(small_count, SHEETS, 1, ANY));
     told("open, lawful sheets of more than 1,024 pages", opens_alike(large_count, LARGE_SHEETS, 0));
     told("open, any sheets of more than 1,024 pages", opens_alike(large_count, LARGE_SHEETS, 1));
     told("rebuild, on more than 1,024 pages", rebuilds_alike(large_count, LARGE_SHEETS));
     told("inspect, lawful sheets of more than 1,024 pages", inspects_alike(large_count, LARGE_SHEETS, 0));
     told("inspect, any sheets of more than 1,024 pages", inspects_alike(large_count, LARGE_SHEETS, 1));
-    told("highest start, any sheets of more than 1,024 pages", starts_alike(large_count, LARGE_SHEETS, 1, 0));
+    told("highest start, any sheets of more than 1,024 pages", starts_alike(large_count, LARGE_SHEETS, 1, LARGE));
     told("open and inspect, 65,536 pages", longest_is_right());
     printf("%d passed, %d failed\n", passed, failed);
     return failed != 0;

@@ -1,4 +1,4 @@
-// Document 01's points that the command program can show.
+// The points of documents 01 and 02 that the command program can show.
 fn main() {
     terminal::run();
 }
