@@ -77,7 +77,7 @@ module _ (s fates rows : List ℕ) (state : State) (f start a : ℕ) (value : Li
       by-test (λ (x : Left). x .answer ≡ Stored place → state .floor < start) (whole (length s) (length rows))
       {x = lower s (state .end) (call w (write f start a value))} {y = refused 1 0 s fates rows state} (λ e. late-write w f start a value place) (λ e h. clash cc)
 
-  -- and so above every sealed image of a sheet whose highest start is no higher
+  -- and so above every sealed image of a sheet whose highest start is no higher than the floor
   pub not-backdated : (t : List ℕ) (files : ℕ) → highestStartOf t files ≤ state .floor → callLeaves s fates rows state (write f start a value) .answer ≡ Stored place
       → (p : ℕ) (i : Image) → sealed files t p ≡ image i → i .start < start
   not-backdated t files h e p i q = omega (arith, h, above-floor e, none-later files t p i q)

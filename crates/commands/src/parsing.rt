@@ -10,8 +10,8 @@ ghost use Rattle.encoding.specs.Bytes.{same};
 ghost use Rattle.commands.specs.Commands.{words, numberOf, three, isText, alone, withOne, withTwo, withThree, withText, parsed};
 ghost use Rattle.commands.specs.ParseSteps.{spaceAt, numberAt, numbersIn, addDigit};
 
-// What a line asks for: open without numbers, open with the file count and the floor, cut with a number of bytes, or a call and the
-// index at which a write's text begins. For the other calls that is the line's length, so that they are lent no value.
+// What a line asks for: a bare open, open with the file count and the floor, cut with a number of bytes, or a call and the index at which a
+// write's text begins. For the other calls that is the line's length, so that they are lent no value.
 pub enum Command {
     What,
     BareOpen,

@@ -102,7 +102,7 @@ startedFor d s fates rows files floor =
     (lending rows (rowLength * files) (openedFor d s fates (take (rowLength * files) rows) files floor))
     (replied (reply.Reply.No 1 0) (record { on = false; files = d .files; state = closed; cut = d .cut }) s fates rows)
 
--- a bare `open`, without numbers, is for eight files, and its floor is the highest start on the sheet: nothing can be backdated
+-- a bare `open` has no numbers: it is for eight files, and its floor is the highest start on the sheet, so that nothing can be backdated
 abbrev pub bareFiles : ℕ
 bareFiles = 8
 

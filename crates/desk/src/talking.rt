@@ -49,7 +49,7 @@ pub const SHEET: usize = PAGES * Page::SIZE;
 
 pub const ROWS: usize = ROW_LENGTH * (Page::MOST_FILES as usize);
 
-// For so many files `open` is without numbers.
+// How many files a bare `open` is for.
 const BARE_FILES: u64 = 8;
 
 pub(crate) const NO_CUT: u64 = Page::SIZE as u64 + 1;
@@ -131,7 +131,7 @@ fn start(
     open_desk(sheet, fates, &mut rows[0..n], desk, files, floor)
 }
 
-// `open` without numbers: the floor is the highest start on the sheet.
+// A bare `open`: its floor is the highest start on the sheet.
 fn bare_start(sheet: &[u8], fates: &mut [u8], rows: &mut [u64], desk: Desk) -> Turn
     requires { ⌜ length (now rows) ≡ rowLength * mostFiles ⌝ }
     ensures { λ r. ⌜ leftAfter r (now (sheet .entry)) (now (fates .exit)) (now (rows .exit)) ≡ startedFor desk (now (sheet .entry)) (now (fates .entry)) (now (rows .entry)) bareFiles (bareFloor (now (sheet .entry))) ⌝ }

@@ -1,5 +1,5 @@
--- The log: a sheet's pages decoded, the newest first, and what they say of an action and of a file.
--- The place of the newest page is the length of the log.
+-- The log: a sheet's pages decoded, the newest first, and what they say of an action and of a file; and of pages in any order, their
+-- highest start. The place of the newest page is the length of the log.
 use mathlib.Core.List.{List, [], _∷_, head?}
 use mathlib.Core.Bool.{Bool, true, false, cond}
 use mathlib.Core.Option.{Option, some, none}
