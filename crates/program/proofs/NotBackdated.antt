@@ -42,14 +42,25 @@ use Rattle.program.specs.Backdating.{IsUnnumbered, NothingBackdated}
 use Rattle.program.proofs.Meets.{Met, met-on, met-off, leftFor, met-sheet, AllRows, line-steps}
 use Rattle.program.proofs.Proved.{Fits, start-fits, event-allowed, from-first}
 
+is-on : (d : Desk) → isOpen d ≡ true → d .on ≡ true
+is-on d o = and-true (d .on) (isFile mostFiles (d .files)) o .0
+
+-- what a call stores starts above the floor
+late : (m : Left) (k : Call) (q : ℕ) (j : Image) → callOn m k .answer ≡ Stored q → IsPageOf k (image j) → m .state .floor < j .start
+late m begin q j e h = clash cc
+late m (write file start action value) q j e h =
+    let z : j .start ≡ start = cc in
+    omega (arith, above-floor (m .sheet) (m .fates) (m .rows) (m .state) file start action value q e)
+late m (read file time action) q j e h = absurd h
+late m (test action) q j e h = absurd h
+late m (decide action c) q j e h = clash cc
+late m (rebuild file) q j e h = absurd h
+
 -- ---- the floor, while there is a state, is no lower than a time
 
 module _ (low : ℕ) where
   abbrev Above : Desk → Type 0
   Above d = d .on ≡ true → low ≤ d .state .floor
-
-  is-on : (d : Desk) → isOpen d ≡ true → d .on ≡ true
-  is-on d o = and-true (d .on) (isFile mostFiles (d .files)) o .0
 
   open-above : (m : Memory) (line : List ℕ) → low ≤ bareFloor (m .sheet) → Above (conversed (m .desk) (m .sheet) (m .fates) (m .rows) command.Command.BareOpen line .turn .desk)
   unfolding startedFor openedFor
@@ -66,17 +77,6 @@ module _ (low : ℕ) where
       {x = lending (m .rows) (rowLength * m .desk .files) (actedBy (m .desk) (m .sheet) k x)} {y = replied reply.Reply.Closed (m .desk) (m .sheet) (m .fates) (m .rows)}
       (λ o. by-test (λ (y : After). Above (y .turn .desk)) (isStruck (m .desk) (x .state)) {x = lost (m .desk) (m .sheet) x} {y = answered (m .desk) k x}
       (λ e h. absurd (false≢true h)) (λ e h. omega (arith, u (is-on (m .desk) o), floor-stays (m .sheet) (m .fates) rows (m .desk .state) (asked k value)))) (λ o. u)
-
-  -- what is stored starts above it
-  late : (m : Left) (k : Call) (q : ℕ) (j : Image) → callOn m k .answer ≡ Stored q → IsPageOf k (image j) → m .state .floor < j .start
-  late m begin q j e h = clash cc
-  late m (write file start action value) q j e h =
-      let z : j .start ≡ start = cc in
-      omega (arith, above-floor (m .sheet) (m .fates) (m .rows) (m .state) file start action value q e)
-  late m (read file time action) q j e h = absurd h
-  late m (test action) q j e h = absurd h
-  late m (decide action c) q j e h = clash cc
-  late m (rebuild file) q j e h = absurd h
 
   adds-late : (m : Memory) (b : Box) → Met m b → Above (m .desk) → (e : Event) (q : ℕ) (j : Image) → Adds b e q (image j) → low < j .start
   adds-late m b (met-on o a) u e q j h = omega (arith, u (is-on (m .desk) o), late (leftFor m a) (h .by) q j (some-is (h .stored)) (h .page))
