@@ -1,5 +1,5 @@
 -- Every page of a run's sheet that is not torn has an origin: a call that was answered, or cut with its whole page stored.
-use Prim.Native.Nat.{ℕ, suc, _≤_}
+use Prim.Native.Nat.{ℕ, suc}
 use mathlib.Core.Path.{_≡_, refl, sym, ap, _∙_, subst}
 use mathlib.Core.List.{List, [], _∷_, _++_}
 use mathlib.Core.Bool.{Bool, true, false, cond}
@@ -7,11 +7,9 @@ use mathlib.Core.Option.{some}
 use mathlib.Core.Logic.{_⊎_, inl, inr}
 use native.Mathlib.Omega.{arith}
 use lib.ListN.{length}
-use lib.Dec.{leb}
-use borrow.Author.Tests.{eq-eqb, ne-eqb, leb-true, leb-false}
-use Rattle.encoding.proofs.Logic.{clash}
+use borrow.Author.Tests.{eq-eqb, ne-eqb}
 use Rattle.page.specs.Layout.{pageSize, kindAt, markAt}
-use Rattle.recovery.specs.Log.{Image, Entry, blank, torn, bad, opening, image, outcome}
+use Rattle.recovery.specs.Log.{Entry, blank, torn}
 use Rattle.recovery.specs.Sheet.{sealed}
 use Rattle.recovery.specs.declared.Answer.the-variants.{Stored}
 use Rattle.recovery.specs.Lent.{Left}
@@ -24,43 +22,11 @@ use Rattle.promises.proofs.logs.Outcomes.{Lies, lies-cons}
 use Rattle.promises.proofs.worlds.Sim.{Writes, Step, stay, add}
 use Rattle.promises.proofs.bytes.Stored.{bytesOf}
 use Rattle.promises.proofs.bytes.Cuts.{cutLog, partialLog}
+use Rattle.promises.proofs.boxes.BoxPages.{Solid, page-lies-in}
 use Rattle.promises.proofs.boxes.Found.{writes-page}
-use Rattle.promises.proofs.boxes.Boxes.{Reached, agrees, model-says, page-lies, log-page, page-above}
+use Rattle.promises.proofs.boxes.Boxes.{Reached, agrees, model-says}
 use Rattle.promises.proofs.boxes.BoxRuns.{logAfter, reached-next, reached-blank}
 use Rattle.promises.proofs.answers.Heard.{hears}
-
--- ---- a page that is neither blank nor torn nor bad
-
-pub record Solid (g : Entry) : Type 0 where
-  pub not-blank : g ≡ blank → ⊥
-  pub not-torn : g ≡ torn → ⊥
-  pub not-bad : g ≡ bad → ⊥
-
-pub solid-opening : Solid opening
-solid-opening = record { not-blank = λ e. clash cc; not-torn = λ e. clash cc; not-bad = λ e. clash cc }
-
-pub solid-image : (i : Image) → Solid (image i)
-solid-image i = record { not-blank = λ e. clash cc; not-torn = λ e. clash cc; not-bad = λ e. clash cc }
-
-pub solid-outcome : (a : ℕ) (c : Bool) → Solid (outcome a c)
-solid-outcome a c = record { not-blank = λ e. clash cc; not-torn = λ e. clash cc; not-bad = λ e. clash cc }
-
--- ---- the pages of a box are those of its log
-
-module _ (n files : ℕ) (b : Box) (r : Reached n files b) where
-  pub page-lies-in : (p : ℕ) (g : Entry) → Solid g → sealed files (sheetOf b) p ≡ g → Lies (r .log) p g
-  page-lies-in p g s e =
-      let in-sheet = page-lies n files (sheetOf b) p g (r .at .long) (λ q. s .not-bad (sym q)) e in
-      go (in-sheet .0) (in-sheet .1) (leb p (length (r .log))) refl
-    where
-      go : 1 ≤ p → p ≤ n → (c : Bool) → leb p (length (r .log)) ≡ c → Lies (r .log) p g
-      go low high true q =
-          let k : p ≤ length (r .log) = leb-true p (length (r .log)) q in
-          record { low = low; high = k; here = sym (log-page n files b r p low k) ∙ e }
-      go low high false q = absurd (s .not-blank (sym e ∙ page-above n files b r p (leb-false p (length (r .log)) q) high))
-
-  pub lies-page : (p : ℕ) (g : Entry) → Lies (r .log) p g → sealed files (sheetOf b) p ≡ g
-  lies-page p g h = log-page n files b r p (h .low) (h .high) ∙ h .here
 
 -- ---- what an event adds
 

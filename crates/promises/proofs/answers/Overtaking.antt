@@ -21,7 +21,8 @@ use Rattle.promises.proofs.boxes.BoxRuns.{reached-next}
 use Rattle.promises.proofs.boxes.Extends.{stays}
 use Rattle.promises.proofs.boxes.Found.{some-is, not-heard, stored-is, box-found, box-found-cut}
 use Rattle.promises.proofs.boxes.BoxShown.{box-shows}
-use Rattle.promises.proofs.answers.Origins.{solid-image, page-lies-in, lies-page, Adds, from-event}
+use Rattle.promises.proofs.boxes.BoxPages.{solid-image, page-lies-in, lies-page}
+use Rattle.promises.proofs.answers.Origins.{Adds, from-event}
 
 one-call : (e : Event) (c d : Call) → IsWhole c e → IsWhole d e → c ≡ d
 one-call (calls k) c d x y = sym x ∙ y

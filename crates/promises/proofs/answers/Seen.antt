@@ -38,7 +38,8 @@ use Rattle.promises.proofs.boxes.BoxRuns.{reached, answer-is}
 use Rattle.promises.proofs.boxes.Found.{told-fate}
 use Rattle.promises.proofs.boxes.BoxShown.{box-all, box-shows}
 use Rattle.promises.proofs.answers.Heard.{answered, hears}
-use Rattle.promises.proofs.answers.Origins.{Solid, solid-opening, solid-image, solid-outcome, page-lies-in, lies-page, origin, did}
+use Rattle.promises.proofs.boxes.BoxPages.{Solid, solid-opening, solid-image, solid-outcome, page-lies-in, lies-page}
+use Rattle.promises.proofs.answers.Origins.{origin, did}
 
 -- ---- the page that tells a fate
 

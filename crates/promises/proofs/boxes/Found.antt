@@ -117,7 +117,7 @@ module _ (n files : ℕ) where
 
 module _ (n files : ℕ) where
   -- a test of a known action tells its fate, and where its outcome lies
-  tells : (b : Box) (r : Reached n files b) (a : ℕ) → Known (fateOf (r .log) a) → testing (r .model) (r .model .status a) .0 ≡ Told (fateNumber (fateOf (r .log) a)) (outcomeOf (r .log) a)
+  pub tells : (b : Box) (r : Reached n files b) (a : ℕ) → Known (fateOf (r .log) a) → testing (r .model) (r .model .status a) .0 ≡ Told (fateNumber (fateOf (r .log) a)) (outcomeOf (r .log) a)
   tells b r a h = ap (λ z. testing (r .model) z .0) (r .at .says .status a) ∙ go (fateOf (r .log) a) refl h
     where
       go : (x : Fate) → fateOf (r .log) a ≡ x → Known x → testing (r .model) (statusOf x (outcomeOf (r .log) a)) .0 ≡ Told (fateNumber x) (outcomeOf (r .log) a)

@@ -1,5 +1,5 @@
 -- Of a file's images in a log, the effective ones are those that no newer image of the same action overtook.
-use mathlib.Core.Path.{_≡_, refl, sym}
+use mathlib.Core.Path.{_≡_, refl, sym, _∙_, subst}
 use mathlib.Core.List.{List, [], _∷_}
 use mathlib.Core.Bool.{Bool, true, false, cond}
 use mathlib.Core.Option.{some, Option·some-ne-none}
@@ -7,11 +7,12 @@ use Prim.Native.Nat.{ℕ, suc, _≤_, _<_}
 use native.Mathlib.Omega.{arith}
 use lib.ListN.{length}
 use lib.Dec.{eqb}
-use borrow.Author.Tests.{eqb-false, ne-eqb}
-use Rattle.encoding.proofs.Logic.{by-test}
-use Rattle.recovery.specs.Log.{Entry, blank, torn, bad, opening, image, outcome, Fate, unknown, undecided, committed, aborted, Placed, imagesOf, notBy, effective, tokenStep, tokenOf}
+use borrow.Author.Tests.{eqb-true, eqb-false, eq-eqb, ne-eqb}
+use Rattle.encoding.proofs.Logic.{by-test, clash}
+use Rattle.recovery.specs.Log.{Image, Entry, blank, torn, bad, opening, image, outcome, Fate, unknown, undecided, committed, aborted, Placed, imagesOf, notBy, effective, effectiveOf, tokenStep, tokenOf}
 use Rattle.recovery.proofs.Effective.{Each}
-use Rattle.recovery.proofs.Spots.{Spots, image-spots}
+use Rattle.recovery.proofs.Spots.{entryIn, Spot, Spots, image-spots, spots}
+use Rattle.promises.proofs.logs.Outcomes.{Lies}
 use Rattle.promises.proofs.logs.Versions.{Among, first, next}
 
 pub each-among : (P : Placed → Type 0) (x : Placed) (xs : List Placed) → Each P xs → Among x xs → P x
@@ -28,7 +29,7 @@ below-top : (l : List Entry) (f : ℕ) (xs : List Placed) → Spots l f xs → E
 below-top l f [] h = tt
 below-top l f (x ∷ xs) h = (omega (arith, h .0 .high), below-top l f xs (h .1))
 
-pub images-fall : (l : List Entry) (f : ℕ) → Falling (imagesOf l f)
+images-fall : (l : List Entry) (f : ℕ) → Falling (imagesOf l f)
 unfolding imagesOf
 images-fall [] f = tt
 images-fall (blank ∷ l) f = images-fall l f
@@ -62,10 +63,10 @@ notBy-among a x (y ∷ ys) m = go (eqb (y .image .action) a) refl m (notBy-among
 
 -- ---- effective is newest
 
-abbrev pub IsNewest : Placed → List Placed → Type 0
+abbrev IsNewest : Placed → List Placed → Type 0
 IsNewest x xs = (y : Placed) → Among y xs → y .image .action ≡ x .image .action → y .place ≤ x .place
 
-pub newest-effective : (x : Placed) (xs : List Placed) → Falling xs → Among x xs → IsNewest x xs → Among x (effective xs)
+newest-effective : (x : Placed) (xs : List Placed) → Falling xs → Among x xs → IsNewest x xs → Among x (effective xs)
 unfolding effective
 newest-effective x xs h first n = first
 newest-effective x xs h (next {y} {xs = ys} m) n =
@@ -76,7 +77,7 @@ first-or : (x y : Placed) (xs ys : List Placed) → (Among x ys → Among x xs) 
 first-or x y xs ys r first = first
 first-or x y xs ys r (next m) = next (r m)
 
-pub effective-among : (x : Placed) (xs : List Placed) → Among x (effective xs) → Among x xs
+effective-among : (x : Placed) (xs : List Placed) → Among x (effective xs) → Among x xs
 unfolding effective
 effective-among x [] m = elim m [ ]
 effective-among x (y ∷ ys) m = first-or x y ys (notBy (y .image .action) (effective ys)) (λ k. effective-among x ys (notBy-among (y .image .action) x (effective ys) k .1)) m
@@ -88,7 +89,7 @@ newest-or x y z xs ys h n r e first (next k) = omega (arith, each-among (λ u. u
 newest-or x y z xs ys h n r e (next m) first = absurd (n m (sym e))
 newest-or x y z xs ys h n r e (next m) (next k) = r m k
 
-pub effective-newest : (x : Placed) (xs : List Placed) → Falling xs → Among x (effective xs) → IsNewest x xs
+effective-newest : (x : Placed) (xs : List Placed) → Falling xs → Among x (effective xs) → IsNewest x xs
 unfolding effective
 effective-newest x [] h m y k e = elim m [ ]
 effective-newest x (z ∷ zs) h m y k e =
@@ -106,3 +107,45 @@ token-among φ x (y ∷ ys) e = go (φ (y .image .action)) e (token-among φ x y
     go undecided k r = let i : y ≡ x = cc in rw (← i) first
     go committed k r = absurd (Option·some-ne-none _ (sym k))
     go aborted k r = next (r k)
+
+-- ---- of a log: an image that none of its file and action overtook
+
+pub record Effective (l : List Entry) (p : ℕ) (i : Image) : Type 0 where
+  pub here : Lies l p (image i)
+  pub newest : (q : ℕ) (j : Image) → Lies l q (image j) → j .file ≡ i .file → j .action ≡ i .action → q ≤ p
+
+-- an image of a log is among its file's images
+entry-among : (l : List Entry) (p : ℕ) (i : Image) → entryIn l p ≡ image i → Among (record { place = p; image = i }) (imagesOf l (i .file))
+unfolding imagesOf
+entry-among [] p i e = clash cc
+entry-among (g ∷ l) p i e = go (eqb p (suc (length l))) refl e (entry-among l p i)
+  where
+    lift : (g : Entry) → Among (record { place = p; image = i }) (imagesOf l (i .file))
+        → Among (record { place = p; image = i }) (imagesOf (g ∷ l) (i .file))
+    lift blank h = h
+    lift torn h = h
+    lift bad h = h
+    lift opening h = h
+    lift (image j) h = by-test (Among (record { place = p; image = i })) (eqb (j .file) (i .file)) (λ q. next h) (λ q. h)
+    lift (outcome a c) h = h
+
+    go : (b : Bool) → eqb p (suc (length l)) ≡ b → cond b g (entryIn l p) ≡ image i
+        → (entryIn l p ≡ image i → Among (record { place = p; image = i }) (imagesOf l (i .file))) → Among (record { place = p; image = i }) (imagesOf (g ∷ l) (i .file))
+    go true q k r = rw (k, eq-eqb (i .file) (i .file) refl, ← eqb-true p (suc (length l)) q) first
+    go false q k r = lift g (r k)
+
+-- which are its file's effective images, and no others
+pub among-effective : (l : List Entry) (p : ℕ) (i : Image) → Effective l p i → Among (record { place = p; image = i }) (effectiveOf l (i .file))
+among-effective l p i h = newest-effective (record { place = p; image = i }) (imagesOf l (i .file)) (images-fall l (i .file)) (entry-among l p i (h .here .here)) (λ y k e.
+    let z = each-among (Spot l (i .file)) y (imagesOf l (i .file)) (image-spots l (i .file)) k in
+    h .newest (y .place) (y .image) (record { low = z .low; high = z .high; here = z .here }) (z .mine) e)
+
+pub effective-at : (l : List Entry) (f : ℕ) (x : Placed) → Among x (effectiveOf l f) → Effective l (x .place) (x .image)
+effective-at l f x h =
+    let z = each-among (Spot l f) x (effectiveOf l f) (spots l f) h in
+    record {
+      here = record { low = z .low; high = z .high; here = z .here };
+      newest = λ q j b g a.
+          effective-newest x (imagesOf l f) (images-fall l f) h (record { place = q; image = j })
+          (subst (λ k. Among (record { place = q; image = j }) (imagesOf l k)) (g ∙ z .mine) (entry-among l q j (b .here))) a;
+    }

@@ -8,52 +8,50 @@ use native.Mathlib.Omega.{arith}
 use lib.ListN.{length}
 use Rattle.encoding.proofs.Logic.{clash}
 use Rattle.recovery.specs.Log.{Image, Entry, image, undecided, committed, Placed, fateOf, effectiveOf}
-use Rattle.recovery.specs.World.{World, fateAt}
 use Rattle.recovery.specs.declared.Answer.the-variants.{Value, Nothing}
 use Rattle.recovery.proofs.LogFates.{undecided-known}
 use Rattle.inspection.specs.Lawful.{versions, token}
 use Rattle.calls.specs.Walk.{nothing}
-use Rattle.calls.specs.Calls.{read, versionAnswer, call}
+use Rattle.calls.specs.Calls.{read, versionAnswer}
 use Rattle.recovery.proofs.Spots.{Spot, spots}
-use Rattle.promises.proofs.logs.Logs.{known-place}
+use Rattle.promises.proofs.logs.Logs.{Lawful, known-place}
 use Rattle.promises.proofs.logs.Chains.{Ordered, versions-ordered, chain, token-live}
 use Rattle.promises.proofs.logs.Versions as found
 use Rattle.promises.proofs.logs.Versions.{version, Among, among-versions, versions-among, newest, Shows, highest, all-later}
-use Rattle.promises.proofs.logs.Newest.{each-among, token-among}
+use Rattle.promises.proofs.logs.Newest.{each-among, token-among, Effective, among-effective, effective-at}
 use Rattle.promises.proofs.logs.Histories.{latest-is}
 use Rattle.promises.specs.Model.{Version, Model, Reply, latest, shows, refuses, modelCall}
 use Rattle.promises.specs.FromLog.{versionOf, versionIn}
 use Rattle.promises.proofs.worlds.ModelCalls.{reads}
-use Rattle.promises.proofs.worlds.Sim.{Sim, fate-eq}
-use Rattle.promises.proofs.worlds.SimCalls.{sim-call}
-use Rattle.promises.proofs.worlds.Shown.{token-later, Effective, among-at, effective-at}
+use Rattle.promises.proofs.worlds.LogSays.{Says}
+use Rattle.promises.proofs.worlds.Shown.{token-later}
 
-pub data Whose (w : World) (a : ℕ) (i : Image) : Type 0 where
-  shared : fateAt w (i .action) ≡ committed → Whose w a i
-  own : 1 ≤ a → i .action ≡ a → Whose w a i
+pub data Whose (l : List Entry) (a : ℕ) (i : Image) : Type 0 where
+  shared : fateOf l (i .action) ≡ committed → Whose l a i
+  own : 1 ≤ a → i .action ≡ a → Whose l a i
 
 -- no version of a file that starts by a time starts after s
-abbrev pub Latest : World → ℕ → ℕ → ℕ → Type 0
-Latest w f t s = (q : ℕ) (i : Image) → Effective w q i → i .file ≡ f → fateAt w (i .action) ≡ committed → i .start ≤ t → i .start ≤ s
+abbrev pub Latest : List Entry → ℕ → ℕ → ℕ → Type 0
+Latest l f t s = (q : ℕ) (i : Image) → Effective l q i → i .file ≡ f → fateOf l (i .action) ≡ committed → i .start ≤ t → i .start ≤ s
 
-abbrev pub AllLater : World → ℕ → ℕ → Type 0
-AllLater w f t = (q : ℕ) (i : Image) → Effective w q i → i .file ≡ f → fateAt w (i .action) ≡ committed → t < i .start
+abbrev pub AllLater : List Entry → ℕ → ℕ → Type 0
+AllLater l f t = (q : ℕ) (i : Image) → Effective l q i → i .file ≡ f → fateOf l (i .action) ≡ committed → t < i .start
 
-pub record Visible (w : World) (f t a p s n : ℕ) : Type 0 where
+pub record Visible (l : List Entry) (f t a p s n : ℕ) : Type 0 where
   pub seen : Image
-  pub effective : Effective w p seen
+  pub effective : Effective l p seen
   pub file : seen .file ≡ f
   pub start : seen .start ≡ s
   pub len : length (seen .value) ≡ n
   pub inTime : s ≤ t
-  pub whose : Whose w a seen
-  pub latest : Latest w f t s
+  pub whose : Whose l a seen
+  pub latest : Latest l f t s
 
-module _ (w : World) (l : List Entry) (m : Model) (s : Sim w l m) (f t a : ℕ) where
+module _ (l : List Entry) (m : Model) (w : Lawful l) (s : Says l m) (f t a : ℕ) where
   -- what a result says, if it is a value and if it is none
   record Sees (r : Reply) : Type 0 where
-    pub value : (p st n : ℕ) → r .0 ≡ Value p st n → Visible w f t a p st n
-    pub nothing : r .0 ≡ Nothing → AllLater w f t
+    pub value : (p st n : ℕ) → r .0 ≡ Value p st n → Visible l f t a p st n
+    pub nothing : r .0 ≡ Nothing → AllLater l f t
 
   refused : (x y : ℕ) → Sees (refuses x y m)
   refused x y = record {
@@ -61,34 +59,33 @@ module _ (w : World) (l : List Entry) (m : Model) (s : Sim w l m) (f t a : ℕ) 
     nothing = λ e. clash cc;
   }
 
-  -- a version of the file, in the world and in the log
-  among : (q : ℕ) (i : Image) → Effective w q i → i .file ≡ f → Among (record { place = q; image = i }) (effectiveOf l f)
-  among q i e g = subst (λ (x : ℕ). Among (record { place = q; image = i }) (effectiveOf l x)) g (among-at w l m s q i e)
+  among : (q : ℕ) (i : Image) → Effective l q i → i .file ≡ f → Among (record { place = q; image = i }) (effectiveOf l f)
+  among q i e g = subst (λ (x : ℕ). Among (record { place = q; image = i }) (effectiveOf l x)) g (among-effective l q i e)
 
   version-among : (y : Placed) → Among y (effectiveOf l f) → fateOf l (y .image .action) ≡ committed → Among y (versions l f)
   version-among y i c = among-versions (fateOf l) y (effectiveOf l f) i c
 
   ordered : Ordered (versions l f)
-  ordered = versions-ordered (fateOf l) (effectiveOf l f) (chain l f (s .lawful))
+  ordered = versions-ordered (fateOf l) (effectiveOf l f) (chain l f w)
 
   -- the newest version by the time
   abbrev Newest : ℕ → Type 0
   Newest st = (y : Placed) → Among y (effectiveOf l f) → fateOf l (y .image .action) ≡ committed → y .image .start ≤ t → y .image .start ≤ st
 
-  make : (x : Placed) → Among x (effectiveOf l f) → x .image .start ≤ t → Whose w a (x .image) → Newest (x .image .start) → (r : Model) → Sees (versionAnswer x, r)
+  make : (x : Placed) → Among x (effectiveOf l f) → x .image .start ≤ t → Whose l a (x .image) → Newest (x .image .start) → (r : Model) → Sees (versionAnswer x, r)
   make x y k o h r = record {
     value = λ p st n e.
         let i : x .place ≡ p = cc in
         let j : x .image .start ≡ st = cc in
         record {
           seen = x .image;
-          effective = rw i at (effective-at w l m s f x y);
+          effective = rw i at (effective-at l f x y);
           file = each-among (Spot l f) x (effectiveOf l f) (spots l f) y .mine;
           start = j;
           len = cc;
           inTime = rw j at k;
           whose = o;
-          latest = λ q v d g c u. rw j at (h (record { place = q; image = v }) (among q v d g) (sym (fate-eq w l m s (v .action)) ∙ c) u);
+          latest = λ q v d g c u. rw j at (h (record { place = q; image = v }) (among q v d g) c u);
         };
     nothing = λ e. clash cc;
   }
@@ -98,7 +95,7 @@ module _ (w : World) (l : List Entry) (m : Model) (s : Sim w l m) (f t a : ℕ) 
   sees-versions none q r = record {
     value = λ p st n e. clash cc;
     nothing = λ e o v d g c.
-        all-later t (record { place = o; image = v }) (versions l f) (version-among (record { place = o; image = v }) (among o v d g) (sym (fate-eq w l m s (v .action)) ∙ c)) q;
+        all-later t (record { place = o; image = v }) (versions l f) (version-among (record { place = o; image = v }) (among o v d g) c) q;
   }
   sees-versions (some x) q r = go
     where
@@ -112,7 +109,7 @@ module _ (w : World) (l : List Entry) (m : Model) (s : Sim w l m) (f t a : ℕ) 
       newest-in y i c u = highest t x y (versions l f) ordered (version-among y i c) u q
 
       go : Sees (versionAnswer x, r)
-      go = make x (o .1) (k .inTime) (shared (fate-eq w l m s (x .image .action) ∙ o .0)) newest-in r
+      go = make x (o .1) (k .inTime) (shared (o .0)) newest-in r
 
   -- and its own
   sees-own : (x : Placed) → token l f ≡ some x → x .image .start ≤ t → x .image .action ≡ a → (r : Model) → Sees (versionAnswer x, r)
@@ -121,15 +118,15 @@ module _ (w : World) (l : List Entry) (m : Model) (s : Sim w l m) (f t a : ℕ) 
       live : fateOf l (x .image .action) ≡ undecided
       live = token-live (fateOf l) (effectiveOf l f) x i
 
-      mine : Whose w a (x .image)
-      mine = own (rw j at (known-place l (x .image .action) (s .lawful) (undecided-known live) .0)) j
+      mine : Whose l a (x .image)
+      mine = own (rw j at (known-place l (x .image .action) w (undecided-known live) .0)) j
 
       newest-in : Newest (x .image .start)
       newest-in y n c u =
-          omega (arith, newest y (versions l f) ordered (version-among y n c), token-later (fateOf l) (effectiveOf l f) x (chain l f (s .lawful)) i)
+          omega (arith, newest y (versions l f) ordered (version-among y n c), token-later (fateOf l) (effectiveOf l f) x (chain l f w) i)
 
   in-history : (r : Model) → Sees (shows (latest t (m .object f .history)), r)
-  in-history r = subst (λ z. Sees (shows z, r)) (sym (ap (latest t) (s .says .history f) ∙ latest-is t (versions l f))) (sees-versions (version l f t) refl r)
+  in-history r = subst (λ z. Sees (shows z, r)) (sym (ap (latest t) (s .history f) ∙ latest-is t (versions l f))) (sees-versions (version l f t) refl r)
 
   -- the token, as the log has it
   own-token : (z : Option Placed) → token l f ≡ z → (x : Version) → versionIn z ≡ some x → x .start ≤ t → x .action ≡ a → (r : Model) → Sees (shows (some x), r)
@@ -139,10 +136,10 @@ module _ (w : World) (l : List Entry) (m : Model) (s : Sim w l m) (f t a : ℕ) 
       subst (λ v. Sees (shows (some v), r)) q (sees-own y i (rw (← q) at j) (rw (← q) at k) r)
 
   sees-read : Sees (modelCall m (read f t a))
-  sees-read = reads Sees m refused f t a (in-history _) (λ x e j k. own-token (token l f) refl x (sym (s .says .token f) ∙ e) j k _)
+  sees-read = reads Sees m refused f t a (in-history _) (λ x e j k. own-token (token l f) refl x (sym (s .token f) ∙ e) j k _)
 
-  pub read-shows : (p st n : ℕ) → call w (read f t a) .0 ≡ Value p st n → Visible w f t a p st n
-  read-shows p st n e = sees-read .value p st n (sym (sim-call w l m s (read f t a) .answer) ∙ e)
+  pub read-shows : (p st n : ℕ) → modelCall m (read f t a) .0 ≡ Value p st n → Visible l f t a p st n
+  read-shows p st n e = sees-read .value p st n e
 
-  pub read-none : call w (read f t a) .0 ≡ Nothing → AllLater w f t
-  read-none e = sees-read .nothing (sym (sim-call w l m s (read f t a) .answer) ∙ e)
+  pub read-none : modelCall m (read f t a) .0 ≡ Nothing → AllLater l f t
+  read-none e = sees-read .nothing e
