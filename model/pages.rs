@@ -215,15 +215,16 @@ impl Trial {
     fn misfit(&mut self, log: &Log, mut fields: Fields, place: u64) -> Fields {
         let other = self.random.below(place);
         let history = log.files.get(&fields.numbers[2]).cloned().unwrap_or_default();
-        let undecided = log.decided.iter().rev().find(|(_, is_decided)| !**is_decided).map_or(other, |(action, _)| *action);
-        match (fields.numbers[0], self.random.below(7)) {
+        let own = fields.numbers[3];
+        let mut others = log.decided.iter().rev().filter(|(action, is_decided)| !**is_decided && **action != own);
+        match (fields.numbers[0], self.random.below(8)) {
             (1, _) => fields.numbers = [3, 1, 0, other, 0, 0],
             (2, 0) => fields.numbers[5] -= 1,
             (2, 1) => fields.numbers[4] = other,
             (2, 2) => fields.numbers[2] = 1,
             (2, 3) => fields.numbers[4] = history.token.map_or(other, |(_, place, _)| place),
-            (2, 4) => fields.numbers[5] = history.version.1.max(1),
-            (2, 5) => fields.numbers[3] = undecided,
+            (2, 4 | 5) => fields.numbers[5] = history.version.1.max(1),
+            (2, 6) => fields.numbers[3] = others.next().map_or(other, |(action, _)| *action),
             _ => fields.numbers[3] = other,
         }
         fields
@@ -235,7 +236,8 @@ impl Trial {
         let mut bytes = Vec::new();
         for place in 1..=used {
             let mut fields = self.next_page(&log, place, files);
-            if wild > 0 && self.random.once_in(wild) {
+            let has_token = log.files.get(&fields.numbers[2]).is_some_and(|history| history.token.is_some());
+            if wild > 0 && self.random.once_in(if has_token { wild / 8 + 1 } else { wild }) {
                 fields = self.misfit(&log, fields, place);
             }
             let mut page = sheet::written(&fields, place);
@@ -347,7 +349,7 @@ fn main() {
     let often = [t.lawful, t.unlawful, t.refused].iter().all(|n| *n > pages / 200);
     let counts = format!("{} lawful, {} not, {} refused", t.lawful, t.unlawful, t.refused);
     tell(format!("{} sheets inspected: {}", pages / 10, counts), alike && often);
-    let often = t.again.iter().all(|n| *n > pages / 2000);
+    let often = t.again.iter().all(|n| *n > pages / 4000);
     let counts: Vec<String> = AGAIN.iter().zip(&t.again).map(|(what, n)| format!("{} {}", n, what)).collect();
     tell(format!("where files have tokens: {}", counts.join(", ")), often);
     tell("sheets of up to 65,537 pages inspected".to_string(), t.long_sheets());
