@@ -8,8 +8,8 @@ use mathlib.Core.Option.{Option, some, none}
 use native.Mathlib.Omega.{arith}
 use lib.ListN.{length, length-append, length-replicate}
 use lib.Dec.{eqb, leb, ltb}
-use borrow.Author.Tests.{leb-true}
-use Rattle.encoding.proofs.Logic.{by-test}
+use borrow.Author.Tests.{leb-true, ltb-true}
+use Rattle.encoding.proofs.Logic.{and-true, by-test}
 use Rattle.page.specs.Layout.{valueSize}
 use Rattle.recovery.specs.Places.{put}
 use Rattle.recovery.specs.Log.{Image, Entry, opening, image, outcome, verdict}
@@ -21,14 +21,46 @@ use Rattle.recovery.specs.World.{World, Result, refuse, entryAt, isBlank, withR
 use Rattle.calls.specs.Walk.{Walk, met, nothing, lost}
 use Rattle.calls.specs.Lines.{lines, among}
 use Rattle.calls.specs.Leaves.{padded, valueAt}
-use Rattle.calls.specs.Calls.{Call, begin, write, read, test, decide, rebuild, forFile, forAction, ifUndecided, forUndecided, hasAction, isDecided, hasRoom, append, store, onBegin, onWrite, onRead, onToken, onVersions, answerWalk, actionOf, versionAnswer, readCurrent, readToken, reaches, walkFrom, imageOf, settled, eachRow, onDecide, isDecidedAs, unlessDecided, on, call}
+use Rattle.calls.specs.Calls.{Call, begin, write, read, test, decide, rebuild, forFile, forAction, ifUndecided, forUndecided, hasAction, isDecided, hasRoom, append, store, onBegin, isFreeFor, written, onWrite, onRead, onToken, onVersions, answerWalk, actionOf, versionAnswer, readCurrent, readToken, reaches, walkFrom, imageOf, settled, eachRow, onDecide, isDecidedAs, unlessDecided, on, call}
+
+-- the file that a call asks for, 0 if it asks for none
+unfoldable pub fileOf : Call → ℕ
+fileOf begin = 0
+fileOf (write f start a v) = f
+fileOf (read f time a) = f
+fileOf (test a) = 0
+fileOf (decide a c) = 0
+fileOf (rebuild f) = f
+
+-- what a call that is not refused has passed: a write starts above the floor
+abbrev pub Passed : Call → World → Type 0
+Passed begin w = Unit {0}
+Passed (write f start a v) w = w .floor < start
+Passed (read f time a) w = Unit {0}
+Passed (test a) w = Unit {0}
+Passed (decide a c) w = Unit {0}
+Passed (rebuild f) w = Unit {0}
+
+-- the rows that a call leaves which appends a page
+abbrev pub RowsLeft : Call → World → List Row → Type 0
+RowsLeft begin w rows = rows ≡ w .rows
+RowsLeft (write f start a v) w rows = (r : Row) × (rows ≡ put (w .rows) f r)
+RowsLeft (read f time a) w rows = ⊥
+RowsLeft (test a) w rows = ⊥
+RowsLeft (decide a c) w rows = rows ≡ eachRow (settled w a c) 0 (w .rows)
+RowsLeft (rebuild f) w rows = ⊥
+
+pub record Grows (asked : Call) (w : World) (g : Entry) (rows : List Row) : Type 0 where
+  pub room : w .end < length (w .sheet)
+  pub long : length (valueAt g) ≡ valueSize
+  pub left : RowsLeft asked w rows
 
 -- the four ways of a call, from one world
 pub record Ways (P : Result → Type 0) (asked : Call) (w : World) : Type 0 where
   pub refusing : (n p : ℕ) → among (lines asked) n ≡ true → P (refuse n p w)
-  pub answering : (a : Answer) → isRefused a ≡ false → P (a, w)
-  pub changing : (a : Answer) (f : ℕ) (r : Row) → isRefused a ≡ false → P (a, withRow w f r)
-  pub growing : (g : Entry) (fates : List ℕ) (rows : List Row) (n : ℕ) → w .end < length (w .sheet) → length (valueAt g) ≡ valueSize → P (Stored (suc (w .end)), append w g fates rows n)
+  pub answering : (a : Answer) → isRefused a ≡ false → Passed asked w → P (a, w)
+  pub changing : (a : Answer) (r : Row) → isRefused a ≡ false → Passed asked w → P (a, withRow w (fileOf asked) r)
+  pub growing : (g : Entry) (fates : List ℕ) (rows : List Row) (n : ℕ) → Grows asked w g rows → Passed asked w → P (Stored (suc (w .end)), append w g fates rows n)
 
 module _ (P : Result → Type 0) where
   either : (b : Bool) (x y : Result) → P x → P y → P (cond b x y)
@@ -40,13 +72,13 @@ module _ (P : Result → Type 0) where
     Has n = among (lines asked) n ≡ true
 
     -- lines 11 and 12
-    stores : Has 11 → Has 12 → (m : ℕ) → 1 ≤ m → (g : Entry) (fates : List ℕ) (rows : List Row) (n : ℕ) → length (valueAt g) ≡ valueSize
+    stores : Has 11 → Has 12 → (m : ℕ) → 1 ≤ m → (g : Entry) (fates : List ℕ) (rows : List Row) (n : ℕ) → length (valueAt g) ≡ valueSize → RowsLeft asked w rows → Passed asked w
         → P (cond (hasRoom w m) (store w g fates rows n) (refuse 11 0 w))
-    stores l11 l12 m l g fates rows n v =
+    stores l11 l12 m l g fates rows n v k q =
         by-test P (hasRoom w m) {x = store w g fates rows n} {y = refuse 11 0 w} (λ e.
         let room : m ≤ length (w .sheet) - w .end = leb-true m (length (w .sheet) - w .end) e in
         either (isBlank (entryAt w (suc (w .end)))) (Stored (suc (w .end)), append w g fates rows n) (refuse 12 0 w)
-        (h .growing g fates rows n (omega arith) v) (h .refusing 12 0 l12)) (λ e. h .refusing 11 0 l11)
+        (h .growing g fates rows n (record { room = omega arith; long = v; left = k }) q) (h .refusing 12 0 l12)) (λ e. h .refusing 11 0 l11)
 
     -- line 7
     holds : Has 7 → (f : ℕ) (r : Row) (k : Result) → P k → P (cond (rowHolds w f r) k (refuse 7 0 w))
@@ -70,36 +102,38 @@ module _ (P : Result → Type 0) where
     begins : Ways P begin w → P (onBegin w)
     begins h =
         stores begin w h refl refl (w .undecided + 2) (omega arith) opening (put (w .fates) (suc (w .end)) 1) (w .rows) (suc (w .undecided))
-        (length-replicate {A = ℕ} valueSize 0)
+        (length-replicate {A = ℕ} valueSize 0) refl tt
 
     decides : (a : ℕ) (c : Bool) → Ways P (decide a c) w → P (onDecide w a c)
     decides a c h =
         stores (decide a c) w h refl refl 1 (omega arith) (outcome a c) (put (w .fates) a (fateNumber (verdict c))) (eachRow (settled w a c) 0 (w .rows))
-        (pred (w .undecided)) (length-replicate {A = ℕ} valueSize 0)
+        (pred (w .undecided)) (length-replicate {A = ℕ} valueSize 0) refl tt
 
     writes : (f start a : ℕ) (v : List ℕ) (r : Row) → Ways P (write f start a v) w → length v ≤ valueSize → P (onWrite w f start a v r)
     writes f start a v r h short =
         let g : Entry = image (record { file = f; action = a; link = r .current; start = start; value = v }) in
-        let rows : List Row = put (w .rows) f (record { mark = 1; current = r .current; currentend = r .currentend; token = suc (w .end); tokenend = start }) in
+        let rows : List Row = put (w .rows) f (written r (suc (w .end)) start) in
         let room : Result = cond (hasRoom w (w .undecided + 1)) (store w g (w .fates) rows (w .undecided)) (refuse 11 0 w) in
         let long : length (padded v) ≡ valueSize = simp (length-append, length-replicate) (omega arith) in
         let late : Bool = ltb (r .currentend) start && ltb (w .floor) start in
         let timely : Result = cond late room (refuse 10 0 w) in
         let other : ℕ = actionOf (imageOf (entryAt w (r .token))) in
-        holds (write f start a v) w h refl f r (cond (eqb (r .token) 0) timely (refuse 8 other w)) (either (eqb (r .token) 0) timely (refuse 8 other w)
-        (either late room (refuse 10 0 w) (stores (write f start a v) w h refl refl (w .undecided + 1) (omega arith) g (w .fates) rows (w .undecided) long)
-        (h .refusing 10 0 refl)) (h .refusing 8 other refl))
+        holds (write f start a v) w h refl f r (cond (isFreeFor w a r) timely (refuse 8 other w)) (either (isFreeFor w a r) timely (refuse 8 other w)
+        (by-test P late {x = room} {y = refuse 10 0 w} (λ e.
+        stores (write f start a v) w h refl refl (w .undecided + 1) (omega arith) g (w .fates) rows (w .undecided) long (written r (suc (w .end)) start, refl)
+        (ltb-true (w .floor) start (and-true (ltb (r .currentend) start) (ltb (w .floor) start) e .1)))
+        (λ e. h .refusing 10 0 refl)) (h .refusing 8 other refl))
 
     row-answers : (f : ℕ) (r : Row) → Ways P (rebuild f) w → P (answerRow w f r)
     unfolding isRefused
     row-answers f r h =
-        let x : Answer = Rebuilt (r .current) (r .currentend) (r .token) (r .tokenend) in holds (rebuild f) w h refl f r (x, w) (h .answering x refl)
+        let x : Answer = Rebuilt (r .current) (r .currentend) (r .token) (r .tokenend) in holds (rebuild f) w h refl f r (x, w) (h .answering x refl tt)
 
     module _ (f time a : ℕ) (h : Ways P (read f time a) w) where
       walks : (r : Row) (x : Walk) → P (answerWalk w f r x)
-      unfolding isRefused
-      walks r (met x) = h .changing (versionAnswer x) f r refl
-      walks r nothing = h .changing Nothing f r refl
+      unfolding isRefused fileOf
+      walks r (met x) = h .changing (versionAnswer x) r refl tt
+      walks r nothing = h .changing Nothing r refl tt
       walks r (lost place) = h .refusing 13 place refl
 
       versions : (r : Row) → P (onVersions w f time r)
@@ -107,25 +141,16 @@ module _ (P : Result → Type 0) where
           walks (readCurrent time (reaches time (imageOf (entryAt w (r .current)))) r) (walkFrom w f time (r .current) (imageOf (entryAt w (r .current))))
 
       tokens : (r : Row) (x : Option Image) → P (onToken w f time a r x)
-      unfolding isRefused
+      unfolding isRefused fileOf
       tokens r none = versions r
       tokens r (some i) =
           let x : Answer = versionAnswer (record { place = r .token; image = i }) in
           let own : Result = (x, withRow w f (readToken time r)) in
           either (leb (i .start) time) (cond (eqb (i .action) a) own (refuse 9 (i .action) w)) (onVersions w f time r)
-          (either (eqb (i .action) a) own (refuse 9 (i .action) w) (h .changing x f (readToken time r) refl) (h .refusing 9 (i .action) refl)) (versions r)
+          (either (eqb (i .action) a) own (refuse 9 (i .action) w) (h .changing x (readToken time r) refl tt) (h .refusing 9 (i .action) refl)) (versions r)
 
       reads : (r : Row) → P (onRead w f time a r)
       reads r = let x : Option Image = imageOf (entryAt w (r .token)) in holds (read f time a) w h refl f r (onToken w f time a r x) (tokens r x)
-
--- the file that a call asks for, 0 if it asks for none
-unfoldable pub fileOf : Call → ℕ
-fileOf begin = 0
-fileOf (write f start a v) = f
-fileOf (read f time a) = f
-fileOf (test a) = 0
-fileOf (decide a c) = 0
-fileOf (rebuild f) = f
 
 pub line-1 : (k : Call) → among (lines k) 1 ≡ true
 line-1 begin = refl
@@ -155,12 +180,12 @@ module _ (P : Result → Type 0) (w : World) where
       files P (read f time a) w h refl f (cond (eqb a 0) x (forUndecided w a x))
       (either P (eqb a 0) x (forUndecided w a x) q (undecideds P (read f time a) w h refl refl a x q))
   past-line-1 (test a) h g l =
-      let x : Answer = Told (fateNumber (fateAt w a)) (outcomeAt w a) in actions P (test a) w h refl a (x, w) (h .answering x refl)
+      let x : Answer = Told (fateNumber (fateAt w a)) (outcomeAt w a) in actions P (test a) w h refl a (x, w) (h .answering x refl tt)
   past-line-1 (decide a c) h g l =
       let x : Answer = Stored (outcomeAt w a) in
       let k : Result = ifUndecided w a (onDecide w a c) in
       actions P (decide a c) w h refl a (unlessDecided w a c (onDecide w a c))
-      (either P (isDecidedAs c (fateAt w a)) (x, w) k (h .answering x refl) (unlesses P (decide a c) w h refl a (onDecide w a c) (decides P w a c h)))
+      (either P (isDecidedAs c (fateAt w a)) (x, w) k (h .answering x refl tt) (unlesses P (decide a c) w h refl a (onDecide w a c) (decides P w a c h)))
   past-line-1 (rebuild f) h g l =
       rw l (files P (rebuild f) w h refl f (answerRow (warmed w f) f (warmRow w f)) (row-answers P (warmed w f) f (warmRow w f) g))
 

@@ -13,7 +13,7 @@ use Rattle.recovery.specs.Places.{nth}
 use Rattle.recovery.specs.Log.{Image, Entry, blank, torn, bad, opening, image, outcome, Placed, imagesStep, imagesOf}
 use Rattle.recovery.specs.World.{down, isImageOf}
 use Rattle.recovery.proofs.Pages.{length-down}
-use Rattle.recovery.proofs.Spots.{Spots, spots, entry-down}
+use Rattle.recovery.proofs.Spots.{Spots, image-spots, entry-down}
 use Rattle.calls.specs.Walk.{Walk, met, nothing, lost, imagesBelow, follow}
 use Rattle.calls.specs.Links.{Links, here, on}
 
@@ -136,4 +136,4 @@ module _ (sheet : List Entry) (f t : ℕ) where
       ends-at x z xs (sym (entry-down sheet n (z .place) (rw (length-down sheet n) at (h .0 .high))) ∙ h .0 .here) (ends n z xs (h .1)) (ends n x xs (h .1)) (leb (x .image .start) t) refl (eqb (x .image .link) (z .place)) refl
 
   pub walk-ends : (x : Placed) → Ends x (follow t x (imagesBelow sheet (x .place) f))
-  walk-ends x = ends (pred (x .place)) x (imagesBelow sheet (x .place) f) (spots (down sheet (pred (x .place))) f)
+  walk-ends x = ends (pred (x .place)) x (imagesBelow sheet (x .place) f) (image-spots (down sheet (pred (x .place))) f)

@@ -50,29 +50,29 @@ put q s page h l =
 -- ---- what a call makes of the end
 
 -- no new page, or one where there is room for it
-Grows : World → Result → Type 0
-Grows w r = (r .1 .end ≡ w .end) ⊎ ((w .end < length (w .sheet)) × (length (valueAt (entryAt (r .1) (suc (w .end)))) ≡ valueSize))
+Added : World → Result → Type 0
+Added w r = (r .1 .end ≡ w .end) ⊎ ((w .end < length (w .sheet)) × (length (valueAt (entryAt (r .1) (suc (w .end)))) ≡ valueSize))
 
 -- from a world with the end and the sheet of the first
-ways : (w : World) (k : Call) (v : World) → v .end ≡ w .end → v .sheet ≡ w .sheet → Ways (Grows w) k v
-unfolding Grows
+ways : (w : World) (k : Call) (v : World) → v .end ≡ w .end → v .sheet ≡ w .sheet → Ways (Added w) k v
+unfolding Added
 ways w k v he hs = record {
   refusing = λ n p l. inl he;
-  answering = λ a h. inl he;
-  changing = λ a f r h. inl he;
-  growing = λ g fates rows n l long.
-      let z : getD (set (v .sheet) (v .end) g) (v .end) blank ≡ g = getD-set-same (v .sheet) (v .end) g blank l in
-      inr ((rw (he, hs) at l), rw (sym he) (rw z long));
+  answering = λ a h k. inl he;
+  changing = λ a r h k. inl he;
+  growing = λ g fates rows n h k.
+      let z : getD (set (v .sheet) (v .end) g) (v .end) blank ≡ g = getD-set-same (v .sheet) (v .end) g blank (h .room) in
+      inr ((rw (he, hs) at (h .room)), rw (sym he) (rw z (h .long)));
 }
 
-grows : (w : World) (k : Call) → Grows w (call w k)
-grows w k = every-call (Grows w) w k (ways w k w refl refl) (ways w k (warmed w (fileOf k)) refl refl)
+grows : (w : World) (k : Call) → Added w (call w k)
+grows w k = every-call (Added w) w k (ways w k w refl refl) (ways w k (warmed w (fileOf k)) refl refl)
 
 -- ---- the sheet that a call leaves
 
 module _ (s fs rs : List ℕ) (st : State) where
-  lowered : (r : Result) → Grows (lent s fs rs st) r → SameBut (st .end) s (grown s (st .end) (r .1))
-  unfolding Grows packedEntry
+  lowered : (r : Result) → Added (lent s fs rs st) r → SameBut (st .end) s (grown s (st .end) (r .1))
+  unfolding Added packedEntry
   lowered r (inl e) = rw (e, eq-eqb (st .end) (st .end) refl) (same (st .end) s)
   lowered r (inr h) =
       let room : st .end < length s / pageSize = rw (pages-long (length rs / rowLength) (length s / pageSize) s) at (h .0) in
@@ -89,8 +89,8 @@ module _ (s fs rs : List ℕ) (st : State) where
       go false = same (st .end) s
 
   -- a call that raises the end had a whole page above it
-  raised : (r : Result) → Grows (lent s fs rs st) r → (r .1 .end ≡ st .end → ⊥) → pageSize * st .end + pageSize ≤ length s
-  unfolding Grows
+  raised : (r : Result) → Added (lent s fs rs st) r → (r .1 .end ≡ st .end → ⊥) → pageSize * st .end + pageSize ≤ length s
+  unfolding Added
   raised r (inl e) h = absurd (h e)
   raised r (inr g) h = let room : st .end < length s / pageSize = rw (pages-long (length rs / rowLength) (length s / pageSize) s) at (g .0) in omega arith
 

@@ -41,9 +41,9 @@ module _ (w : World) (k : Call) where
   unfolding isRefused
   ways v s = record {
     refusing = λ n p l m q e. let z : n ≡ m = cc in (s, rw z at l);
-    answering = λ a h. quiet a v h;
-    changing = λ a g r h. quiet a (withRow v g r) h;
-    growing = λ g fates rows n l long. quiet (Stored _) (append v g fates rows n) refl;
+    answering = λ a h _. quiet a v h;
+    changing = λ a r h _. quiet a (withRow v (fileOf k) r) h;
+    growing = λ g fates rows n _ _. quiet (Stored _) (append v g fates rows n) refl;
   }
 
   quietly : Quiet w k (call w k)

@@ -27,10 +27,10 @@ use Rattle.recovery.specs.World.{World, Result, isFile, entryAt, isImageOf, pla
 use Rattle.recovery.specs.Lent.{rowLength, rowsOf, flat, lent, refused}
 use Rattle.recovery.specs.Steps.{lineOne, rowHoldsIn, withRowOf, Warmed}
 use Rattle.recovery.proofs.FlatRows.{rows-long}
-use Rattle.calls.specs.Calls.{write, on, onWrite, append, imageOf, actionOf}
+use Rattle.calls.specs.Calls.{write, on, isFreeFor, written, onWrite, append, imageOf, actionOf}
 use Rattle.calls.specs.Leaves.{callLeaves, packedEntry, padded, withPage}
 use Rattle.calls.specs.LineSteps.{actionLine, roomLine}
-use Rattle.calls.specs.ReadSteps.{storeAnswer, writeAnswer, written}
+use Rattle.calls.specs.ReadSteps.{storeAnswer, writeAnswer}
 use Rattle.calls.proofs.Ends.{ends-same, ends-row, ends-grown}
 use Rattle.calls.proofs.ActionLines.{acting, undecided-by}
 use Rattle.calls.proofs.RoomLines.{room-is, room-by, append-fits}
@@ -116,24 +116,24 @@ module _ (s fs rs : List ℕ) (st : State) (h : lineOne (length s) (length fs) (
         line = roomLine s (st .end) (length rs / rowLength) (st .undecided + 1)
 
         on-room : on w (write f t a v)
-            ≡ four (suc (st .end)) (actionOf (imageOf (entryAt w (r .token)))) line (rowHolds w₁ f r) (eqb (r .token) 0) (ltb (r .currentend) t && ltb (st .floor) t) (eqb line 0) g₁ w₁
+            ≡ four (suc (st .end)) (actionOf (imageOf (entryAt w (r .token)))) line (rowHolds w₁ f r) (isFreeFor w a r) (ltb (r .currentend) t && ltb (st .floor) t) (eqb line 0) g₁ w₁
         on-room =
             on-warm
             ∙ rw (room-by (length rs / rowLength) s fs (put (rowsOf rs) f r) (st .end) (st .floor) (st .undecided) (st .undecided + 1) (omega arith) (Stored (suc (st .end)), g₁))
 
-        pub write-refused : (x : Answer) → x ≡ writeAnswer s (length rs / rowLength) st f t r → OneOf not-stored (tagOf the-type x)
+        pub write-refused : (x : Answer) → x ≡ writeAnswer s (length rs / rowLength) st f t a r → OneOf not-stored (tagOf the-type x)
             → record { answer = x; state = st; sheet = s; fates = fs; rows = xs } ≡ callLeaves s fs rs st (write f t a v)
         unfolding writeAnswer storeAnswer rowHoldsIn rowHolds
         write-refused x hx q =
             ends-row s fs rs st (write f t a v) h f r x
             (on-room
-            ∙ four-no (suc (st .end)) (actionOf (imageOf (entryAt w (r .token)))) line (rowHolds w₁ f r) (eqb (r .token) 0) (ltb (r .currentend) t && ltb (st .floor) t) (eqb line 0) g₁ w₁ x hx q)
+            ∙ four-no (suc (st .end)) (actionOf (imageOf (entryAt w (r .token)))) line (rowHolds w₁ f r) (isFreeFor w a r) (ltb (r .currentend) t && ltb (st .floor) t) (eqb line 0) g₁ w₁ x hx q)
             g xs (wm .left-is)
 
-        module _ (q : ℕ) (hq : Stored q ≡ writeAnswer s (length rs / rowLength) st f t r) where
-          all : All (suc (st .end)) (rowHolds w₁ f r) (eqb (r .token) 0) (ltb (r .currentend) t && ltb (st .floor) t) (eqb line 0) q
+        module _ (q : ℕ) (hq : Stored q ≡ writeAnswer s (length rs / rowLength) st f t a r) where
+          all : All (suc (st .end)) (rowHolds w₁ f r) (isFreeFor w a r) (ltb (r .currentend) t && ltb (st .floor) t) (eqb line 0) q
           unfolding writeAnswer storeAnswer rowHoldsIn rowHolds
-          all = four-yes (suc (st .end)) (actionOf (imageOf (entryAt w (r .token)))) line (rowHolds w₁ f r) (eqb (r .token) 0) (ltb (r .currentend) t && ltb (st .floor) t) (eqb line 0) q hq
+          all = four-yes (suc (st .end)) (actionOf (imageOf (entryAt w (r .token)))) line (rowHolds w₁ f r) (isFreeFor w a r) (ltb (r .currentend) t && ltb (st .floor) t) (eqb line 0) q hq
 
           room : st .end < length s / pageSize
           room = omega (arith, room-is s (st .end) (length rs / rowLength) (st .undecided + 1) (eqb-true line 0 (all .four-is)))

@@ -1,7 +1,7 @@
 -- The calls of the store over decoded pages, on all inputs, line by line in the order of document 01, with the later requests that
 -- docs/CHANGES.md names. docs/STORE.md has them in words (The calls), and what each refusal means (Why a call says no).
 use mathlib.Core.List.{List, [], _∷_}
-use mathlib.Core.Bool.{Bool, true, false, cond, not, _&&_}
+use mathlib.Core.Bool.{Bool, true, false, cond, not, _&&_, _||_}
 use mathlib.Core.Option.{Option, some, none}
 use Prim.Native.Nat.{ℕ, suc, pred, max, _+_, _-_}
 use lib.ListN.{length}
@@ -88,14 +88,25 @@ actionOf (some i) = i .action
 
 -- ---- write, on a warm row: lines 7, 8, 10, 11, 12
 
+-- no token, or one of this action, which the new one overtakes
+abbrev pub isFreeFor : World → ℕ → Row → Bool
+isFreeFor w a r = eqb (r .token) 0 || eqb (actionOf (imageOf (entryAt w (r .token)))) a
+
+-- the token's end once it is written: its start; if it is written again, no less than it was
+abbrev pub writtenEnd : Row → ℕ → ℕ
+writtenEnd r start = cond (eqb (r .token) 0) start (max (r .tokenend) start)
+
+abbrev pub written : Row → ℕ → ℕ → Row
+written r place start = record { mark = 1; current = r .current; currentend = r .currentend; token = place; tokenend = writtenEnd r start }
+
 abbrev pub onWrite : World → ℕ → ℕ → ℕ → List ℕ → Row → Result
 onWrite w f start a v r =
     cond (rowHolds w f r)
-    (cond (eqb (r .token) 0)
+    (cond (isFreeFor w a r)
     (cond (ltb (r .currentend) start && ltb (w .floor) start)
     (cond (hasRoom w (w .undecided + 1))
     (store w (image (record { file = f; action = a; link = r .current; start = start; value = v })) (w .fates)
-    (put (w .rows) f (record { mark = 1; current = r .current; currentend = r .currentend; token = suc (w .end); tokenend = start })) (w .undecided))
+    (put (w .rows) f (written r (suc (w .end)) start)) (w .undecided))
     (refuse 11 0 w))
     (refuse 10 0 w))
     (refuse 8 (actionOf (imageOf (entryAt w (r .token)))) w))

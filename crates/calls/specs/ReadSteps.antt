@@ -17,11 +17,11 @@ use Rattle.recovery.specs.declared.Answer.{Answer}
 use Rattle.recovery.specs.declared.Answer.the-variants.{Refused, Stored, Nothing}
 use Rattle.recovery.specs.World.{World, withRow}
 use Rattle.recovery.specs.Lent.{pagesOf}
-use Rattle.recovery.specs.Steps.{sealedImage, rowHoldsIn}
+use Rattle.recovery.specs.Steps.{sealedImage, sheetWorld, rowHoldsIn}
 use Rattle.calls.specs.declared.reading.Reading.{Reading}
 use Rattle.calls.specs.LineSteps.{actionLine, roomLine}
 use Rattle.calls.specs.Walk.{Walk, met, nothing, lost, imagesBelow, follow}
-use Rattle.calls.specs.Calls.{imageOf, actionOf, versionAnswer, onVersions, onRead}
+use Rattle.calls.specs.Calls.{imageOf, actionOf, isFreeFor, versionAnswer, onVersions, onRead}
 
 -- lines 5 and 6 of read, which passes over them for action 0
 unfoldable pub readLine : List ℕ → ℕ → ℕ → ℕ
@@ -66,12 +66,13 @@ storeAnswer s files state start r =
     (cond (eqb (roomLine s (state .end) files (state .undecided + 1)) 0) (Stored (suc (state .end))) (Refused (roomLine s (state .end) files (state .undecided + 1)) 0))
     (Refused 10 0)
 
-unfoldable pub writeAnswer : List ℕ → ℕ → State → ℕ → ℕ → Row → Answer
-writeAnswer s files state file start r =
+unfoldable pub writeAnswer : List ℕ → ℕ → State → ℕ → ℕ → ℕ → Row → Answer
+writeAnswer s files state file start a r =
     cond (rowHoldsIn s files (state .end) file r)
-    (cond (eqb (r .token) 0) (storeAnswer s files state start r) (Refused 8 (actionOf (imageOf (nth blank (pagesOf s files) (r .token))))))
+    (cond (isFreeFor (sheetWorld s files (state .end)) a r) (storeAnswer s files state start r) (Refused 8 (actionOf (imageOf (nth blank (pagesOf s files) (r .token))))))
     (Refused 7 0)
 
--- the row once an image was written at a place
-abbrev pub written : Row → ℕ → ℕ → Row
-written r place start = record { mark = 1; current = r .current; currentend = r .currentend; token = place; tokenend = start }
+-- the action whose token was found, or the given one if there is none
+unfoldable pub holderOf : Sought → ℕ → ℕ
+holderOf (sought.Sought.Image x) a = x .action
+holderOf sought.Sought.Other a = a

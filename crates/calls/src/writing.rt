@@ -12,6 +12,7 @@ use recovery::file_count;
 use recovery::has_file;
 use recovery::image_at;
 use recovery::is_lent_right;
+use recovery::later;
 use recovery::refuse;
 use recovery::row_holds_by;
 use recovery::set_row;
@@ -24,10 +25,10 @@ ghost use Rattle.page.specs.Layout.{pageSize, valueSize};
 ghost use Rattle.recovery.specs.World.{isFile};
 ghost use Rattle.recovery.specs.Lent.{leftBy, rowLength};
 ghost use Rattle.recovery.specs.Steps.{lineOne};
-ghost use Rattle.calls.specs.Calls.{Call};
+ghost use Rattle.calls.specs.Calls.{Call, writtenEnd, written};
 ghost use Rattle.calls.specs.Leaves.{callLeaves, padded};
 ghost use Rattle.calls.specs.LineSteps.{actionLine};
-ghost use Rattle.calls.specs.ReadSteps.{storeAnswer, writeAnswer, written};
+ghost use Rattle.calls.specs.ReadSteps.{storeAnswer, writeAnswer, holderOf};
 
 // A value and zeros after it.
 fn pad(value: &[u8]) -> [u8; Page::VALUE_SIZE]
@@ -61,32 +62,62 @@ fn store_answer(sheet: &[u8], state: State, files: u64, start: u64, row: Row) ->
     Answer::Stored(state.end + 1)
 }
 
+// The action whose token was found, or the given one if there is none.
+fn holder(token: Sought, action: u64) -> u64
+    ensures { λ r. ⌜ r ≡ holderOf token action ⌝ }
+{
+    match token {
+        Sought::Image(x) => x.action,
+        Sought::Other => action,
+    }
+}
+
 // Lines 7 to 12 of write on a warm row. Each place of the row is looked at once.
-fn write_answer(sheet: &[u8], state: State, files: u64, file: u64, start: u64, row: Row) -> Answer
+fn write_answer(
+    sheet: &[u8],
+    state: State,
+    files: u64,
+    file: u64,
+    start: u64,
+    action: u64,
+    row: Row,
+) -> Answer
     requires { ⌜ (state .end ≤ length (now sheet) / pageSize) × (state .undecided ≤ state .end) ⌝ }
-    ensures { λ r. ⌜ r ≡ writeAnswer (now (sheet .entry)) files state file start row ⌝ }
+    ensures { λ r. ⌜ r ≡ writeAnswer (now (sheet .entry)) files state file start action row ⌝ }
 {
     let current = image_at(sheet, row.current, files, file);
     let token = image_at(sheet, row.token, files, file);
     if !row_holds_by(state.end, row, current, token) {
         return Answer::Refused(7, 0);
     }
-    match token {
-        Sought::Image(x) => Answer::Refused(8, x.action),
-        Sought::Other => store_answer(sheet, state, files, start, row),
+    let holder = holder(token, action);
+    if holder != action {
+        return Answer::Refused(8, holder);
     }
+    store_answer(sheet, state, files, start, row)
+}
+
+// The token's end once it is written: its start; if it is written again, no less than it was.
+fn written_end(row: Row, start: u64) -> u64
+    ensures { λ r. ⌜ r ≡ writtenEnd row start ⌝ }
+{
+    if row.token == 0 {
+        return start;
+    }
+    later(row.tokenend, start)
 }
 
 // The row once an image was written at a place.
 fn written_row(row: Row, place: u64, start: u64) -> Row
     ensures { λ r. ⌜ r ≡ written row place start ⌝ }
 {
+    let tokenend = written_end(row, start);
     Row {
         mark: 1,
         current: row.current,
         currentend: row.currentend,
         token: place,
-        tokenend: start,
+        tokenend,
     }
 }
 
@@ -109,7 +140,7 @@ fn write_warm(
     let end = state.end;
     let files = file_count(rows.len());
     let row = warm_row(&sheet[..], fates, rows, end, file);
-    let answer = write_answer(&sheet[..], state, files, file, start, row);
+    let answer = write_answer(&sheet[..], state, files, file, start, action, row);
     let Answer::Stored(place) = answer else {
         return Done { answer, state };
     };

@@ -9,7 +9,7 @@ use Rattle.page.specs.Layout.{pageSize, mostPlaces}
 use Rattle.page.specs.Table.{head, front, packed, fieldsOf, lowest, highest, within, between, meetsRules, isPageOf, torn}
 use Rattle.page.specs.Answers.{inBounds, tested}
 use Rattle.recovery.specs.Places.{tabulate}
-use Rattle.recovery.specs.Log.{opening, outcome, fateOf, outcomeOf, imagesOf, versionsOf, tokenOf}
+use Rattle.recovery.specs.Log.{opening, outcome, fateOf, outcomeOf, imagesOf, notBy, effective, versionsOf, tokenOf}
 use Rattle.recovery.specs.Sheet.{decoded, sealed, pages}
 use Rattle.recovery.specs.World.{down, warmRow, rowHolds, lentRight, endOf, highestBad, undecidedOf, coldRows, opened}
 use Rattle.recovery.specs.Lent.{Left, rowLength, rowsOf, flat, sizesRight, openLeaves}
@@ -83,7 +83,7 @@ record Computed : Type 0 where
   cut-all : cutPage 64 ≡ 3
 
 computed : Computed
-unfolding head front packed fieldsOf lowest highest within between meetsRules isPageOf torn inBounds tested tabulate fateOf outcomeOf imagesOf versionsOf tokenOf decoded sealed pages down warmRow rowHolds lentRight endOf highestBad undecidedOf coldRows opened rowsOf flat sizesRight openLeaves follow eachRow call packedEntry withPage callLeaves mixed point.opened
+unfolding head front packed fieldsOf lowest highest within between meetsRules isPageOf torn inBounds tested tabulate fateOf outcomeOf imagesOf notBy effective versionsOf tokenOf decoded sealed pages down warmRow rowHolds lentRight endOf highestBad undecidedOf coldRows opened rowsOf flat sizesRight openLeaves follow eachRow call packedEntry withPage callLeaves mixed point.opened
 computed = record { opens = refl; begins = refl; writes-not = refl; commits = refl; commits-once = refl; one-page = refl; cut-none = refl; cut-most = refl; cut-all = refl }
 
 step : {x y : Left} (k : Call) → x ≡ y → point.then x k ≡ point.then y k

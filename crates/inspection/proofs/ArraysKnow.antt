@@ -2,24 +2,25 @@
 use Prim.Native.Nat.{ℕ, suc, _+_, _*_, _<_, _≤_}
 use mathlib.Core.Path.{_≡_, refl, ap, sym, subst, _∙_}
 use mathlib.Core.List.{List, [], _∷_, head?}
-use mathlib.Core.Bool.{Bool, true, false, cond, not, false≢true}
+use mathlib.Core.Bool.{Bool, true, false, cond, not, _&&_, false≢true}
 use mathlib.Core.Option.{Option, some, none}
 use native.Mathlib.Omega.{arith}
 use lib.ListN.{length, getD, set, replicate, length-set, length-replicate}
 use lib.Dec.{eqb}
 use borrow.Author.Tests.{eqb-true, eqb-false}
-use Rattle.encoding.proofs.Logic.{is-false, by-test}
+use Rattle.encoding.proofs.Logic.{is-false, by-test, clash}
 use Rattle.page.specs.declared.Page.{Page}
 use Rattle.page.specs.declared.Unpacked.{Unpacked}
 use Rattle.page.specs.declared.Unpacked.the-variants.{Refused, Blank, Torn, Opening, Image, Outcome, Unfit}
 use Rattle.page.specs.Layout.{mostFiles}
-use Rattle.recovery.specs.Log.{Entry, torn, opening, image, outcome, Fate, unknown, undecided, committed, aborted, Placed, verdict, fateOf, imagesOf, versionsStep, tokenStep, versionsOf, currentOf, tokenOf, placeOf, startOf, isUndecided}
+use Rattle.recovery.specs.Log.{Entry, torn, opening, image, outcome, Fate, unknown, undecided, committed, aborted, Placed, verdict, fateOf, imagesOf, effective, effectiveOf, versionsStep, tokenStep, versionsOf, currentOf, tokenOf, placeOf, startOf, isUndecided}
 use Rattle.recovery.specs.Sheet.{imageFrom, entryOf, isOpening, seal}
 use Rattle.recovery.specs.World.{fateNumber}
+use Rattle.recovery.proofs.Effective.{versions-notBy}
 use Rattle.recovery.proofs.LogFates.{undecided-is, undecided-test, undecided-known, All, rest, versions-keep, decided-free}
 use Rattle.inspection.specs.declared.climbing.Slot.{Slot}
-use Rattle.inspection.specs.Lawful.{current, token, isNone, imageFits, fitsBelow, lawful}
-use Rattle.inspection.specs.ClimbSteps.{Arrays, arrays, slotNumbers, LongEnough, Zeroed, slotAt, newestFate, versionIn, imageFitsIn, pageFitsIn, keepImage, keepPage, FileInRange, InRange}
+use Rattle.inspection.specs.Lawful.{current, token, isFreeFor, imageFits, fitsBelow, lawful}
+use Rattle.inspection.specs.ClimbSteps.{Arrays, arrays, slotNumbers, LongEnough, Zeroed, slotAt, newestFate, versionIn, isFreeIn, imageFitsIn, pageFitsIn, keepImage, keepPage, FileInRange, InRange}
 use Rattle.inspection.proofs.LowestUnlawful.{lawful-none, lawful-more}
 use Rattle.inspection.proofs.LawfulLogs.{fate-zero, fate-keeps, good}
 use Rattle.inspection.proofs.Slots.{getD-set, getD-zeros, slot-put, put-length}
@@ -48,7 +49,11 @@ start-in : (o : Option Placed) → slotIn o .start ≡ startOf o
 start-in none = refl
 start-in (some x) = refl
 
--- the newest image and what lies below it give the version and the token
+not-not : (b : Bool) → not (not b) ≡ b
+not-not true = refl
+not-not false = refl
+
+-- the newest image and what lies below it give the version, and whether an action may write
 version-top : (φ : ℕ → Fate) (xs : List Placed) → cond (eqb (fateNumber (φ (top xs .action))) 2) (top xs) (slotIn (currentOf φ (rest xs))) ≡ slotIn (currentOf φ xs)
 unfolding versionsOf
 version-top φ [] = by-test (λ (x : Slot). x ≡ nothing) (eqb (fateNumber (φ 0)) 2) (λ e. refl) (λ e. refl)
@@ -60,14 +65,15 @@ version-top φ (x ∷ xs) = go (φ (x .image .action)) (versionsOf φ xs)
     go committed vs = refl
     go aborted vs = refl
 
-token-top : (φ : ℕ → Fate) (xs : List Placed) → fateNumber (φ 0) ≡ 0 → All 2 φ (rest xs) → not (eqb (fateNumber (φ (top xs .action))) 1) ≡ isNone (tokenOf φ xs)
+token-top : (φ : ℕ → Fate) (xs : List Placed) (a : ℕ) → fateNumber (φ 0) ≡ 0 → All 2 φ (rest xs)
+    → not (eqb (fateNumber (φ (top xs .action))) 1 && not (eqb (top xs .action) a)) ≡ isFreeFor a (tokenOf φ xs)
 unfolding tokenOf
-token-top φ [] z h = rw z
-token-top φ (x ∷ xs) z h = rw (decided-free φ xs h) (go (φ (x .image .action)))
+token-top φ [] a z h = rw z
+token-top φ (x ∷ xs) a z h = rw (decided-free φ xs h) (go (φ (x .image .action)))
   where
-    go : (y : Fate) → not (eqb (fateNumber y) 1) ≡ isNone (tokenStep y x none)
+    go : (y : Fate) → not (eqb (fateNumber y) 1 && not (eqb (x .image .action) a)) ≡ isFreeFor a (tokenStep y x none)
     go unknown = refl
-    go undecided = refl
+    go undecided = not-not (eqb (x .image .action) a)
     go committed = refl
     go aborted = refl
 
@@ -76,8 +82,8 @@ token-top φ (x ∷ xs) z h = rw (decided-free φ xs h) (go (φ (x .image .actio
 pub record Knows (l : List Entry) (places : ℕ) (k : Arrays) : Type 0 where
   pub lawful-is : lawful l ≡ true
   pub fates-are : (a : ℕ) → getD (k .fates) a 0 ≡ fateNumber (fateOf l a)
-  pub newest-are : (f : ℕ) → f ≤ mostFiles → slotAt (k .newest) f ≡ top (imagesOf l f)
-  pub below-are : (f : ℕ) → f ≤ mostFiles → slotAt (k .below) f ≡ slotIn (currentOf (fateOf l) (rest (imagesOf l f)))
+  pub newest-are : (f : ℕ) → f ≤ mostFiles → slotAt (k .newest) f ≡ top (effectiveOf l f)
+  pub below-are : (f : ℕ) → f ≤ mostFiles → slotAt (k .below) f ≡ slotIn (currentOf (fateOf l) (rest (effectiveOf l f)))
   pub long : LongEnough k places
 
 slot-zero : (l : List ℕ) → ((i : ℕ) → getD l i 0 ≡ 0) → (f : ℕ) → slotAt l f ≡ nothing
@@ -85,7 +91,7 @@ unfolding slotAt
 slot-zero l z f = λ i. record { place = z (3 * f) i; action = z (3 * f + 1) i; start = z (3 * f + 2) i }
 
 pub knows-none : (places : ℕ) (k : Arrays) → Zeroed k places → Knows [] places k
-unfolding fateOf imagesOf versionsOf
+unfolding fateOf imagesOf effective versionsOf
 knows-none places k z = record {
   lawful-is = lawful-none;
   fates-are = z .fates-zero;
@@ -110,24 +116,22 @@ fresh n places h = record {
 module _ (l : List Entry) (places : ℕ) (k : Arrays) (w : Knows l places k) where
   -- ---- what the arrays answer
 
-  fate-is : (f : ℕ) → f ≤ mostFiles → newestFate k f ≡ fateNumber (fateOf l (top (imagesOf l f) .action))
+  fate-is : (f : ℕ) → f ≤ mostFiles → newestFate k f ≡ fateNumber (fateOf l (top (effectiveOf l f) .action))
   fate-is f h = w .fates-are (slotAt (k .newest) f .action) ∙ ap (λ (x : Slot). fateNumber (fateOf l (x .action))) (w .newest-are f h)
 
   version-is : (f : ℕ) → f ≤ mostFiles → versionIn k f ≡ slotIn (current l f)
   unfolding versionIn
-  version-is f h = rw (fate-is f h, w .newest-are f h, w .below-are f h) (version-top (fateOf l) (imagesOf l f))
+  version-is f h = rw (fate-is f h, w .newest-are f h, w .below-are f h) (version-top (fateOf l) (effectiveOf l f))
 
-  token-is : (f : ℕ) → f ≤ mostFiles → not (eqb (newestFate k f) 1) ≡ isNone (token l f)
-  token-is f h =
-      ap (λ (x : ℕ). not (eqb x 1)) (fate-is f h)
-      ∙ token-top (fateOf l) (imagesOf l f) (fate-zero l (w .lawful-is)) (good l f (w .lawful-is) .decided)
+  token-is : (f a : ℕ) → f ≤ mostFiles → isFreeIn k f a ≡ isFreeFor a (token l f)
+  token-is f a h = rw (fate-is f h, w .newest-are f h) (token-top (fateOf l) (effectiveOf l f) a (fate-zero l (w .lawful-is)) (good l f (w .lawful-is) .decided))
 
   live-is : (a : ℕ) → eqb (getD (k .fates) a 0) 1 ≡ isUndecided (fateOf l a)
   live-is a = rw (w .fates-are a) (undecided-test (fateOf l a))
 
   image-is-fit : (b : List ℕ) (p : Page) → p .file ≤ mostFiles → imageFitsIn k p ≡ imageFits (imageFrom b p) l
   unfolding imageFitsIn
-  image-is-fit b p h = rw (live-is (p .action), token-is (p .file) h, version-is (p .file) h, place-in (current l (p .file)), start-in (current l (p .file)))
+  image-is-fit b p h = rw (live-is (p .action), token-is (p .file) (p .action) h, version-is (p .file) h, place-in (current l (p .file)), start-in (current l (p .file)))
 
   module _ (r : ℕ → Entry) (opened : (a : ℕ) → 1 ≤ fateNumber (fateOf l a) → isOpening (r a) ≡ true) (b : List ℕ) where
     -- an action that is not the place of an opening has no fate
@@ -150,10 +154,10 @@ module _ (l : List Entry) (places : ℕ) (k : Arrays) (w : Knows l places k) whe
   -- ---- what a page that fits does to them
 
   -- a page that is no image
-  below-same : (g : Entry) → fitsBelow g l ≡ true → (f : ℕ) → f ≤ mostFiles → slotAt (k .below) f ≡ slotIn (currentOf (fateOf (g ∷ l)) (rest (imagesOf l f)))
+  below-same : (g : Entry) → fitsBelow g l ≡ true → (f : ℕ) → f ≤ mostFiles → slotAt (k .below) f ≡ slotIn (currentOf (fateOf (g ∷ l)) (rest (effectiveOf l f)))
   below-same g h f b =
       w .below-are f b
-      ∙ ap (λ vs. slotIn (head? vs)) (sym (versions-keep (fateOf l) (fateOf (g ∷ l)) (fate-keeps g l h (w .lawful-is)) (rest (imagesOf l f)) (good l f (w .lawful-is) .decided)))
+      ∙ ap (λ vs. slotIn (head? vs)) (sym (versions-keep (fateOf l) (fateOf (g ∷ l)) (fate-keeps g l h (w .lawful-is)) (rest (effectiveOf l f)) (good l f (w .lawful-is) .decided)))
 
   long-set : (i v : ℕ) → LongEnough (arrays (set (k .fates) i v) (k .newest) (k .below)) places
   long-set i v = record {
@@ -206,19 +210,19 @@ module _ (l : List Entry) (places : ℕ) (k : Arrays) (w : Knows l places k) whe
       omega arith
 
   keep-image : (b : List ℕ) (p : Page) → p .file ≤ mostFiles → fitsBelow (image (imageFrom b p)) l ≡ true → Knows (image (imageFrom b p) ∷ l) places (keepImage k p (suc (length l)))
-  unfolding fateOf imagesOf keepImage
+  unfolding fateOf imagesOf effective keepImage
   keep-image b p m h = record {
     lawful-is = lawful-more (image (imageFrom b p)) l h (w .lawful-is);
     fates-are = w .fates-are;
     newest-are = λ f c.
         slot-put (k .newest) (p .file) f (newImage p) (room (p .file) m .0)
-        ∙ by-test (λ (xs : List Placed). cond (eqb (p .file) f) (newImage p) (slotAt (k .newest) f) ≡ top xs) (eqb (p .file) f)
+        ∙ by-test (λ (xs : List Placed). cond (eqb (p .file) f) (newImage p) (slotAt (k .newest) f) ≡ top (effective xs)) (eqb (p .file) f)
         (λ e. rw e)
         (λ e. rw e (w .newest-are f c));
     below-are = λ f c.
         slot-put (k .below) (p .file) f (versionIn k (p .file)) (room (p .file) m .1)
-        ∙ by-test (λ (xs : List Placed). cond (eqb (p .file) f) (versionIn k (p .file)) (slotAt (k .below) f) ≡ slotIn (currentOf (fateOf l) (rest xs))) (eqb (p .file) f)
-        (λ e. rw e (subst (λ (x : ℕ). versionIn k (p .file) ≡ slotIn (current l x)) (eqb-true (p .file) f e) (version-is (p .file) m)))
+        ∙ by-test (λ (xs : List Placed). cond (eqb (p .file) f) (versionIn k (p .file)) (slotAt (k .below) f) ≡ slotIn (currentOf (fateOf l) (rest (effective xs)))) (eqb (p .file) f)
+        (λ e. rw (e, versions-notBy (fateOf l) (p .action) (λ z. clash cc) (effectiveOf l f)) (subst (λ (x : ℕ). versionIn k (p .file) ≡ slotIn (current l x)) (eqb-true (p .file) f e) (version-is (p .file) m)))
         (λ e. rw e (w .below-are f c));
     long = record {
       fates-long = w .long .fates-long;

@@ -2,10 +2,10 @@
 use Prim.Native.Nat.{ℕ, _+_}
 use mathlib.Core.Path.{_≡_, refl, ap, sym, subst, _∙_}
 use mathlib.Core.List.{List, [], _∷_}
-use mathlib.Core.Bool.{false}
+use mathlib.Core.Bool.{Bool, true, false, not, _&&_}
 use native.Mathlib.Numerals.{add-one}
 use lib.ListN.{getD, set}
-use lib.Dec.{ltb}
+use lib.Dec.{eqb, ltb}
 use borrow.Author.Tests.{eq-eqb, ne-eqb}
 use types.Run.{OneOf, miss}
 use denote.Enum.Declared.{tagOf}
@@ -14,7 +14,7 @@ use Rattle.page.specs.declared.Page.{Page}
 use Rattle.page.specs.declared.Unpacked.{Unpacked}
 use Rattle.page.specs.declared.Unpacked.the-variants.{Refused, Blank, Torn, Opening, Image, Outcome, Unfit}
 use Rattle.inspection.specs.declared.climbing.Slot.{Slot}
-use Rattle.inspection.specs.ClimbSteps.{Arrays, arrays, slotAt, putSlot, newestFate, versionIn, imageFitsIn, pageFitsIn, keepImage, keepPage, FileInRange, InRange}
+use Rattle.inspection.specs.ClimbSteps.{Arrays, arrays, slotAt, putSlot, newestFate, versionIn, isFreeIn, imageFitsIn, pageFitsIn, keepImage, keepPage, FileInRange, InRange}
 
 module _ (k : Arrays) (f : ℕ) (last : Slot) (hl : last ≡ slotAt (k .newest) f) (w : ℕ) (hw : w ≡ getD (k .fates) (last .action) 0) where
   fate-last : newestFate k f ≡ w
@@ -36,18 +36,24 @@ module _ (k : Arrays) (p : Page) (own : ℕ) (ho : own ≡ getD (k .fates) (p .a
   not-live n = rw (← ho, ne-eqb own 1 n)
 
   module _ (live : own ≡ 1) (last : Slot) (hl : last ≡ slotAt (k .newest) (p .file)) (w : ℕ) (hw : w ≡ getD (k .fates) (last .action) 0) where
-    pub token-there : w ≡ 1 → false ≡ imageFitsIn k p
-    unfolding imageFitsIn
-    token-there e = rw (← ho, fate-last k (p .file) last hl w hw, live, e)
+    abbrev another : Bool
+    another = eqb w 1 && not (eqb (last .action) (p .action))
 
-    module _ (free : w ≡ 1 → ⊥) (v : Slot) (hv : v ≡ versionIn k (p .file)) where
+    free-is : isFreeIn k (p .file) (p .action) ≡ not another
+    free-is = rw (fate-last k (p .file) last hl w hw, ← hl)
+
+    pub token-there : another ≡ true → false ≡ imageFitsIn k p
+    unfolding imageFitsIn
+    token-there e = rw (← ho, free-is, live, e)
+
+    module _ (free : another ≡ false) (v : Slot) (hv : v ≡ versionIn k (p .file)) where
       pub not-linked : (p .link ≡ v .place → ⊥) → false ≡ imageFitsIn k p
       unfolding imageFitsIn
-      not-linked n = rw (← ho, fate-last k (p .file) last hl w hw, ← hv, live, ne-eqb w 1 free, ne-eqb (p .link) (v .place) n)
+      not-linked n = rw (← ho, free-is, ← hv, live, free, ne-eqb (p .link) (v .place) n)
 
       pub linked : p .link ≡ v .place → ltb (v .start) (p .start) ≡ imageFitsIn k p
       unfolding imageFitsIn
-      linked e = rw (← ho, fate-last k (p .file) last hl w hw, ← hv, live, ne-eqb w 1 free, eq-eqb (p .link) (v .place) e)
+      linked e = rw (← ho, free-is, ← hv, live, free, eq-eqb (p .link) (v .place) e)
 
 -- ---- by the kind of page
 

@@ -1,19 +1,20 @@
--- What is true of a lawful log: a fate that is decided stays, a known action is the place of an opening, and of a file's images
--- all but the newest are decided. Assumes nothing.
+-- What is true of a lawful log: a fate that is decided stays, a known action is the place of an opening, and of a file's effective
+-- images all but the newest are decided. Assumes nothing.
 use Prim.Native.Nat.{ℕ, zero, suc, _≤_}
 use mathlib.Core.Path.{_≡_, refl, ap, sym, subst, _∙_}
 use mathlib.Core.List.{List, [], _∷_}
-use mathlib.Core.Bool.{true, false≢true}
+use mathlib.Core.Bool.{Bool, true, false, cond, false≢true}
 use native.Mathlib.Omega.{arith}
 use lib.ListN.{length}
 use lib.Dec.{eqb}
 use borrow.Author.Tests.{eqb-true}
 use Rattle.encoding.proofs.Logic.{and-true, by-test}
-use Rattle.recovery.specs.Log.{Image, Entry, blank, torn, bad, opening, image, outcome, Fate, unknown, undecided, committed, aborted, Placed, fateOf, imagesOf, tokenStep, tokenOf}
+use Rattle.recovery.specs.Log.{Image, Entry, blank, torn, bad, opening, image, outcome, Fate, unknown, undecided, committed, aborted, Placed, fateOf, imagesOf, notBy, effective, effectiveOf, tokenStep, tokenOf}
 use Rattle.recovery.specs.World.{fateNumber}
 use Rattle.recovery.proofs.Spots.{entryIn, entry-cons, entry-top}
+use Rattle.recovery.proofs.Effective.{each-notBy}
 use Rattle.recovery.proofs.LogFates.{undecided-is, undecided-known, verdict-known, All, rest, all-keeps}
-use Rattle.inspection.specs.Lawful.{token, isNone, imageFits, fitsBelow, lawful}
+use Rattle.inspection.specs.Lawful.{token, isFreeFor, imageFits, fitsBelow, lawful}
 use Rattle.inspection.proofs.LowestUnlawful.{lawful-parts}
 
 -- ---- fates
@@ -87,29 +88,34 @@ module _ (g : Entry) (l : List Entry) (h : fitsBelow g l ≡ true) (w : lawful l
       go y (opens e o) r = let z = r (omega arith) in absurd (omega arith)
       go y (decides e n) r = n
 
--- ---- the images of a file
+-- ---- the effective images of a file
 
--- all images are known, and all but the newest decided
+-- all are known, and all but the newest decided
 pub record Good (φ : ℕ → Fate) (xs : List Placed) : Type 0 where
   pub known : All 1 φ xs
   pub decided : All 2 φ (rest xs)
 
--- then no token says that all are decided
-pub free-decided : (φ : ℕ → Fate) (xs : List Placed) → Good φ xs → isNone (tokenOf φ xs) ≡ true → All 2 φ xs
-unfolding tokenOf
-free-decided φ [] h e = tt
-free-decided φ (x ∷ xs) h e = (go (φ (x .image .action)) (h .known .0) e, h .decided)
+-- then, without a token of another action, those of all other actions are decided
+pub others-decided : (φ : ℕ → Fate) (a : ℕ) (xs : List Placed) → Good φ xs → isFreeFor a (tokenOf φ xs) ≡ true → All 2 φ (notBy a xs)
+unfolding notBy tokenOf
+others-decided φ a [] h e = tt
+others-decided φ a (x ∷ xs) h e = go (eqb (x .image .action) a) refl (φ (x .image .action)) refl (h .known .0) e
   where
-    go : (y : Fate) → 1 ≤ fateNumber y → isNone (tokenStep y x (tokenOf φ xs)) ≡ true → 2 ≤ fateNumber y
-    go unknown k e = absurd (omega arith)
-    go undecided k e = absurd (false≢true e)
-    go committed k e = omega arith
-    go aborted k e = omega arith
+    below : All 2 φ (notBy a xs)
+    below = each-notBy (λ y. 2 ≤ fateNumber (φ (y .image .action))) a xs (h .decided)
+
+    go : (b : Bool) → eqb (x .image .action) a ≡ b → (y : Fate) → φ (x .image .action) ≡ y → 1 ≤ fateNumber y → isFreeFor a (tokenStep y x (tokenOf φ xs)) ≡ true
+        → All 2 φ (cond b (notBy a xs) (x ∷ notBy a xs))
+    go true q y k n e = below
+    go false q unknown k n e = absurd (omega arith)
+    go false q undecided k n e = absurd (false≢true (sym q ∙ e))
+    go false q committed k n e = (omega (arith, ap fateNumber k), below)
+    go false q aborted k n e = (omega (arith, ap fateNumber k), below)
 
 -- the parts of what an image needs to fit
 record ImageFits (i : Image) (l : List Entry) : Type 0 where
   pub live : fateOf l (i .action) ≡ undecided
-  pub free : isNone (token l (i .file)) ≡ true
+  pub free : isFreeFor (i .action) (token l (i .file)) ≡ true
 
 image-fits : (i : Image) (l : List Entry) → imageFits i l ≡ true → ImageFits i l
 image-fits i l h =
@@ -118,37 +124,38 @@ image-fits i l h =
     let c = and-true _ _ (b .0) in
     record { live = undecided-is (fateOf l (i .action)) (c .0); free = c .1 }
 
-good-same : (g : Entry) (l : List Entry) (f : ℕ) → fitsBelow g l ≡ true → lawful l ≡ true → Good (fateOf l) (imagesOf l f) → Good (fateOf (g ∷ l)) (imagesOf l f)
+good-same : (g : Entry) (l : List Entry) (f : ℕ) → fitsBelow g l ≡ true → lawful l ≡ true → Good (fateOf l) (effectiveOf l f) → Good (fateOf (g ∷ l)) (effectiveOf l f)
 good-same g l f h w r = record {
-  known = all-keeps 1 (fateOf l) (fateOf (g ∷ l)) (fate-knows g l h w) (imagesOf l f) (r .known);
+  known = all-keeps 1 (fateOf l) (fateOf (g ∷ l)) (fate-knows g l h w) (effectiveOf l f) (r .known);
   decided = all-keeps 2 (fateOf l) (fateOf (g ∷ l))
       (λ a d. subst (λ (x : Fate). 2 ≤ fateNumber x) (sym (fate-keeps g l h w a d)) d)
-      (rest (imagesOf l f))
+      (rest (effectiveOf l f))
       (r .decided);
 }
 
-good-image : (i : Image) (l : List Entry) (f : ℕ) → imageFits i l ≡ true → i .file ≡ f → (x : Placed) → x .image ≡ i → Good (fateOf l) (imagesOf l f) → Good (fateOf l) (x ∷ imagesOf l f)
-good-image i l f h e x q r =
+good-image : (i : Image) (l : List Entry) (f : ℕ) → imageFits i l ≡ true → i .file ≡ f → Good (fateOf l) (effectiveOf l f)
+    → Good (fateOf l) (record { place = suc (length l); image = i } ∷ notBy (i .action) (effectiveOf l f))
+good-image i l f h e r =
     let k = image-fits i l h in
     record {
-      known = (undecided-known (ap (λ (y : Image). fateOf l (y .action)) q ∙ k .live), r .known);
-      decided = free-decided (fateOf l) (imagesOf l f) r (subst (λ (y : ℕ). isNone (token l y) ≡ true) e (k .free));
+      known = (undecided-known (k .live), each-notBy (λ y. 1 ≤ fateNumber (fateOf l (y .image .action))) (i .action) (effectiveOf l f) (r .known));
+      decided = others-decided (fateOf l) (i .action) (effectiveOf l f) r (subst (λ (y : ℕ). isFreeFor (i .action) (token l y) ≡ true) e (k .free));
     }
 
-good-none : (f : ℕ) → Good (fateOf []) (imagesOf [] f)
-unfolding imagesOf
+good-none : (f : ℕ) → Good (fateOf []) (effectiveOf [] f)
+unfolding imagesOf effective
 good-none f = record { known = tt; decided = tt }
 
-good-more : (g : Entry) (l : List Entry) (f : ℕ) → fitsBelow g l ≡ true → lawful l ≡ true → Good (fateOf l) (imagesOf l f) → Good (fateOf (g ∷ l)) (imagesOf (g ∷ l) f)
-unfolding fateOf imagesOf
+good-more : (g : Entry) (l : List Entry) (f : ℕ) → fitsBelow g l ≡ true → lawful l ≡ true → Good (fateOf l) (effectiveOf l f) → Good (fateOf (g ∷ l)) (effectiveOf (g ∷ l) f)
+unfolding fateOf imagesOf effective
 good-more blank l f h w r = r
 good-more torn l f h w r = r
 good-more bad l f h w r = r
 good-more opening l f h w r = good-same opening l f refl w r
-good-more (image i) l f h w r = by-test (Good (fateOf l)) (eqb (i .file) f) (λ e. good-image i l f h (eqb-true (i .file) f e) _ refl r) (λ e. r)
+good-more (image i) l f h w r = by-test (λ xs. Good (fateOf l) (effective xs)) (eqb (i .file) f) (λ e. good-image i l f h (eqb-true (i .file) f e) r) (λ e. r)
 good-more (outcome b c) l f h w r = good-same (outcome b c) l f h w r
 
-pub good : (l : List Entry) (f : ℕ) → lawful l ≡ true → Good (fateOf l) (imagesOf l f)
+pub good : (l : List Entry) (f : ℕ) → lawful l ≡ true → Good (fateOf l) (effectiveOf l f)
 good [] f w = good-none f
 good (g ∷ l) f w =
     let p = lawful-parts g l w in

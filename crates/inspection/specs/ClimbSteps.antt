@@ -51,10 +51,14 @@ newestFate k f = getD (k .fates) (slotAt (k .newest) f .action) 0
 unfoldable pub versionIn : Arrays → ℕ → Slot
 versionIn k f = cond (eqb (newestFate k f) 2) (slotAt (k .newest) f) (slotAt (k .below) f)
 
+-- a file's newest image is no token of another action
+abbrev pub isFreeIn : Arrays → ℕ → ℕ → Bool
+isFreeIn k f a = not (eqb (newestFate k f) 1 && not (eqb (slotAt (k .newest) f .action) a))
+
 unfoldable pub imageFitsIn : Arrays → Page → Bool
 imageFitsIn k p =
     eqb (getD (k .fates) (p .action) 0) 1
-    && not (eqb (newestFate k (p .file)) 1)
+    && isFreeIn k (p .file) (p .action)
     && eqb (p .link) (versionIn k (p .file) .place)
     && ltb (versionIn k (p .file) .start) (p .start)
 

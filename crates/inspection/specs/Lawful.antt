@@ -5,27 +5,29 @@ use mathlib.Core.Option.{Option, some, none}
 use Prim.Native.Nat.{ℕ, suc}
 use lib.ListN.{length}
 use lib.Dec.{eqb, ltb}
-use Rattle.recovery.specs.Log.{Image, Entry, blank, torn, bad, opening, image, outcome, Placed, isUndecided, fateOf, imagesOf, versionsOf, currentOf, tokenOf, placeOf, startOf}
+use Rattle.recovery.specs.Log.{Image, Entry, blank, torn, bad, opening, image, outcome, Placed, isUndecided, fateOf, effectiveOf, versionsOf, currentOf, tokenOf, placeOf, startOf}
 
 -- a file's versions, the newest one and the token, by the log's own outcomes
 abbrev pub versions : List Entry → ℕ → List Placed
-versions l f = versionsOf (fateOf l) (imagesOf l f)
+versions l f = versionsOf (fateOf l) (effectiveOf l f)
 
 abbrev pub current : List Entry → ℕ → Option Placed
-current l f = currentOf (fateOf l) (imagesOf l f)
+current l f = currentOf (fateOf l) (effectiveOf l f)
 
 abbrev pub token : List Entry → ℕ → Option Placed
-token l f = tokenOf (fateOf l) (imagesOf l f)
+token l f = tokenOf (fateOf l) (effectiveOf l f)
 
-abbrev pub isNone : Option Placed → Bool
-isNone none = true
-isNone (some x) = false
+-- a file without a token, or with one of this action
+abbrev pub isFreeFor : ℕ → Option Placed → Bool
+isFreeFor a none = true
+isFreeFor a (some x) = eqb (x .image .action) a
 
--- an image's action has no outcome yet, its file has no token, its link is the newest version, and its start is above that one's
+-- an image's action has no outcome yet, its file has no token of another action, its link is the newest version, and its start is above
+-- that one's
 abbrev pub imageFits : Image → List Entry → Bool
 imageFits i l =
     isUndecided (fateOf l (i .action))
-    && isNone (token l (i .file))
+    && isFreeFor (i .action) (token l (i .file))
     && eqb (i .link) (placeOf (current l (i .file)))
     && ltb (startOf (current l (i .file))) (i .start)
 

@@ -89,7 +89,7 @@ fn image_fits(p: Page, fates: &[u8], newest: &[u64], below: &[u64]) -> bool
         return false;
     }
     let last = get_slot(newest, p.file);
-    if fate_of(fates, last.action) == 1 {
+    if (fate_of(fates, last.action) == 1) & (last.action != p.action) {
         return false;
     }
     let version = version_of(fates, newest, below, p.file);

@@ -189,7 +189,7 @@ module _ (pages files : ℕ) (sized : sizes pages pages files ≡ true) (fates r
       not-blank : sealed files (sheetOf b) place ≡ blank → ⊥
       not-blank q =
           let v = box-shows pages files b (reached pages files es run) file time action place start size (a .answer) in
-          let z : image (v .seen) ≡ blank = sym (v .here) ∙ q in clash cc
+          let z : image (v .seen) ≡ blank = sym (v .effective .here) ∙ q in clash cc
 
       page-is : pageBytes (x .sheet) place ≡ pageBytes (sheetOf b) place
       page-is = ap (λ s. pageBytes s place) sheet-is ∙ box-kept pages files b (reached pages files es run) (calls (call.read file time action) ∷ []) (tt, tt) place not-blank

@@ -1,9 +1,9 @@
 -- Runs that meet the premises of each promise, with what they hear: document 01's listing, a change of two locks that is cut with any
--- of its bytes stored, a commit whose reply is lost, one life of a box with each promise asked of it, rows rebuilt in two orders, the
+-- of its bytes stored, a commit whose reply is lost, a time that is mended inside its action, one life of a box with each promise asked of it, rows rebuilt in two orders, the
 -- reserve kept and used up, a floor that is too low, and a lawful sheet that no run of this store makes. Each premise is proved, so no
 -- promise is empty.
-use Prim.Native.Nat.{ℕ, _≤_, _<_}
-use mathlib.Core.Path.{_≡_, refl, sym, _∙_}
+use Prim.Native.Nat.{ℕ, suc, _≤_, _<_}
+use mathlib.Core.Path.{_≡_, refl, sym, _∙_, subst}
 use mathlib.Core.List.{List, [], _∷_, _++_}
 use mathlib.Core.Bool.{Bool, true, false, cond}
 use mathlib.Core.Option.{Option, some, none}
@@ -14,7 +14,7 @@ use Rattle.encoding.proofs.Logic.{clash}
 use Rattle.page.specs.Table as table
 use Rattle.page.specs.Table.{head, front, packed, fieldsOf, lowest, highest, within, between, meetsRules, isPageOf}
 use Rattle.page.specs.Answers.{tested, inBounds}
-use Rattle.recovery.specs.Log.{Image, blank, torn, image, outcome, fateOf, outcomeOf, imagesOf, tokenOf, versionsOf}
+use Rattle.recovery.specs.Log.{Image, blank, torn, image, outcome, fateOf, outcomeOf, imagesOf, notBy, effective, tokenOf, versionsOf}
 use Rattle.recovery.specs.Places.{tabulate}
 use Rattle.recovery.specs.Sheet.{pageBytes, sealed, decoded, pages}
 use Rattle.recovery.specs.World.{down, endOf, undecidedOf}
@@ -29,7 +29,7 @@ use Rattle.calls.specs.Calls.{Call, begin, write, read, test, decide, rebuild}
 use Rattle.calls.specs.Cuts.{firstBytes}
 use Rattle.promises.specs.Runs.{Ordered, Box, off, sheetOf, Event, calls, opens, cuts, after, heard, Hears, Run, blankBox}
 use Rattle.promises.specs.Model.{latest, blankModel, modelHeard, modelRuns}
-use Rattle.promises.specs.Promises.{boxAfter, pageIn, IsPageOf, IsVersion, Shown, ShowsAt, Did, WasWritten, AllShow, NoneShows, Falls, othersHeard}
+use Rattle.promises.specs.Promises.{boxAfter, pageIn, IsPageOf, IsEffective, IsVersion, Shown, ShowsAt, Did, WasWritten, AllShow, NoneShows, Falls, othersHeard}
 use Rattle.promises.proofs.Proved.{promised}
 use Rattle.promises.proofs.Trying.{Step, does, opened, cut, events, eventOf, is-run, has-floors, none-torn, hears-by, blank-above, inNumbers}
 
@@ -125,6 +125,74 @@ asking-heard kept o = promised 6 2 .as-model (asking kept) (asking-run kept o) �
   where
     go : (b c : Bool) → kept 0 ≡ b → kept 63 ≡ c
         → modelHeard false (blankModel 6 2) (asking kept) ≡ cond (kept 0) (cond (kept 63) (answeredAt (Opened 3 0) 3) (answeredAt (Opened 3 1) 4)) (answeredAt (Opened 2 1) 3)
+    go false c e f = rw e
+    go true true e f = rw (e, f)
+    go true false e f = rw (e, f)
+
+-- ---- a time typed wrong, read inside the action at 40, mended to an earlier one and committed: who writes next starts above 40, until the
+-- next opening, which knows the newest image's start alone
+
+abbrev mended : List Step
+mended =
+    opened 0
+    ∷ does begin
+    ∷ does (write 1 10 1 (7 ∷ []))
+    ∷ does (read 1 40 1)
+    ∷ does (write 1 6 1 (8 ∷ []))
+    ∷ does (read 1 9 1)
+    ∷ does (decide 1 true)
+    ∷ does begin
+    ∷ does (write 1 40 5 (9 ∷ []))
+    ∷ does (write 1 41 5 (9 ∷ []))
+    ∷ does begin
+    ∷ does (write 1 50 7 [])
+    ∷ does (decide 5 false)
+    ∷ opened 0
+    ∷ does (write 1 6 7 [])
+    ∷ does (write 1 7 7 [])
+    ∷ does (read 1 6 0)
+    ∷ []
+
+pub mended-heard : heard (blankBox 12) (events 12 2 mended) ≡ inNumbers (
+    some (Opened 0 0)
+    ∷ some (Stored 1)
+    ∷ some (Stored 2)
+    ∷ some (Value 2 10 1)
+    ∷ some (Stored 3)
+    ∷ some (Value 3 6 1)
+    ∷ some (Stored 4)
+    ∷ some (Stored 5)
+    ∷ some (Refused 10 0)
+    ∷ some (Stored 6)
+    ∷ some (Stored 7)
+    ∷ some (Refused 8 5)
+    ∷ some (Stored 8)
+    ∷ some (Opened 8 1)
+    ∷ some (Refused 10 0)
+    ∷ some (Stored 9)
+    ∷ some (Value 3 6 1)
+    ∷ [])
+unfolding modelHeard latest
+mended-heard = promised 12 2 .as-model (events 12 2 mended) (is-run 12 2 mended refl) ∙ refl
+
+-- the supply pulled when these bytes of the mending page are stored: the first image is still the token, or the second replaces it
+abbrev mending : (ℕ → Bool) → List Event
+mending kept = events 6 2 (opened 0 ∷ does begin ∷ does (write 1 10 1 (7 ∷ [])) ∷ [])
+    ++ cuts (write 1 6 1 (8 ∷ [])) kept ∷ events 6 2 (opened 0 ∷ does (read 1 10 1) ∷ does (decide 1 true) ∷ does (read 1 10 0) ∷ does (read 1 9 0) ∷ [])
+
+mending-run : (kept : ℕ → Bool) → Ordered kept → Run 6 2 (mending kept)
+mending-run kept o = record { sized = refl; allowed = (λ e. refl, (tt, (omega arith, ((omega arith, o), (λ e. refl, (tt, (tt, (tt, (tt, tt))))))))) }
+
+abbrev mendedTo : ℕ → Answer → Answer → List (Option (List ℕ))
+mendedTo end a b = inNumbers (some (Opened 0 0) ∷ some (Stored 1) ∷ some (Stored 2) ∷ none ∷ some (Opened end 1) ∷ some a ∷ some (Stored (suc end)) ∷ some a ∷ some b ∷ [])
+
+pub mending-heard : (kept : ℕ → Bool) → Ordered kept
+    → heard (blankBox 6) (mending kept) ≡ cond (kept 0) (cond (kept 63) (mendedTo 3 (Value 3 6 1) (Value 3 6 1)) (mendedTo 3 (Value 2 10 1) Nothing)) (mendedTo 2 (Value 2 10 1) Nothing)
+unfolding modelHeard latest
+mending-heard kept o = promised 6 2 .as-model (mending kept) (mending-run kept o) ∙ go (kept 0) (kept 63) refl refl
+  where
+    go : (b c : Bool) → kept 0 ≡ b → kept 63 ≡ c → modelHeard false (blankModel 6 2) (mending kept)
+        ≡ cond (kept 0) (cond (kept 63) (mendedTo 3 (Value 3 6 1) (Value 3 6 1)) (mendedTo 3 (Value 2 10 1) Nothing)) (mendedTo 2 (Value 2 10 1) Nothing)
     go false c e f = rw e
     go true true e f = rw (e, f)
     go true false e f = rw (e, f)
@@ -250,11 +318,20 @@ late-writes = hears-by 12 2 (at late) (calls (write 1 13 7 [])) (Stored 10) (is-
 pub found-met : IsPageOf older (pageIn 12 2 (boxAt late) 2)
 found-met = promised 12 2 .found (at begun) (at (does (decide 1 true) ∷ does (read 1 6 0) ∷ newer ++ does token ∷ tail)) older 2 late-run writes
 
+image-same : {x y : Image} → image x ≡ image y → x ≡ y
+image-same e = cc
+
 abbrev seen : Image
 seen = record { file = 1; action = 1; link = found-met .0; start = 5; value = 7 ∷ [] }
 
+pub none-shown-met : Shown 12 2 (boxAt late) 1 6 0 2 5 1
+none-shown-met = promised 12 2 .none-shown (at late) 1 6 0 2 5 1 late-run late-reads
+
+effective-met : IsEffective 12 2 (boxAt late) 2 seen
+effective-met = subst (IsEffective 12 2 (boxAt late) 2) (image-same (sym (none-shown-met .effective .here) ∙ found-met .1)) (none-shown-met .effective)
+
 version-met : IsVersion 12 2 (boxAt late) 1 2 seen
-version-met = (found-met .1, refl, (3, late-committed))
+version-met = (effective-met, refl, (3, late-committed))
 
 pub highest-met : 5 ≤ 5
 highest-met = promised 12 2 .highest (at late) 1 6 0 2 5 1 late-run late-reads 2 seen version-met (omega arith)
@@ -339,15 +416,42 @@ pub whole-or-none-met : AllShow 12 2 (boxAt late) 7 ⊎ NoneShows 12 2 (boxAt la
 whole-or-none-met = promised 12 2 .whole-or-none (at late) 7 late-run
 
 pub all-shown-met : ShowsAt 12 2 (boxAt late) 2 seen
-all-shown-met = promised 12 2 .all-shown (at late) 2 seen late-run (found-met .1) (3, late-committed)
+all-shown-met = promised 12 2 .all-shown (at late) 2 seen late-run effective-met (3, late-committed)
 
-pub none-shown-met : Shown 12 2 (boxAt late) 1 6 0 2 5 1
-none-shown-met = promised 12 2 .none-shown (at late) 1 6 0 2 5 1 late-run late-reads
+-- the token written again, from 7 on, whole or cut after 20 bytes
+abbrev again : Call
+again = write 2 7 7 (6 ∷ [])
 
-pub own-shown-met : Hears (boxAt late) (calls (read 2 9 7)) (Value 8 9 1)
-own-shown-met =
-    let p = promised 12 2 .found (at before) (at tail) token 8 late-run writes-token in
-    promised 12 2 .own-shown (at late) 8 9 (record { file = 2; action = 7; link = p .0; start = 9; value = 9 ∷ [] }) late-run (p .1) (0, late-open) (omega arith)
+abbrev twice : List Step
+twice = life ++ does again ∷ []
+
+abbrev pulled : List Step
+pulled = life ++ cut again 20 ∷ []
+
+writes-again : Told-of life (does again) (Stored 9)
+unfolding modelHeard latest
+writes-again = hears-by 12 2 (at life) (calls again) (Stored 9) (is-run 12 2 twice refl) refl
+
+twice-open : Told-of twice (does (test 7)) (Told 1 0)
+unfolding modelHeard latest
+twice-open = hears-by 12 2 (at twice) (calls (test 7)) (Told 1 0) (is-run 12 2 (twice ++ does (test 7) ∷ []) refl) refl
+
+pub token-met : (link : ℕ) × IsEffective 12 2 (boxAt life) 8 (record { file = 2; action = 7; link = link; start = 9; value = 9 ∷ [] })
+token-met = promised 12 2 .overtakes (at before) (calls token) 2 9 7 8 (9 ∷ []) (is-run 12 2 life refl) refl writes-token
+
+pub overtakes-met : (link : ℕ) × IsEffective 12 2 (boxAt twice) 9 (record { file = 2; action = 7; link = link; start = 7; value = 6 ∷ [] })
+overtakes-met = promised 12 2 .overtakes (at life) (calls again) 2 7 7 9 (6 ∷ []) (is-run 12 2 twice refl) refl writes-again
+
+pub own-shown-met : Hears (boxAt twice) (calls (read 2 8 7)) (Value 9 7 1)
+own-shown-met = promised 12 2 .own-shown (at twice) 9 8 _ (is-run 12 2 twice refl) (overtakes-met .1) (0, twice-open) (omega arith)
+
+pub overtaken-met : (file time reader start size : ℕ) → Hears (boxAt twice) (calls (read file time reader)) (Value 8 start size) → ⊥
+overtaken-met file time reader start size h =
+    let p = promised 12 2 .found (at before) (at (does again ∷ [])) token 8 (is-run 12 2 twice refl) writes-token in
+    promised 12 2 .overtaken (at twice) 8 9 file time reader start size _ _ (is-run 12 2 twice refl) (p .1) (overtakes-met .1 .here) refl refl (omega arith) h
+
+pub torn-overtakes-none-met : IsEffective 12 2 (boxAt pulled) 8 (record { file = 2; action = 7; link = token-met .0; start = 9; value = 9 ∷ [] })
+torn-overtakes-none-met = promised 12 2 .torn-overtakes-none (at life) again (firstBytes 20) 8 _ (is-run 12 2 pulled refl) refl (token-met .1)
 
 pub alike-met : Value 2 5 1 ≡ Value 2 5 1
 unfolding isRefused
@@ -367,6 +471,13 @@ unseen-met = promised 12 2 .unseen (at (first ++ opened 0 ∷ does (rebuild 2) �
     (is-run 12 2 (first ++ opened 0 ∷ does (rebuild 2) ∷ does (read 1 6 0) ∷ does (read 2 6 0) ∷ []) refl)
     (record { sized = refl; allowed = (λ e. refl, (tt, (omega arith, (tt, (λ e. refl, (tt, (tt, (tt, (tt, tt))))))))) })
     refl
+
+-- a cold row rebuilt between two writes of one action, or by the second write itself
+abbrev inTwo : List Step → List Step
+inTwo xs = life ++ opened 6 ∷ xs ++ does again ∷ does (decide 7 true) ∷ does (read 2 9 0) ∷ []
+
+pub unseen-between : othersHeard (blankBox 12) (at (inTwo (does (rebuild 2) ∷ []))) ≡ othersHeard (blankBox 12) (at (inTwo []))
+unseen-between = promised 12 2 .unseen (at (inTwo (does (rebuild 2) ∷ []))) (at (inTwo [])) (is-run 12 2 (inTwo (does (rebuild 2) ∷ [])) refl) (is-run 12 2 (inTwo []) refl) refl
 
 -- ---- the reserve of a page for each undecided action: three pages, of which two are used and the third is kept for the outcome
 
@@ -409,10 +520,10 @@ abbrev foreign : List ℕ
 foreign = packed (table.opening 1) (replicate 32 0) 1 ++ packed (table.opening 2) (replicate 32 0) 2
 
 foreign-lawful : inspected foreign 1 ≡ Lowest 0
-unfolding head front packed fieldsOf lowest highest within between meetsRules isPageOf table.torn inBounds tested tabulate fateOf imagesOf versionsOf tokenOf decoded sealed pages down endOf lowestUnlawful inspectable inspected
+unfolding head front packed fieldsOf lowest highest within between meetsRules isPageOf table.torn inBounds tested tabulate fateOf imagesOf notBy effective versionsOf tokenOf decoded sealed pages down endOf lowestUnlawful inspectable inspected
 foreign-lawful = refl
 
 pub any-sheet-met : heard (off foreign) (events 2 1 (opened 0 ∷ does (test 2) ∷ does (decide 1 true) ∷ []))
     ≡ inNumbers (some (Opened 2 2) ∷ some (Told 1 0) ∷ some (Refused 11 0) ∷ [])
-unfolding head front packed fieldsOf lowest highest within between meetsRules isPageOf table.torn inBounds tested tabulate fateOf outcomeOf imagesOf versionsOf tokenOf decoded sealed pages down endOf undecidedOf modelHeard
+unfolding head front packed fieldsOf lowest highest within between meetsRules isPageOf table.torn inBounds tested tabulate fateOf outcomeOf imagesOf notBy effective versionsOf tokenOf decoded sealed pages down endOf undecidedOf modelHeard
 any-sheet-met = promised 2 1 .any-sheet foreign (events 2 1 (opened 0 ∷ does (test 2) ∷ does (decide 1 true) ∷ [])) refl refl foreign-lawful (is-run 2 1 (opened 0 ∷ does (test 2) ∷ does (decide 1 true) ∷ []) refl .allowed) ∙ refl

@@ -4,6 +4,7 @@ pub mod ModelRuns
 pub mod CutEffects
 pub mod Origins
 pub mod Seen
+pub mod Overtaking
 pub mod Reserved
 pub mod Fallen
 pub mod AnySheets

@@ -3,6 +3,7 @@ pub mod Logs
 pub mod Chains
 pub mod Appends
 pub mod Versions
+pub mod Newest
 pub mod Outcomes
 pub mod Fates
 pub mod Histories

@@ -6,6 +6,7 @@ pub mod Lookups
 pub mod LogFolds
 pub mod Outcomes
 pub mod HighestStart
+pub mod Effective
 pub mod WalkDown
 pub mod Held
 pub mod Leaves

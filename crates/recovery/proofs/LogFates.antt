@@ -9,6 +9,7 @@ use native.Mathlib.Omega.{arith}
 use lib.Dec.{eqb}
 use Rattle.recovery.specs.Log.{Fate, unknown, undecided, committed, aborted, Placed, verdict, tokenStep, versionsOf, tokenOf, isUndecided}
 use Rattle.recovery.specs.World.{fateNumber}
+use Rattle.recovery.proofs.Effective.{Each}
 
 -- ---- fates
 
@@ -35,8 +36,7 @@ verdict-known false = omega arith
 
 -- each has at least this fate
 abbrev pub All : ℕ → (ℕ → Fate) → List Placed → Type 0
-All n φ [] = Unit {0}
-All n φ (x ∷ xs) = (n ≤ fateNumber (φ (x .image .action))) × All n φ xs
+All n φ = Each (λ x. n ≤ fateNumber (φ (x .image .action)))
 
 abbrev pub rest : List Placed → List Placed
 rest [] = []

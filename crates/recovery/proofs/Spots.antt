@@ -10,9 +10,10 @@ use lib.Dec.{eqb}
 use borrow.Author.Tests.{eqb-true, eqb-false, eq-eqb, ne-eqb}
 use Rattle.encoding.proofs.Logic.{by-test}
 use Rattle.recovery.specs.Places.{nth}
-use Rattle.recovery.specs.Log.{Entry, blank, torn, bad, opening, image, outcome, Fate, unknown, undecided, committed, aborted, Placed, imagesOf, versionsStep, tokenStep, versionsOf, currentOf, tokenOf}
+use Rattle.recovery.specs.Log.{Entry, blank, torn, bad, opening, image, outcome, Fate, unknown, undecided, committed, aborted, Placed, imagesOf, effectiveOf, tokenStep, versionsOf, currentOf, tokenOf}
 use Rattle.recovery.specs.World.{down}
 use Rattle.recovery.proofs.Pages.{length-down}
+use Rattle.recovery.proofs.Effective.{Each, each-effective, each-version}
 
 -- the page at a place
 abbrev pub entryIn : List Entry → ℕ → Entry
@@ -42,8 +43,7 @@ pub record Spot (l : List Entry) (f : ℕ) (x : Placed) : Type 0 where
   pub high : x .place ≤ length l
 
 abbrev pub Spots : List Entry → ℕ → List Placed → Type 0
-Spots l f [] = Unit {0}
-Spots l f (x ∷ xs) = Spot l f x × Spots l f xs
+Spots l f = Each (Spot l f)
 
 spots-cons : (g : Entry) (l : List Entry) (f : ℕ) (xs : List Placed) → Spots l f xs → Spots (g ∷ l) f xs
 spots-cons g l f [] h = tt
@@ -57,43 +57,36 @@ spots-cons g l f (x ∷ xs) h = (
   spots-cons g l f xs (h .1),
 )
 
-pub spots : (l : List Entry) (f : ℕ) → Spots l f (imagesOf l f)
+pub image-spots : (l : List Entry) (f : ℕ) → Spots l f (imagesOf l f)
 unfolding imagesOf
-spots [] f = tt
-spots (blank ∷ l) f = spots-cons blank l f (imagesOf l f) (spots l f)
-spots (torn ∷ l) f = spots-cons torn l f (imagesOf l f) (spots l f)
-spots (bad ∷ l) f = spots-cons bad l f (imagesOf l f) (spots l f)
-spots (opening ∷ l) f = spots-cons opening l f (imagesOf l f) (spots l f)
-spots (outcome b c ∷ l) f = spots-cons (outcome b c) l f (imagesOf l f) (spots l f)
-spots (image i ∷ l) f = by-test (Spots (image i ∷ l) f) (eqb (i .file) f)
+image-spots [] f = tt
+image-spots (blank ∷ l) f = spots-cons blank l f (imagesOf l f) (image-spots l f)
+image-spots (torn ∷ l) f = spots-cons torn l f (imagesOf l f) (image-spots l f)
+image-spots (bad ∷ l) f = spots-cons bad l f (imagesOf l f) (image-spots l f)
+image-spots (opening ∷ l) f = spots-cons opening l f (imagesOf l f) (image-spots l f)
+image-spots (outcome b c ∷ l) f = spots-cons (outcome b c) l f (imagesOf l f) (image-spots l f)
+image-spots (image i ∷ l) f = by-test (Spots (image i ∷ l) f) (eqb (i .file) f)
     (λ e. (
       record { here = entry-top (image i) l; mine = eqb-true (i .file) f e; low = omega arith; high = omega arith },
-      spots-cons (image i) l f (imagesOf l f) (spots l f),
+      spots-cons (image i) l f (imagesOf l f) (image-spots l f),
     ))
-    (λ e. spots-cons (image i) l f (imagesOf l f) (spots l f))
+    (λ e. spots-cons (image i) l f (imagesOf l f) (image-spots l f))
+
+-- and its effective ones
+pub spots : (l : List Entry) (f : ℕ) → Spots l f (effectiveOf l f)
+spots l f = each-effective (Spot l f) (imagesOf l f) (image-spots l f)
 
 -- the pages of a history
 abbrev pub Lies : List Entry → ℕ → Option Placed → Type 0
 Lies l f none = Unit {0}
 Lies l f (some x) = Spot l f x
 
-pub versions-lie : (l : List Entry) (f : ℕ) (φ : ℕ → Fate) (xs : List Placed) → Spots l f xs → Spots l f (versionsOf φ xs)
-unfolding versionsOf
-versions-lie l f φ [] h = tt
-versions-lie l f φ (x ∷ xs) h = go (φ (x .image .action)) (versions-lie l f φ xs (h .1))
-  where
-    go : (q : Fate) → Spots l f (versionsOf φ xs) → Spots l f (versionsStep q x (versionsOf φ xs))
-    go unknown r = r
-    go undecided r = r
-    go committed r = (h .0, r)
-    go aborted r = r
-
 first-lies : (l : List Entry) (f : ℕ) (xs : List Placed) → Spots l f xs → Lies l f (head? xs)
 first-lies l f [] h = tt
 first-lies l f (x ∷ xs) h = h .0
 
 pub current-of-lies : (l : List Entry) (f : ℕ) (φ : ℕ → Fate) (xs : List Placed) → Spots l f xs → Lies l f (currentOf φ xs)
-current-of-lies l f φ xs h = first-lies l f (versionsOf φ xs) (versions-lie l f φ xs h)
+current-of-lies l f φ xs h = first-lies l f (versionsOf φ xs) (each-version (Spot l f) φ xs h)
 
 pub token-of-lies : (l : List Entry) (f : ℕ) (φ : ℕ → Fate) (xs : List Placed) → Spots l f xs → Lies l f (tokenOf φ xs)
 unfolding tokenOf

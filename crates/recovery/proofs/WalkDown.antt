@@ -16,11 +16,12 @@ use Rattle.page.specs.declared.Sought.{Sought}
 use Rattle.page.specs.Layout.{pageSize}
 use Rattle.page.specs.Answers.{tested, imageOfFile}
 use Rattle.recovery.specs.Places.{nth}
-use Rattle.recovery.specs.Log.{Entry, blank, torn, bad, opening, image, outcome, Fate, unknown, undecided, committed, aborted, Placed, imagesOf, versionsOf, currentOf, tokenOf, placeOf, startOf}
+use Rattle.recovery.specs.Log.{Entry, blank, torn, bad, opening, image, outcome, Fate, unknown, undecided, committed, aborted, Placed, imagesOf, notBy, effective, effectiveOf, versionsOf, currentOf, tokenOf, placeOf, startOf}
 use Rattle.recovery.specs.Sheet.{pageBytes, entryOf, imageFrom, isOpening, seal, decoded, sealed, pages}
 use Rattle.recovery.specs.World.{down, rebuiltRow, fateFrom, fateIn}
 use Rattle.recovery.specs.Steps.{countedFate, rowFromPages}
 use Rattle.recovery.specs.declared.Row.{Row}
+use Rattle.recovery.proofs.Effective.{versions-notBy, token-notBy}
 use Rattle.recovery.proofs.Pages.{sealed-is}
 use Rattle.recovery.proofs.LogFolds.{one-more, from-end}
 
@@ -41,7 +42,7 @@ addPage φ file p (image i) r = cond (eqb (i .file) file) (addImage (φ (i .acti
 addPage φ file p (outcome a c) r = r
 
 row-cons : (g : Entry) (l : List Entry) (φ : ℕ → Fate) (f : ℕ) → rebuiltRow (g ∷ l) φ f ≡ addPage φ f (suc (length l)) g (rebuiltRow l φ f)
-unfolding imagesOf versionsOf tokenOf
+unfolding imagesOf effective versionsOf tokenOf
 row-cons blank l φ f = refl
 row-cons torn l φ f = refl
 row-cons bad l φ f = refl
@@ -55,13 +56,16 @@ row-cons (image i) l φ f = go (eqb (i .file) f)
     rowOf : List Placed → Row
     rowOf xs = record { mark = 1; current = placeOf (currentOf φ xs); currentend = startOf (currentOf φ xs); token = placeOf (tokenOf φ xs); tokenend = startOf (tokenOf φ xs) }
 
-    new : (q : Fate) → φ (i .action) ≡ q → rowOf (x ∷ imagesOf l f) ≡ addImage q (suc (length l)) (i .start) (rebuiltRow l φ f)
-    new unknown e = rw e
-    new undecided e = rw e
-    new committed e = rw e
-    new aborted e = rw e
+    others : List Placed
+    others = notBy (i .action) (effectiveOf l f)
 
-    go : (b : Bool) → rowOf (cond b (x ∷ imagesOf l f) (imagesOf l f)) ≡ cond b (addImage (φ (i .action)) (suc (length l)) (i .start) (rebuiltRow l φ f)) (rebuiltRow l φ f)
+    new : (q : Fate) → φ (i .action) ≡ q → rowOf (x ∷ others) ≡ addImage q (suc (length l)) (i .start) (rebuiltRow l φ f)
+    new unknown e = rw (e, versions-notBy φ (i .action) (λ z. clash cc) (effectiveOf l f), token-notBy φ (i .action) (λ z. clash cc) (λ z. clash cc) (effectiveOf l f))
+    new undecided e = rw (e, versions-notBy φ (i .action) (λ z. clash cc) (effectiveOf l f))
+    new committed e = rw e
+    new aborted e = rw (e, versions-notBy φ (i .action) (λ z. clash cc) (effectiveOf l f), token-notBy φ (i .action) (λ z. clash cc) (λ z. clash cc) (effectiveOf l f))
+
+    go : (b : Bool) → rowOf (effective (cond b (x ∷ imagesOf l f) (imagesOf l f))) ≡ cond b (addImage (φ (i .action)) (suc (length l)) (i .start) (rebuiltRow l φ f)) (rebuiltRow l φ f)
     go true = new (φ (i .action)) refl
     go false = refl
 
@@ -212,7 +216,7 @@ module _ (t v w p st : ℕ) (r : Row) where
 -- the end of the walk
 pub over-end : (files : ℕ) (s fs : List ℕ) (file p t v : ℕ) → p ≤ 0 → (t ≡ 0 → v ≡ 0)
     → record { mark = 1; current = 0; currentend = 0; token = t; tokenend = v } ≡ overlay t v (rowTo files s fs file p)
-unfolding overlay rowFromPages down imagesOf versionsOf tokenOf
+unfolding overlay rowFromPages down imagesOf effective versionsOf tokenOf
 over-end files s fs file (suc p) t v l h = absurd (omega arith)
 over-end files s fs file zero t v l h = go (eqb t 0) refl
   where

@@ -82,7 +82,21 @@ unfoldable pub imagesOf : List Entry → ℕ → List Placed
 imagesOf [] f = []
 imagesOf (g ∷ l) f = imagesStep g (suc (length l)) f (imagesOf l f)
 
--- ---- a file's versions, those of its images whose action is committed, the newest first: its history
+-- ---- its effective images: what an action does to a file is its newest image there (last write wins), which overtakes the older ones
+
+-- those of other actions
+unfoldable pub notBy : ℕ → List Placed → List Placed
+notBy a [] = []
+notBy a (x ∷ xs) = cond (eqb (x .image .action) a) (notBy a xs) (x ∷ notBy a xs)
+
+unfoldable pub effective : List Placed → List Placed
+effective [] = []
+effective (x ∷ xs) = x ∷ notBy (x .image .action) (effective xs)
+
+abbrev pub effectiveOf : List Entry → ℕ → List Placed
+effectiveOf l f = effective (imagesOf l f)
+
+-- ---- a file's versions, those of its effective images whose action is committed, the newest first: its history
 
 abbrev pub versionsStep : Fate → Placed → List Placed → List Placed
 versionsStep unknown x xs = xs

@@ -7,7 +7,7 @@ use lib.ListN.{length, getD}
 use lib.Dec.{eqb, leb}
 use Rattle.page.specs.Layout.{mostPlaces, mostFiles}
 use Rattle.recovery.specs.Places.{nth, put, tabulate}
-use Rattle.recovery.specs.Log.{Entry, blank, torn, bad, opening, image, outcome, Fate, unknown, undecided, committed, aborted, fateOf, outcomeOf, imagesOf, currentOf, tokenOf, placeOf, startOf}
+use Rattle.recovery.specs.Log.{Entry, blank, torn, bad, opening, image, outcome, Fate, unknown, undecided, committed, aborted, fateOf, outcomeOf, effectiveOf, currentOf, tokenOf, placeOf, startOf}
 use Rattle.recovery.specs.declared.Row.{Row}
 use Rattle.recovery.specs.declared.Answer.{Answer}
 use Rattle.recovery.specs.declared.Answer.the-variants.{Refused, Opened, Rebuilt}
@@ -75,10 +75,10 @@ cold = record { mark = 0; current = 0; currentend = 0; token = 0; tokenend = 0 }
 abbrev pub rebuiltRow : List Entry → (ℕ → Fate) → ℕ → Row
 rebuiltRow l φ f = record {
   mark = 1;
-  current = placeOf (currentOf φ (imagesOf l f));
-  currentend = startOf (currentOf φ (imagesOf l f));
-  token = placeOf (tokenOf φ (imagesOf l f));
-  tokenend = startOf (tokenOf φ (imagesOf l f));
+  current = placeOf (currentOf φ (effectiveOf l f));
+  currentend = startOf (currentOf φ (effectiveOf l f));
+  token = placeOf (tokenOf φ (effectiveOf l f));
+  tokenend = startOf (tokenOf φ (effectiveOf l f));
 }
 
 abbrev pub rowAt : World → ℕ → Row

@@ -23,6 +23,7 @@ pub use rebuilding::rebuild;
 pub use rebuilding::rebuilt_row;
 pub use rebuilding::row_holds_by;
 pub use rebuilding::warm_row;
+pub use rolling::later;
 pub use rolling::raised_row;
 pub use rows::file_count;
 pub use rows::has_file;

@@ -3,7 +3,7 @@ use Prim.Native.Nat.{ℕ, _<_}
 use mathlib.Core.Path.{_≡_, refl, sym, ap, _∙_, subst}
 use mathlib.Core.List.{List, [], _∷_, map, head?}
 use mathlib.Core.Bool.{false}
-use Rattle.recovery.specs.Log.{Placed, fateOf, imagesOf}
+use Rattle.recovery.specs.Log.{Placed, fateOf, effectiveOf}
 use Rattle.inspection.specs.Lawful.{versions}
 use Rattle.promises.specs.Runs.{Box, Event, after, runs, AllAllowed, blankBox, Run}
 use Rattle.promises.specs.Model.{since, Model, blankModel, modelAfter, modelRuns}
@@ -33,7 +33,7 @@ module _ (n files : ℕ) where
 
   falls-at : (b : Box) (k : Reached n files b) (file : ℕ) → Falls (k .model .object file .history)
   falls-at b k file =
-      subst Falls (sym (k .at .says .history file)) (falls-in (versions (k .log) file) (versions-ordered (fateOf (k .log)) (imagesOf (k .log) file) (chain (k .log) file (k .at .holds .lawful))))
+      subst Falls (sym (k .at .says .history file)) (falls-in (versions (k .log) file) (versions-ordered (fateOf (k .log)) (effectiveOf (k .log) file) (chain (k .log) file (k .at .holds .lawful))))
 
   pub fallen : (es : List Event) (file : ℕ) → Run n files es → Falls (modelRuns false (blankModel n files) es .object file .history)
   fallen es file r =

@@ -186,7 +186,7 @@ module _ (n files : ℕ) (es : List Event) (r : Run n files es) where
   none-shows : (action : ℕ) → ((p : ℕ) → answerTo box (calls (test action)) ≡ some (Told 2 p) → ⊥) → NoneShows n files box action
   none-shows action h file time reader place start size i other here mine e =
       let v = box-shows n files box m file time reader place start size (answered box (calls (read file time reader)) (Value place start size) e) in
-      let a : v .seen .action ≡ action = ap (λ (x : Image). x .action) (image-same (sym (v .here) ∙ here)) ∙ mine in
+      let a : v .seen .action ≡ action = ap (λ (x : Image). x .action) (image-same (sym (v .effective .here) ∙ here)) ∙ mine in
       let w = v .whose (λ q. other (sym q ∙ a)) .2 in
       h (w .0) (subst (λ x. answerTo box (calls (test x)) ≡ some (Told 2 (w .0))) a (answered box (calls (test (v .seen .action))) (Told 2 (w .0)) (w .1)))
 
@@ -209,14 +209,14 @@ module _ (n files : ℕ) (es : List Event) (r : Run n files es) where
   run-was-written file time reader place start size e =
       let v = box-shows n files box m file time reader place start size e in
       let i = v .seen in
-      let a = origin n files es r place (image i) (solid-image i) (v .here) in
+      let a = origin n files es r place (image i) (solid-image i) (v .effective .here) in
       let d : Did n files es (write (i .file) (i .start) (i .action) (i .value)) place =
       subst (λ c. Did n files es c place) (call-image (a .adds .by) i (a .adds .page)) (did n files es place (image i) a) in
       record {
         writer = i .action;
         value = i .value;
         wrote = subst (λ x. Did n files es (write x start (i .action) (i .value)) place) (v .is .0) (subst (λ x. Did n files es (write (i .file) x (i .action) (i .value)) place) (v .is .1) d);
-        bytes = ap (λ x. take x (valueIn (pageBytes (sheetOf box) place))) (sym (v .is .2)) ∙ value-bytes files (sheetOf box) place i (v .here);
+        bytes = ap (λ x. take x (valueIn (pageBytes (sheetOf box) place))) (sym (v .is .2)) ∙ value-bytes files (sheetOf box) place i (v .effective .here);
         long = sym (v .is .2);
         whose = λ o. v .whose o .2;
       }

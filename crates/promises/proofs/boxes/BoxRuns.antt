@@ -14,7 +14,7 @@ use Rattle.page.specs.Layout.{pageSize}
 use Rattle.page.specs.Answers.{tested}
 use Rattle.page.proofs.Rules.{are-in-bounds}
 use Rattle.recovery.specs.Places.{nth}
-use Rattle.recovery.specs.Log.{Entry, blank, fateOf, imagesOf, versionsOf, tokenOf}
+use Rattle.recovery.specs.Log.{Entry, blank, fateOf, imagesOf, effective, versionsOf, tokenOf}
 use Rattle.recovery.specs.Sheet.{pageBytes, entryOf, decoded, seal, sealed, pages}
 use Rattle.recovery.specs.World.{sizes, down}
 use Rattle.recovery.proofs.Pages.{page-at-place, pages-long}
@@ -115,7 +115,7 @@ module _ (n files : ℕ) where
         List·getD-eq-default (pages files n (replicate (pageSize * n) 0)) blank (omega (arith, pages-long files n (replicate (pageSize * n) 0), leb-false (suc q) n e))
 
     pub blank-at : At n files (blankBox n) [] (blankModel n files)
-    unfolding down fateOf imagesOf versionsOf tokenOf
+    unfolding down fateOf imagesOf effective versionsOf tokenOf
     blank-at = record {
       sized = sz;
       long = length-replicate (pageSize * n) 0;

@@ -1,4 +1,4 @@
--- Whole or not at all, of a box that a run has reached: a committed action shows all its versions, any other none outside itself.
+-- Whole or not at all, of a box that a run has reached: a committed action shows its effective images, any other none outside itself.
 use Prim.Native.Nat.{ℕ, zero, suc, _≤_, _<_}
 use mathlib.Core.Path.{_≡_, refl, sym, ap, _∙_, subst}
 use mathlib.Core.Bool.{Bool, true, false}
@@ -15,11 +15,11 @@ use Rattle.recovery.specs.declared.Answer.{Answer}
 use Rattle.recovery.specs.declared.Answer.the-variants.{Value, Nothing, Told}
 use Rattle.recovery.specs.Lent.{Left}
 use Rattle.calls.specs.Calls.{read, test, call}
-use Rattle.promises.specs.Runs.{Box, on, off, sheetOf, calls, callOn, answerTo}
-use Rattle.promises.specs.Promises.{IsVersion, Shown}
+use Rattle.promises.specs.Runs.{Box, on, off, calls, callOn, answerTo}
+use Rattle.promises.specs.Promises.{IsEffective, IsVersion, Shown}
 use Rattle.promises.proofs.logs.Fates.{same-fate}
 use Rattle.promises.proofs.worlds.Sim.{fate-eq}
-use Rattle.promises.proofs.worlds.Shown.{committed-shown, own-shown}
+use Rattle.promises.proofs.worlds.Shown.{Effective, committed-shown, own-shown}
 use Rattle.promises.proofs.worlds.Visible.{Whose, shared, own, read-shows, read-none}
 use Rattle.promises.proofs.bytes.Replaced.{unsealed, bad-image, lies-below, Below}
 use Rattle.promises.proofs.boxes.Boxes.{worldIn, Reached, sim, world-says, end-is, page-in, page-lies}
@@ -27,6 +27,21 @@ use Rattle.promises.proofs.answers.Heard.{answered, hears}
 use Rattle.promises.proofs.boxes.Found.{some-is, not-heard, test-tells, told-fate}
 
 module _ (n files : ℕ) where
+  module _ (m : Left) (r : Reached n files (on m)) where
+    -- a place that the world has an image at
+    place-in : (p : ℕ) (i : Image) → entryAt (worldIn n files m) p ≡ image i → (1 ≤ p) × (p ≤ n)
+    place-in zero i e = clash cc
+    place-in (suc q) i e = go (leb (suc q) (m .state .end)) refl
+      where
+        go : (b : Bool) → leb (suc q) (m .state .end) ≡ b → (1 ≤ suc q) × (suc q ≤ n)
+        go true k = (omega arith, omega (arith, leb-true (suc q) (m .state .end) k, end-is n files m r, r .at .holds .room))
+        go false k =
+            let z : image i ≡ blank = sym e ∙ sim n files m r .clean (suc q) (leb-false (suc q) (m .state .end) k) in
+            clash cc
+
+    world-page : (p : ℕ) (i : Image) → entryAt (worldIn n files m) p ≡ image i → sealed files (m .sheet) p ≡ image i
+    world-page p i e = let k = place-in p i e in sym (page-in n files (m .sheet) p (k .0) (k .1)) ∙ e
+
   -- an image of the box, where its world has it
   module _ (m : Left) (r : Reached n files (on m)) (place : ℕ) (i : Image) (e : sealed files (m .sheet) place ≡ image i) where
     abbrev w : World
@@ -62,22 +77,31 @@ module _ (n files : ℕ) where
         ap fateNumber (fate-eq w (r .log) (r .model) (sim n files m r) (i .action))
         ∙ told-fate n files (on m) r (i .action) y q (ap some t) .2
 
+  -- an effective one
+  module _ (m : Left) (r : Reached n files (on m)) (place : ℕ) (i : Image) (h : IsEffective n files (on m) place i) where
+    effective-in : Effective (worldIn n files m) place i
+    effective-in = record {
+      low = in-log m r place i (h .here);
+      here = entry-is m r place i (h .here);
+      newest = λ q j b d. h .newest q j (world-page m r q j d);
+    }
+
     all-on : (q : ℕ) → callOn m (test (i .action)) .answer ≡ Told 2 q → callOn m (read (i .file) (i .start) 0) .answer ≡ Value place (i .start) (length (i .value))
     all-on q t =
         world-says n files m r (read (i .file) (i .start) 0)
-        ∙ committed-shown w (r .log) (r .model) (sim n files m r) place i in-log entry-is file-is (same-fate (fate-is 2 q t))
+        ∙ committed-shown (worldIn n files m) (r .log) (r .model) (sim n files m r) place i effective-in (file-is m r place i (h .here)) (same-fate (fate-is m r place i (h .here) 2 q t))
 
     own-on : (q : ℕ) → callOn m (test (i .action)) .answer ≡ Told 1 q → (time : ℕ) → i .start ≤ time
         → callOn m (read (i .file) time (i .action)) .answer ≡ Value place (i .start) (length (i .value))
-    own-on q t time h =
+    own-on q t time k =
         world-says n files m r (read (i .file) time (i .action))
-        ∙ own-shown w (r .log) (r .model) (sim n files m r) place i time in-log entry-is file-is (same-fate (fate-is 1 q t)) h
+        ∙ own-shown (worldIn n files m) (r .log) (r .model) (sim n files m r) place i time effective-in (file-is m r place i (h .here)) (same-fate (fate-is m r place i (h .here) 1 q t)) k
 
-  module _ (b : Box) (r : Reached n files b) (place : ℕ) (i : Image) (e : sealed files (sheetOf b) place ≡ image i) where
+  module _ (b : Box) (r : Reached n files b) (place : ℕ) (i : Image) (e : IsEffective n files b place i) where
     pub box-all : (q : ℕ) → answerTo b (calls (test (i .action))) ≡ some (Told 2 q) → answerTo b (calls (read (i .file) (i .start) 0)) ≡ some (Value place (i .start) (length (i .value)))
     box-all = go b r e
       where
-        go : (b : Box) → Reached n files b → sealed files (sheetOf b) place ≡ image i → (q : ℕ) → answerTo b (calls (test (i .action))) ≡ some (Told 2 q)
+        go : (b : Box) → Reached n files b → IsEffective n files b place i → (q : ℕ) → answerTo b (calls (test (i .action))) ≡ some (Told 2 q)
             → answerTo b (calls (read (i .file) (i .start) 0)) ≡ some (Value place (i .start) (length (i .value)))
         go (on m) r e q t = ap some (all-on m r place i e q (some-is t))
         go (off s) r e q t = not-heard t
@@ -86,7 +110,7 @@ module _ (n files : ℕ) where
         → answerTo b (calls (read (i .file) time (i .action))) ≡ some (Value place (i .start) (length (i .value)))
     box-own = go b r e
       where
-        go : (b : Box) → Reached n files b → sealed files (sheetOf b) place ≡ image i → (q : ℕ) → answerTo b (calls (test (i .action))) ≡ some (Told 1 q) → (time : ℕ) → i .start ≤ time
+        go : (b : Box) → Reached n files b → IsEffective n files b place i → (q : ℕ) → answerTo b (calls (test (i .action))) ≡ some (Told 1 q) → (time : ℕ) → i .start ≤ time
             → answerTo b (calls (read (i .file) time (i .action))) ≡ some (Value place (i .start) (length (i .value)))
         go (on m) r e q t time h = ap some (own-on m r place i e q (some-is t) time h)
         go (off s) r e q t time h = not-heard t
@@ -94,17 +118,6 @@ module _ (n files : ℕ) where
   -- ---- what a read shows
 
   module _ (m : Left) (r : Reached n files (on m)) (f t a : ℕ) where
-    -- a place that the world has an image at
-    place-in : (p : ℕ) (i : Image) → entryAt (worldIn n files m) p ≡ image i → (1 ≤ p) × (p ≤ n)
-    place-in zero i e = clash cc
-    place-in (suc q) i e = go (leb (suc q) (m .state .end)) refl
-      where
-        go : (b : Bool) → leb (suc q) (m .state .end) ≡ b → (1 ≤ suc q) × (suc q ≤ n)
-        go true k = (omega arith, omega (arith, leb-true (suc q) (m .state .end) k, end-is n files m r, r .at .holds .room))
-        go false k =
-            let z : image i ≡ blank = sym e ∙ sim n files m r .clean (suc q) (leb-false (suc q) (m .state .end) k) in
-            clash cc
-
     committed-told : (i : Image) → Whose (worldIn n files m) a i → (i .action ≡ a → ⊥) → callOn m (test (i .action)) .answer ≡ Told 2 (outcomeOf (r .log) (i .action))
     committed-told i (shared c) o =
         let d : fateOf (r .log) (i .action) ≡ committed = sym (fate-eq (worldIn n files m) (r .log) (r .model) (sim n files m r) (i .action)) ∙ c in
@@ -117,21 +130,21 @@ module _ (n files : ℕ) where
     shows-on : (p s l : ℕ) → callOn m (read f t a) .answer ≡ Value p s l → Shown n files (on m) f t a p s l
     shows-on p s l e =
         let v = read-shows (worldIn n files m) (r .log) (r .model) (sim n files m r) f t a p s l (said (Value p s l) e) in
-        let inside : (1 ≤ p) × (p ≤ n) = place-in p (v .seen) (v .here) in
-        let here : sealed files (m .sheet) p ≡ image (v .seen) = sym (page-in n files (m .sheet) p (inside .0) (inside .1)) ∙ v .here in
-        record { seen = v .seen; here = here; is = (v .file, v .start, v .len, v .inTime, numbers m r p (v .seen) here .1); whose = λ o. (here, v .file, (outcomeOf (r .log) (v .seen .action), hears (on m) (calls (test (v .seen .action))) (Told 2 _) (ap some (committed-told (v .seen) (v .whose) o)))) }
+        let here : sealed files (m .sheet) p ≡ image (v .seen) = world-page m r p (v .seen) (v .effective .here) in
+        let top : IsEffective n files (on m) p (v .seen) = record { here = here; newest = λ q j d. v .effective .newest q j (in-log m r q j d) (entry-is m r q j d) } in
+        record { seen = v .seen; effective = top; is = (v .file, v .start, v .len, v .inTime, numbers m r p (v .seen) here .1); whose = λ o. (top, v .file, (outcomeOf (r .log) (v .seen .action), hears (on m) (calls (test (v .seen .action))) (Told 2 _) (ap some (committed-told (v .seen) (v .whose) o)))) }
 
     -- the highest start that is not above the time
     module _ (q : ℕ) (i : Image) (v : IsVersion n files (on m) f q i) where
       fate : fateAt (worldIn n files m) (i .action) ≡ committed
-      fate = same-fate (fate-is m r q i (v .0) 2 (v .2 .0) (some-is (answered (on m) (calls (test (i .action))) (Told 2 (v .2 .0)) (v .2 .1))))
+      fate = same-fate (fate-is m r q i (v .0 .here) 2 (v .2 .0) (some-is (answered (on m) (calls (test (i .action))) (Told 2 (v .2 .0)) (v .2 .1))))
 
       highest-on : (p s l : ℕ) → callOn m (read f t a) .answer ≡ Value p s l → i .start ≤ t → i .start ≤ s
       highest-on p s l e k =
-          read-shows (worldIn n files m) (r .log) (r .model) (sim n files m r) f t a p s l (said (Value p s l) e) .latest q i (in-log m r q i (v .0)) (entry-is m r q i (v .0)) (v .1) fate k
+          read-shows (worldIn n files m) (r .log) (r .model) (sim n files m r) f t a p s l (said (Value p s l) e) .latest q i (effective-in m r q i (v .0)) (v .1) fate k
 
       later-on : callOn m (read f t a) .answer ≡ Nothing → t < i .start
-      later-on e = read-none (worldIn n files m) (r .log) (r .model) (sim n files m r) f t a (said Nothing e) q i (in-log m r q i (v .0)) (entry-is m r q i (v .0)) (v .1) fate
+      later-on e = read-none (worldIn n files m) (r .log) (r .model) (sim n files m r) f t a (said Nothing e) q i (effective-in m r q i (v .0)) (v .1) fate
 
   pub box-shows : (b : Box) → Reached n files b → (f t a p s l : ℕ) → answerTo b (calls (read f t a)) ≡ some (Value p s l) → Shown n files b f t a p s l
   box-shows (on m) r f t a p s l e = shows-on m r f t a p s l (some-is e)

@@ -8,7 +8,7 @@ use native.Mathlib.Omega.{arith}
 use lib.Dec.{eqb, leb}
 use borrow.Author.Tests.{eqb-true, eq-eqb, leb-false, lt-leb}
 use Rattle.encoding.proofs.Logic.{clash}
-use Rattle.recovery.specs.Log.{Entry, undecided, Placed, fateOf, imagesOf}
+use Rattle.recovery.specs.Log.{Entry, undecided, Placed, fateOf, effectiveOf}
 use Rattle.recovery.specs.Lent.{Left}
 use Rattle.recovery.specs.Numbers.{isRefused}
 use Rattle.recovery.specs.declared.Answer.{Answer}
@@ -52,7 +52,7 @@ module _ (l : List Entry) (m : Model) (w : Lawful l) (s : Says l m) (f t : ℕ) 
   no-owner none i x e k = clash cc
   no-owner (some y) i x e k =
       let q : y .image .action ≡ 0 = ap (λ (v : Version). v .action) (same e) ∙ k in
-      let z : fateOf l 0 ≡ undecided = rw q at (token-live (fateOf l) (imagesOf l f) y i) in
+      let z : fateOf l 0 ≡ undecided = rw q at (token-live (fateOf l) (effectiveOf l f) y i) in
       not-unknown (fateOf l 0) (undecided-known z) (fate-zero l w)
     where
       same : {u v : Version} → some u ≡ some v → u ≡ v

@@ -4,7 +4,7 @@ use mathlib.Core.Path.{subst}
 use mathlib.Core.List.{List, _∷_}
 use native.Mathlib.Omega.{arith}
 use lib.ListN.{length}
-use Rattle.recovery.specs.Log.{Entry, image, outcome, fateOf, imagesOf}
+use Rattle.recovery.specs.Log.{Entry, image, outcome, fateOf, effectiveOf}
 use Rattle.recovery.specs.declared.Answer.{Answer}
 use Rattle.recovery.proofs.LogFates.{undecided-known}
 use Rattle.recovery.proofs.Lookups.{is-file}
@@ -38,7 +38,7 @@ fit {files} {k} {l} (add g h e) y = fit-add g (go k h y)
               file-high = is-file files f (h .1) .1;
               action-low = p .0;
               action-high = omega (arith, p .1);
-              link-high = omega (arith, current-high (fateOf l) l f (imagesOf l f) (spots l f));
+              link-high = omega (arith, current-high (fateOf l) l f (effectiveOf l f) (spots l f));
               start-low = omega (arith, w .0 .later);
               start-high = y;
               short = h .2;

@@ -9,11 +9,11 @@ use lib.ListN.{length}
 use lib.Dec.{eqb}
 use borrow.Author.Tests.{eqb-true, eq-eqb}
 use Rattle.encoding.proofs.Logic.{by-test}
-use Rattle.recovery.specs.Log.{Image, Entry, opening, image, outcome, Fate, unknown, undecided, committed, aborted, Placed, verdict, fateOf, imagesOf, tokenStep, versionsOf, tokenOf}
+use Rattle.recovery.specs.Log.{Image, Entry, opening, image, outcome, Fate, unknown, undecided, committed, aborted, Placed, verdict, fateOf, imagesOf, effective, effectiveOf, tokenStep, versionsOf, tokenOf}
 use Rattle.recovery.proofs.LogFates.{versions-keep, decided-free}
 use Rattle.inspection.specs.Lawful.{versions, current, token}
 use Rattle.promises.proofs.logs.Logs.{ImageFits, Lawful, Known, Keeps, not-undecided, not-unknown, fate-above}
-use Rattle.promises.proofs.logs.Chains.{Chain, decided-keeps, token-keeps, chain}
+use Rattle.promises.proofs.logs.Chains.{Chain, decided-keeps, token-keeps, same-versions, chain}
 
 -- fates that agree wherever they are known
 abbrev Agree : (ℕ → Fate) → (ℕ → Fate) → Type 0
@@ -41,24 +41,24 @@ opening-agree l w a d = by-test (λ (x : Fate). x ≡ fateOf l a) (eqb a (suc (l
 
 pub opening-versions : (l : List Entry) (f : ℕ) → Lawful l → versions (opening ∷ l) f ≡ versions l f
 unfolding imagesOf
-opening-versions l f w = versions-agree (fateOf l) (fateOf (opening ∷ l)) (imagesOf l f) (opening-agree l w) (chain l f w)
+opening-versions l f w = versions-agree (fateOf l) (fateOf (opening ∷ l)) (effectiveOf l f) (opening-agree l w) (chain l f w)
 
 pub opening-token : (l : List Entry) (f : ℕ) → Lawful l → token (opening ∷ l) f ≡ token l f
 unfolding imagesOf
-opening-token l f w = token-agree (fateOf l) (fateOf (opening ∷ l)) (imagesOf l f) (opening-agree l w) (chain l f w)
+opening-token l f w = token-agree (fateOf l) (fateOf (opening ∷ l)) (effectiveOf l f) (opening-agree l w) (chain l f w)
 
 -- an image becomes its file's token
 pub image-versions : (i : Image) (l : List Entry) (f : ℕ) → ImageFits i l → versions (image i ∷ l) f ≡ versions l f
-unfolding imagesOf fateOf versionsOf
-image-versions i l f h = by-test (λ xs. versionsOf (fateOf l) xs ≡ versions l f) (eqb (i .file) f)
-    (λ e. rw (h .live)) (λ e. refl)
+unfolding imagesOf effective fateOf versionsOf
+image-versions i l f h = by-test (λ xs. versionsOf (fateOf l) (effective xs) ≡ versions l f) (eqb (i .file) f)
+    (λ e. rw (h .live) (same-versions (fateOf l) (i .action) (h .live) (effectiveOf l f))) (λ e. refl)
 
 pub image-token : (i : Image) (l : List Entry) (f : ℕ) → ImageFits i l
     → token (image i ∷ l) f ≡ cond (eqb (i .file) f) (some (record { place = suc (length l); image = i })) (token l f)
-unfolding imagesOf fateOf tokenOf
+unfolding imagesOf effective fateOf tokenOf
 image-token i l f h = go (eqb (i .file) f)
   where
-    go : (b : Bool) → tokenOf (fateOf l) (cond b (record { place = suc (length l); image = i } ∷ imagesOf l f) (imagesOf l f))
+    go : (b : Bool) → tokenOf (fateOf l) (effective (cond b (record { place = suc (length l); image = i } ∷ imagesOf l f) (imagesOf l f)))
         ≡ cond b (some (record { place = suc (length l); image = i })) (token l f)
     go true = rw (h .live)
     go false = refl
@@ -138,7 +138,7 @@ turn-token a c φ (x ∷ xs) h w = go (eqb (x .image .action) a) refl c
 pub outcome-versions : (a : ℕ) (c : Bool) (l : List Entry) (f : ℕ) → fateOf l a ≡ undecided → Lawful l
     → versions (outcome a c ∷ l) f ≡ cond (owns a (token l f)) (longer c (token l f) (versions l f)) (versions l f)
 unfolding imagesOf fateOf
-outcome-versions a c l f h w = turn-versions a c (fateOf l) (imagesOf l f) h (chain l f w)
+outcome-versions a c l f h w = turn-versions a c (fateOf l) (effectiveOf l f) h (chain l f w)
 
 first-longer : (a : ℕ) (c : Bool) (z : Option Placed) (vs : List Placed)
     → head? (cond (owns a z) (longer c z vs) vs) ≡ cond (owns a z) (cond c z (head? vs)) (head? vs)
@@ -157,4 +157,4 @@ outcome-current a c l f h w = ap head? (outcome-versions a c l f h w) ∙ first-
 pub outcome-token : (a : ℕ) (c : Bool) (l : List Entry) (f : ℕ) → fateOf l a ≡ undecided → Lawful l
     → token (outcome a c ∷ l) f ≡ cond (owns a (token l f)) none (token l f)
 unfolding imagesOf fateOf
-outcome-token a c l f h w = turn-token a c (fateOf l) (imagesOf l f) h (chain l f w)
+outcome-token a c l f h w = turn-token a c (fateOf l) (effectiveOf l f) h (chain l f w)

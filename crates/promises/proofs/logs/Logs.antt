@@ -2,18 +2,18 @@
 use mathlib.Core.Path.{_≡_, refl}
 use mathlib.Core.List.{List, [], _∷_}
 use mathlib.Core.Bool.{Bool, true, false, false≢true}
-use mathlib.Core.Option.{Option, some, none}
+use mathlib.Core.Option.{none}
 use Prim.Native.Nat.{ℕ, suc, _≤_, _<_}
 use native.Mathlib.Omega.{arith}
 use lib.ListN.{length}
 use lib.Dec.{eqb}
 use borrow.Author.Tests.{eqb-true, ltb-true, eq-eqb, lt-ltb}
 use Rattle.encoding.proofs.Logic.{by-test, and-true}
-use Rattle.recovery.specs.Log.{Image, Entry, blank, torn, bad, opening, image, outcome, Fate, unknown, undecided, committed, aborted, Placed, verdict, fateOf, placeOf, startOf}
+use Rattle.recovery.specs.Log.{Image, Entry, blank, torn, bad, opening, image, outcome, Fate, unknown, undecided, committed, aborted, verdict, fateOf, placeOf, startOf}
 use Rattle.recovery.specs.World.{fateNumber}
 use Rattle.recovery.proofs.LogFates.{undecided-is}
 use Rattle.recovery.proofs.Spots.{entryIn}
-use Rattle.inspection.specs.Lawful.{current, token, isNone, fitsBelow, lawful}
+use Rattle.inspection.specs.Lawful.{current, token, isFreeFor, fitsBelow, lawful}
 use Rattle.inspection.proofs.LowestUnlawful.{lawful-parts, lawful-more, lawful-none}
 use Rattle.inspection.proofs.LawfulLogs.{fate-place, fate-opens}
 use Rattle.inspection.proofs.LawfulLogs as lawfulLogs
@@ -22,7 +22,7 @@ use Rattle.inspection.proofs.LawfulLogs as lawfulLogs
 
 pub record ImageFits (i : Image) (l : List Entry) : Type 0 where
   pub live : fateOf l (i .action) ≡ undecided
-  pub free : token l (i .file) ≡ none
+  pub free : isFreeFor (i .action) (token l (i .file)) ≡ true
   pub links : i .link ≡ placeOf (current l (i .file))
   pub later : startOf (current l (i .file)) < i .start
 
@@ -39,10 +39,6 @@ Lawful [] = Unit {0}
 Lawful (g ∷ l) = Fits g l × Lawful l
 
 -- ---- and as the test of inspection: the two say the same
-
-none-is : (z : Option Placed) → isNone z ≡ true → z ≡ none
-none-is none e = refl
-none-is (some x) e = absurd (false≢true e)
 
 pub fits-test : (g : Entry) (l : List Entry) → Fits g l → fitsBelow g l ≡ true
 fits-test blank l h = absurd h
@@ -64,7 +60,7 @@ test-fits (image i) l h =
     let c = and-true _ _ (b .0) in
     record {
       live = undecided-is (fateOf l (i .action)) (c .0);
-      free = none-is (token l (i .file)) (c .1);
+      free = c .1;
       links = eqb-true (i .link) (placeOf (current l (i .file))) (b .1);
       later = ltb-true (startOf (current l (i .file))) (i .start) (a .1);
     }

@@ -14,7 +14,7 @@ use Rattle.page.specs.Layout.{valueSize, kindAt, markAt}
 use Rattle.recovery.specs.declared.Answer.{Answer}
 use Rattle.recovery.specs.declared.Answer.the-variants.{Stored, Told}
 use Rattle.calls.specs.Calls.{Call, begin, write, read, test, decide, rebuild}
-use Rattle.promises.specs.Model.{Version, object, Status, pending, committed, aborted, Model, Reply, newest, since, shows, refuses, changed, withObject, stores, stored, hasRoom, ofFile, ofPending, writing, readHistory, reading, testing, decidedAs, deciding, modelCall, modelCut}
+use Rattle.promises.specs.Model.{Version, object, Status, pending, committed, aborted, Model, Reply, newest, since, shows, refuses, changed, withObject, stores, stored, hasRoom, ofFile, ofPending, isFreeFor, actionOf, readHistory, reading, testing, decidedAs, deciding, modelCall, modelCut}
 use Rattle.promises.proofs.worlds.LogSays.{currentEnd, given, left}
 
 module _ (P : Reply → Type 0) (m : Model) (no : (n p : ℕ) → P (refuses n p m)) where
@@ -34,11 +34,11 @@ module _ (P : Reply → Type 0) (m : Model) (no : (n p : ℕ) → P (refuses n p
   pub writes : (f start a : ℕ) (v : List ℕ)
       → (currentEnd (m .object f) < start → m .floor < start → hasRoom m (m .undecided + 1) ≡ true → P (stored m (m .undecided) (m .status) (changed (m .object) f (given m f start a v))))
       → P (modelCall m (write f start a v))
-  writes f start a v h = of-file f _ (by-test P (leb (length v) valueSize) (λ e. of-pending (m .status a) _ (go (m .object f .token))) (λ e. no 4 0))
+  writes f start a v h = of-file f _ (by-test P (leb (length v) valueSize) (λ e. of-pending (m .status a) _ (by-test P (isFreeFor a (m .object f .token)) (λ q. timely) (λ q. no 8 (actionOf (m .object f .token))))) (λ e. no 4 0))
     where
-      go : (z : Option Version) → P (writing m f start a v (m .object f) z)
-      go (some x) = no 8 (x .action)
-      go none =
+      timely : P (cond (ltb (since (newest (m .object f .history))) start && ltb (m .object f .asked) start && ltb (m .floor) start)
+          (cond (hasRoom m (m .undecided + 1)) (stored m (m .undecided) (m .status) (changed (m .object) f (given m f start a v))) (refuses 11 0 m)) (refuses 10 0 m))
+      timely =
           by-test P (ltb (since (newest (m .object f .history))) start && ltb (m .object f .asked) start && ltb (m .floor) start)
           (λ e.
           let b = and-true (ltb (since (newest (m .object f .history))) start && ltb (m .object f .asked) start) (ltb (m .floor) start) e in

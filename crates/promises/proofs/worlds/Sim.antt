@@ -13,7 +13,7 @@ use borrow.Author.Tests.{eqb-true, eqb-false, eq-eqb, ne-eqb, le-leb}
 use Rattle.encoding.proofs.Logic.{bool-ext, and-true, clash}
 use Rattle.page.specs.Layout.{valueSize}
 use Rattle.recovery.specs.Places.{nth, put}
-use Rattle.recovery.specs.Log.{Entry, blank, opening, image, outcome, Fate, unknown, undecided, committed, aborted, Placed, fateOf, imagesOf, placeOf}
+use Rattle.recovery.specs.Log.{Entry, blank, opening, image, outcome, Fate, unknown, undecided, committed, aborted, Placed, fateOf, effectiveOf, placeOf}
 use Rattle.recovery.specs.World.{World, Result, refuse, entryAt, down, logOf, fateNumber, fateIn, fateAt, sizes, cold, rebuiltRow, rowAt, withRow, warmRow, placeHolds, rowHolds, lentRight, isFile, isBlank, fatesOf}
 use Rattle.recovery.specs.declared.Row.{Row}
 use Rattle.recovery.specs.declared.Answer.{Answer}
@@ -100,10 +100,10 @@ module _ {files : ℕ} {k : Call} {l : List Entry} where
   refused n p p′ q s = answers (λ r e. clash cc) (ap (Refused n) q) s
 
 pub current-lies : (l : List Entry) (f : ℕ) → Lies l f (current l f)
-current-lies l f = current-of-lies l f (fateOf l) (imagesOf l f) (spots l f)
+current-lies l f = current-of-lies l f (fateOf l) (effectiveOf l f) (spots l f)
 
 pub token-lies : (l : List Entry) (f : ℕ) → Lies l f (token l f)
-token-lies l f = token-of-lies l f (fateOf l) (imagesOf l f) (spots l f)
+token-lies l f = token-of-lies l f (fateOf l) (effectiveOf l f) (spots l f)
 
 known-bool : (x : Fate) → isKnown x ≡ true → 1 ≤ fateNumber x
 known-bool unknown e = absurd (false≢true e)

@@ -8,14 +8,15 @@ use native.Mathlib.Omega.{arith}
 use lib.Dec.{eqb, leb}
 use borrow.Author.Tests.{eq-eqb, ne-eqb, le-leb, leb-true, leb-false}
 use Rattle.encoding.proofs.Logic.{clash}
-use Rattle.recovery.specs.Log.{Entry, Placed, fateOf, imagesOf, placeOf, startOf}
+use Rattle.recovery.specs.Log.{Entry, Placed, fateOf, effectiveOf, placeOf, startOf}
 use Rattle.recovery.specs.World.{World, entryAt, withRow, isFile}
 use Rattle.recovery.specs.declared.Row.{Row}
 use Rattle.recovery.specs.declared.Answer.the-variants.{Stored}
 use Rattle.inspection.specs.Lawful.{versions, current, token}
 use Rattle.calls.specs.Walk.{Walk, met, nothing, imagesBelow, follow}
 use Rattle.calls.specs.Calls.{read, imageOf, walkFrom, answerWalk, reaches, readCurrent, readToken, onVersions, onToken, onRead}
-use Rattle.recovery.proofs.Spots.{Spots, spots, Lies, versions-lie}
+use Rattle.recovery.proofs.Spots.{Spot, Spots, spots, Lies}
+use Rattle.recovery.proofs.Effective.{each-version}
 use Rattle.calls.proofs.LinkByLink.{reached, unlinked, linked}
 use Rattle.promises.specs.Model.{Version, Object, object, Model, newest, since, latest, shows, changed, withObject, readHistory, reading}
 use Rattle.promises.specs.FromLog.{versionIn, history}
@@ -104,8 +105,8 @@ module _ (w : World) (l : List Entry) (m : Model) (s : Sim w l m) where
 
     sim-versions : Agrees (m .files) (read f t a) l (onVersions w f t (rowFor l x f)) (readHistory m f t x)
     sim-versions =
-        let o = versions-ordered (fateOf l) (imagesOf l f) (chain l f (s .lawful)) in
-        let v = versions-lie l f (fateOf l) (imagesOf l f) (spots l f) in
+        let o = versions-ordered (fateOf l) (effectiveOf l f) (chain l f (s .lawful)) in
+        let v = each-version (Spot l f) (fateOf l) (effectiveOf l f) (spots l f) in
         rw (walk-eq f t (versions l f) o v, reach-eq f t (current l f) (current-lies l f))
         (subst (λ z. Agrees (m .files) (read f t a) l (answerWalk w f row (walked (version l f t))) (shows z, withObject m f left)) (sym (ap (latest t) (s .says .history f) ∙ latest-is t (versions l f))) (go (version l f t)))
       where

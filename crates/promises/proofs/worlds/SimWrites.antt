@@ -1,7 +1,7 @@
 -- Begin and write do what the model does.
-use mathlib.Core.Path.{_≡_, refl, ap, sym, _∙_, subst}
+use mathlib.Core.Path.{_≡_, refl, ap, sym, _∙_}
 use mathlib.Core.List.{List, _∷_}
-use mathlib.Core.Bool.{Bool, true, false, cond, _&&_}
+use mathlib.Core.Bool.{Bool, true, false, cond, _&&_, _||_}
 use mathlib.Core.Option.{Option, some, none}
 use Prim.Native.Nat.{ℕ, suc, max, _+_, _-_, _≤_, _<_}
 use native.Mathlib.Omega.{arith}
@@ -16,11 +16,12 @@ use Rattle.recovery.specs.World.{World, refuse, entryAt, cold, isFile}
 use Rattle.recovery.specs.declared.Row.{Row}
 use Rattle.recovery.proofs.Places.{nth-put-same, nth-put-other, length-put}
 use Rattle.recovery.proofs.Lookups.{is-file}
-use Rattle.inspection.specs.Lawful.{current, token}
+use Rattle.inspection.specs.Lawful.{current, token, isFreeFor}
 use Rattle.calls.specs.Calls as store
 use Rattle.calls.specs.Calls.{begin, write, append, onBegin, imageOf, actionOf, onWrite}
 use Rattle.recovery.proofs.Spots.{Lies}
-use Rattle.promises.specs.Model.{Object, pending, Model, newest, since, changed, stores, hasRoom, writing, modelCall}
+use Rattle.promises.specs.Model as model
+use Rattle.promises.specs.Model.{Object, pending, Model, newest, since, refuses, changed, stores, stored, hasRoom, askedOf, writing, modelCall}
 use Rattle.promises.specs.FromLog.{versionIn}
 use Rattle.promises.proofs.logs.Logs.{ImageFits}
 use Rattle.promises.proofs.logs.Appends.{opening-versions, opening-token, image-versions, image-token}
@@ -60,10 +61,18 @@ module _ (w : World) (l : List Entry) (m : Model) (s : Sim w l m) where
     x = m .object f
 
     abbrev row : Row
-    row = record { mark = 1; current = placeOf (current l f); currentend = currentEnd x; token = suc (w .end); tokenend = start }
+    row = store.written (rowFor l x f) (suc (w .end)) start
 
     abbrev objects : ℕ → Object
     objects = changed (m .object) f (given m f start a v)
+
+    -- the token's end: its start, and what was asked for of the token that it overtakes
+    end-is : store.writtenEnd (rowFor l x f) start ≡ max start (askedOf (x .tokenasked) (x .token))
+    end-is = rw (s .says .token f) (go (token l f) (token-lies l f))
+      where
+        go : (z : Option Placed) → Lies l f z → cond (eqb (placeOf z) 0) start (max (max (since (versionIn z)) (x .tokenasked)) start) ≡ max start (askedOf (x .tokenasked) (versionIn z))
+        go none i = omega arith
+        go (some y) i = rw (ne-eqb (y .place) 0 (λ e. omega (arith, i .low))) (omega arith)
 
     rows-in : ImageFits (written l f start a v) l → (g : ℕ) → isFile (m .files) g ≡ true → (b : Bool) → eqb f g ≡ b
         → warmOf (nth cold (put (w .rows) f row) g) (image (written l f start a v) ∷ l) g ≡ rowFor (image (written l f start a v) ∷ l) (objects g) g
@@ -75,9 +84,6 @@ module _ (w : World) (l : List Entry) (m : Model) (s : Sim w l m) where
       eq-eqb f f refl,
       s .ends,
     ) (λ j. record { mark = 1; current = placeOf (current l f); currentend = currentEnd x; token = suc (length l); tokenend = end-is j })
-      where
-        end-is : start ≡ max start 0
-        end-is = omega arith
     rows-in i g q false e = rw (
       nth-put-other cold (w .rows) f g row (λ j. eqb-false f g e (sym j)),
       image-versions (written l f start a v) l g i,
@@ -86,7 +92,7 @@ module _ (w : World) (l : List Entry) (m : Model) (s : Sim w l m) where
       ne-eqb g f (λ j. eqb-false f g e (sym j)),
     ) (s .rows g q)
 
-    new : token l f ≡ none → currentEnd x < start → length l < m .pages
+    new : isFreeFor a (token l f) ≡ true → currentEnd x < start → length l < m .pages
         → Sim (append w (image (written l f start a v)) (w .fates) (put (w .rows) f row) (w .undecided)) (image (written l f start a v) ∷ l) (stores m (m .undecided) (m .status) objects)
     unfolding fateOf
     new e k r =
@@ -105,20 +111,34 @@ module _ (w : World) (l : List Entry) (m : Model) (s : Sim w l m) where
     above : late ≡ true → currentEnd x < start
     above q = ltb-true (currentEnd x) start (max-below (since (newest (x .history))) (x .asked) start ∙ and-true (ltb (since (newest (x .history))) start && ltb (x .asked) start) (ltb (m .floor) start) q .0)
 
-    by-token : (z : Option Placed) → token l f ≡ z → Lies l f z
+    -- line 8
+    free-is : (z : Option Placed) → Lies l f z → (eqb (placeOf z) 0 || eqb (actionOf (imageOf (entryAt w (placeOf z)))) a) ≡ model.isFreeFor a (versionIn z)
+    free-is none i = refl
+    free-is (some y) i = rw (ne-eqb (y .place) 0 (λ e. omega (arith, i .low)), lies-at w l m s f y i)
+
+    free-log : (z : Option Placed) → model.isFreeFor a (versionIn z) ≡ true → isFreeFor a z ≡ true
+    free-log none e = refl
+    free-log (some y) e = e
+
+    action-is : (z : Option Placed) → Lies l f z → actionOf (imageOf (entryAt w (placeOf z))) ≡ model.actionOf (versionIn z)
+    action-is none i = refl
+    action-is (some y) i = rw (lies-at w l m s f y i)
+
+    timely : isFreeFor a (token l f) ≡ true
         → Agrees (m .files) (write f start a v) l
-        (cond (eqb (placeOf z) 0)
         (cond (ltb (currentEnd x) start && ltb (w .floor) start)
         (cond (store.hasRoom w (w .undecided + 1)) (store.store w (image (written l f start a v)) (w .fates) (put (w .rows) f row) (w .undecided)) (refuse 11 0 w)) (refuse 10 0 w))
-        (refuse 8 (actionOf (imageOf (entryAt w (placeOf z)))) w)) (writing m f start a v x (versionIn z))
-    by-token none e i =
+        (cond late (cond (hasRoom m (m .undecided + 1)) (stored m (m .undecided) (m .status) objects) (refuses 11 0 m)) (refuses 10 0 m))
+    timely e =
         agrees-cond (ltb (currentEnd x) start && ltb (w .floor) start) late late-is
         (λ q. agrees-cond (store.hasRoom w (w .undecided + 1)) (hasRoom m (m .undecided + 1)) (rw (s .undecided) (room-eq w l m s (m .undecided + 1)))
         (λ r. rw (blank-ok w l m s) (appended w l m s (image (written l f start a v)) _ _ _ _ (refl, h, short) (new e (above q) (room-is (m .undecided + 1) (omega arith) r))))
         (λ r. refused 11 0 0 refl s))
         (λ q. refused 10 0 0 refl s)
-    by-token (some y) e i = rw (ne-eqb (y .place) 0 (λ e. omega (arith, i .low)), lies-at w l m s f y i) (refused 8 (y .image .action) (y .image .action) refl s)
 
     pub sim-write : Agrees (m .files) (write f start a v) l (onWrite w f start a v (rowFor l x f)) (writing m f start a v x (x .token))
-    sim-write = subst (λ z. Agrees (m .files) (write f start a v) l (onWrite w f start a v (rowFor l x f)) (writing m f start a v x z)) (sym (s .says .token f))
-        (rw (row-holds w l m s f) (by-token (token l f) refl (token-lies l f)))
+    sim-write =
+        let k : x .token ≡ versionIn (token l f) = s .says .token f in
+        rw (row-holds w l m s f) (agrees-cond (store.isFreeFor w a (rowFor l x f)) (model.isFreeFor a (x .token)) (free-is (token l f) (token-lies l f) ∙ ap (model.isFreeFor a) (sym k))
+        (λ e. timely (free-log (token l f) (ap (model.isFreeFor a) (sym k) ∙ e)))
+        (λ e. refused 8 (actionOf (imageOf (entryAt w (placeOf (token l f))))) (model.actionOf (x .token)) (action-is (token l f) (token-lies l f) ∙ ap model.actionOf (sym k)) s))

@@ -1,4 +1,4 @@
--- What a read answers is an image of the file, committed or of the reader's own action; and of the versions that start by the time
+-- What a read answers is an effective image of the file, committed or of the reader's own action; and of the versions that start by the time
 -- none starts after it. Where it answers none, every version starts later.
 use mathlib.Core.Path.{_≡_, refl, sym, ap, _∙_, subst}
 use mathlib.Core.List.{List}
@@ -7,25 +7,26 @@ use Prim.Native.Nat.{ℕ, _≤_, _<_}
 use native.Mathlib.Omega.{arith}
 use lib.ListN.{length}
 use Rattle.encoding.proofs.Logic.{clash}
-use Rattle.recovery.specs.Log.{Image, Entry, image, undecided, committed, Placed, fateOf, imagesOf}
-use Rattle.recovery.specs.World.{World, entryAt, fateAt}
+use Rattle.recovery.specs.Log.{Image, Entry, image, undecided, committed, Placed, fateOf, effectiveOf}
+use Rattle.recovery.specs.World.{World, fateAt}
 use Rattle.recovery.specs.declared.Answer.the-variants.{Value, Nothing}
 use Rattle.recovery.proofs.LogFates.{undecided-known}
 use Rattle.inspection.specs.Lawful.{versions, token}
 use Rattle.calls.specs.Walk.{nothing}
 use Rattle.calls.specs.Calls.{read, versionAnswer, call}
-use Rattle.recovery.proofs.Spots.{Spot, Spots, spots}
+use Rattle.recovery.proofs.Spots.{Spot, spots}
 use Rattle.promises.proofs.logs.Logs.{known-place}
 use Rattle.promises.proofs.logs.Chains.{Ordered, versions-ordered, chain, token-live}
 use Rattle.promises.proofs.logs.Versions as found
-use Rattle.promises.proofs.logs.Versions.{version, Among, first, next, among-versions, versions-among, newest, Shows, highest, all-later}
+use Rattle.promises.proofs.logs.Versions.{version, Among, among-versions, versions-among, newest, Shows, highest, all-later}
+use Rattle.promises.proofs.logs.Newest.{each-among, token-among}
 use Rattle.promises.proofs.logs.Histories.{latest-is}
 use Rattle.promises.specs.Model.{Version, Model, Reply, latest, shows, refuses, modelCall}
 use Rattle.promises.specs.FromLog.{versionOf, versionIn}
 use Rattle.promises.proofs.worlds.ModelCalls.{reads}
-use Rattle.promises.proofs.worlds.Sim.{Sim, token-lies, fate-eq, lies-at}
+use Rattle.promises.proofs.worlds.Sim.{Sim, fate-eq}
 use Rattle.promises.proofs.worlds.SimCalls.{sim-call}
-use Rattle.promises.proofs.worlds.Shown.{token-later, among-at}
+use Rattle.promises.proofs.worlds.Shown.{token-later, Effective, among-at, effective-at}
 
 pub data Whose (w : World) (a : ℕ) (i : Image) : Type 0 where
   shared : fateAt w (i .action) ≡ committed → Whose w a i
@@ -33,24 +34,20 @@ pub data Whose (w : World) (a : ℕ) (i : Image) : Type 0 where
 
 -- no version of a file that starts by a time starts after s
 abbrev pub Latest : World → ℕ → ℕ → ℕ → Type 0
-Latest w f t s = (q : ℕ) (i : Image) → q ≤ w .end → entryAt w q ≡ image i → i .file ≡ f → fateAt w (i .action) ≡ committed → i .start ≤ t → i .start ≤ s
+Latest w f t s = (q : ℕ) (i : Image) → Effective w q i → i .file ≡ f → fateAt w (i .action) ≡ committed → i .start ≤ t → i .start ≤ s
 
 abbrev pub AllLater : World → ℕ → ℕ → Type 0
-AllLater w f t = (q : ℕ) (i : Image) → q ≤ w .end → entryAt w q ≡ image i → i .file ≡ f → fateAt w (i .action) ≡ committed → t < i .start
+AllLater w f t = (q : ℕ) (i : Image) → Effective w q i → i .file ≡ f → fateAt w (i .action) ≡ committed → t < i .start
 
 pub record Visible (w : World) (f t a p s n : ℕ) : Type 0 where
   pub seen : Image
-  pub here : entryAt w p ≡ image seen
+  pub effective : Effective w p seen
   pub file : seen .file ≡ f
   pub start : seen .start ≡ s
   pub len : length (seen .value) ≡ n
   pub inTime : s ≤ t
   pub whose : Whose w a seen
   pub latest : Latest w f t s
-
-spot-among : (l : List Entry) (f : ℕ) (x : Placed) (xs : List Placed) → Spots l f xs → Among x xs → Spot l f x
-spot-among l f x xs h first = h .0
-spot-among l f x xs h (next {y} {xs = ys} m) = spot-among l f x ys (h .1) m
 
 module _ (w : World) (l : List Entry) (m : Model) (s : Sim w l m) (f t a : ℕ) where
   -- what a result says, if it is a value and if it is none
@@ -65,33 +62,33 @@ module _ (w : World) (l : List Entry) (m : Model) (s : Sim w l m) (f t a : ℕ) 
   }
 
   -- a version of the file, in the world and in the log
-  among : (q : ℕ) (i : Image) → q ≤ w .end → entryAt w q ≡ image i → i .file ≡ f → Among (record { place = q; image = i }) (imagesOf l f)
-  among q i b e g = subst (λ (x : ℕ). Among (record { place = q; image = i }) (imagesOf l x)) g (among-at w l m s q i b e)
+  among : (q : ℕ) (i : Image) → Effective w q i → i .file ≡ f → Among (record { place = q; image = i }) (effectiveOf l f)
+  among q i e g = subst (λ (x : ℕ). Among (record { place = q; image = i }) (effectiveOf l x)) g (among-at w l m s q i e)
 
-  version-among : (y : Placed) → Among y (imagesOf l f) → fateOf l (y .image .action) ≡ committed → Among y (versions l f)
-  version-among y i c = among-versions (fateOf l) y (imagesOf l f) i c
+  version-among : (y : Placed) → Among y (effectiveOf l f) → fateOf l (y .image .action) ≡ committed → Among y (versions l f)
+  version-among y i c = among-versions (fateOf l) y (effectiveOf l f) i c
 
   ordered : Ordered (versions l f)
-  ordered = versions-ordered (fateOf l) (imagesOf l f) (chain l f (s .lawful))
+  ordered = versions-ordered (fateOf l) (effectiveOf l f) (chain l f (s .lawful))
 
   -- the newest version by the time
   abbrev Newest : ℕ → Type 0
-  Newest st = (y : Placed) → Among y (imagesOf l f) → fateOf l (y .image .action) ≡ committed → y .image .start ≤ t → y .image .start ≤ st
+  Newest st = (y : Placed) → Among y (effectiveOf l f) → fateOf l (y .image .action) ≡ committed → y .image .start ≤ t → y .image .start ≤ st
 
-  make : (x : Placed) → Spot l f x → x .image .start ≤ t → Whose w a (x .image) → Newest (x .image .start) → (r : Model) → Sees (versionAnswer x, r)
+  make : (x : Placed) → Among x (effectiveOf l f) → x .image .start ≤ t → Whose w a (x .image) → Newest (x .image .start) → (r : Model) → Sees (versionAnswer x, r)
   make x y k o h r = record {
     value = λ p st n e.
         let i : x .place ≡ p = cc in
         let j : x .image .start ≡ st = cc in
         record {
           seen = x .image;
-          here = rw i at (lies-at w l m s f x y);
-          file = y .mine;
+          effective = rw i at (effective-at w l m s f x y);
+          file = each-among (Spot l f) x (effectiveOf l f) (spots l f) y .mine;
           start = j;
           len = cc;
           inTime = rw j at k;
           whose = o;
-          latest = λ q v b d g c u. rw j at (h (record { place = q; image = v }) (among q v b d g) (sym (fate-eq w l m s (v .action)) ∙ c) u);
+          latest = λ q v d g c u. rw j at (h (record { place = q; image = v }) (among q v d g) (sym (fate-eq w l m s (v .action)) ∙ c) u);
         };
     nothing = λ e. clash cc;
   }
@@ -100,36 +97,36 @@ module _ (w : World) (l : List Entry) (m : Model) (s : Sim w l m) (f t a : ℕ) 
   sees-versions : (z : Option Placed) → version l f t ≡ z → (r : Model) → Sees (shows (versionIn z), r)
   sees-versions none q r = record {
     value = λ p st n e. clash cc;
-    nothing = λ e o v b d g c.
-        all-later t (record { place = o; image = v }) (versions l f) (version-among (record { place = o; image = v }) (among o v b d g) (sym (fate-eq w l m s (v .action)) ∙ c)) q;
+    nothing = λ e o v d g c.
+        all-later t (record { place = o; image = v }) (versions l f) (version-among (record { place = o; image = v }) (among o v d g) (sym (fate-eq w l m s (v .action)) ∙ c)) q;
   }
   sees-versions (some x) q r = go
     where
       k : Shows t x (versions l f)
       k = found.shows t x (versions l f) q
 
-      o : (fateOf l (x .image .action) ≡ committed) × Among x (imagesOf l f)
-      o = versions-among (fateOf l) x (imagesOf l f) (k .among)
+      o : (fateOf l (x .image .action) ≡ committed) × Among x (effectiveOf l f)
+      o = versions-among (fateOf l) x (effectiveOf l f) (k .among)
 
       newest-in : Newest (x .image .start)
       newest-in y i c u = highest t x y (versions l f) ordered (version-among y i c) u q
 
       go : Sees (versionAnswer x, r)
-      go = make x (spot-among l f x (imagesOf l f) (spots l f) (o .1)) (k .inTime) (shared (fate-eq w l m s (x .image .action) ∙ o .0)) newest-in r
+      go = make x (o .1) (k .inTime) (shared (fate-eq w l m s (x .image .action) ∙ o .0)) newest-in r
 
   -- and its own
   sees-own : (x : Placed) → token l f ≡ some x → x .image .start ≤ t → x .image .action ≡ a → (r : Model) → Sees (versionAnswer x, r)
-  sees-own x i q j r = make x (rw i at (token-lies l f)) q mine newest-in r
+  sees-own x i q j r = make x (token-among (fateOf l) x (effectiveOf l f) i) q mine newest-in r
     where
       live : fateOf l (x .image .action) ≡ undecided
-      live = token-live (fateOf l) (imagesOf l f) x i
+      live = token-live (fateOf l) (effectiveOf l f) x i
 
       mine : Whose w a (x .image)
       mine = own (rw j at (known-place l (x .image .action) (s .lawful) (undecided-known live) .0)) j
 
       newest-in : Newest (x .image .start)
       newest-in y n c u =
-          omega (arith, newest y (versions l f) ordered (version-among y n c), token-later (fateOf l) (imagesOf l f) x (chain l f (s .lawful)) i)
+          omega (arith, newest y (versions l f) ordered (version-among y n c), token-later (fateOf l) (effectiveOf l f) x (chain l f (s .lawful)) i)
 
   in-history : (r : Model) → Sees (shows (latest t (m .object f .history)), r)
   in-history r = subst (λ z. Sees (shows z, r)) (sym (ap (latest t) (s .says .history f) ∙ latest-is t (versions l f))) (sees-versions (version l f t) refl r)

@@ -18,26 +18,25 @@ row-holds-by-requires c κs = search needs
 returns : tie.Need-returns
 returns c =
     let a = c .before .before .before .before .before .args in
-    write-7 (now (a .sheet)) (a .files) (a .state) (a .file) (a .start) (a .row) _ _ (c .before .before .before .image-at .ensures) (c .before .before .image-at2 .ensures) (refused (c .before .row-holds-by .ensures) (c .if1 .taken))
+    write-7 (now (a .sheet)) (a .files) (a .state) (a .file) (a .start) (a .action) (a .row) _ _ (c .before .before .before .image-at .ensures) (c .before .before .image-at2 .ensures) (refused (c .before .row-holds-by .ensures) (c .if1 .taken))
 
-enum-known-token : tie.Need-enum-known-token
-enum-known-token c = search needs
+holder-requires : tie.Need-holder-requires
+holder-requires c κs = search needs
 
-enum-told : tie.Need-enum-told
-enum-told c = search needs
+returns-2 : tie.Need-returns-2
+returns-2 c =
+    let b = c .before .before in
+    let a = b .before .before .before .before .before .args in
+    write-8 (now (a .sheet)) (a .files) (a .state) (a .file) (a .start) (a .action) (a .row) _ _ (b .before .before .before .image-at .ensures) (b .before .before .image-at2 .ensures) (passed (b .before .row-holds-by .ensures) (b .if1 .left)) _ (c .before .holder .ensures) (c .if2 .taken)
 
 store-answer-requires : tie.Need-store-answer-requires
 store-answer-requires c κs = search needs
 
-returns-2 : tie.Need-returns-2
-returns-2 c =
-    let a = c .before .before .before .before .before .before .before .before .args in
-    write-8 (now (a .sheet)) (a .files) (a .state) (a .file) (a .start) (a .row) _ _ (c .before .before .before .before .before .before .image-at .ensures) (c .before .before .before .before .before .image-at2 .ensures) (passed (c .before .before .before .before .row-holds-by .ensures) (c .before .before .before .if1 .left)) _ (c .before .token .given .1)
-
 returns-3 : tie.Need-returns-3
 returns-3 c =
-    let a = c .before .before .before .before .before .before .before .before .args in
-    write-store (now (a .sheet)) (a .files) (a .state) (a .file) (a .start) (a .row) _ _ (c .before .before .before .before .before .before .image-at .ensures) (c .before .before .before .before .before .image-at2 .ensures) (passed (c .before .before .before .before .row-holds-by .ensures) (c .before .before .before .if1 .left)) (c .before .enum-told .given .1) _ (c .store-answer .ensures)
+    let b = c .before .before .before in
+    let a = b .before .before .before .before .before .args in
+    write-store (now (a .sheet)) (a .files) (a .state) (a .file) (a .start) (a .action) (a .row) _ _ (b .before .before .before .image-at .ensures) (b .before .before .image-at2 .ensures) (passed (b .before .row-holds-by .ensures) (b .if1 .left)) _ (c .before .before .holder .ensures) (c .before .if2 .left) _ (c .store-answer .ensures)
 
 pub write-answer-spec : {M : Type 1} → statement M
 write-answer-spec =
@@ -47,8 +46,7 @@ write-answer-spec =
     image-at-requires-2
     row-holds-by-requires
     returns
-    enum-known-token
-    enum-told
-    store-answer-requires
+    holder-requires
     returns-2
+    store-answer-requires
     returns-3)

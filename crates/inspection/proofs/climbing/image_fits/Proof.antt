@@ -22,10 +22,10 @@ fate-of-requires-2 c κs = search needs
 
 returns-2 : tie.Need-returns-2
 returns-2 c =
-    let first = c .before .before .before in
+    let first = c .before .before .before .before .before in
     let a = first .before .before .before .before .before .args in
-    token-there (arrays (now (a .fates)) (now (a .newest)) (now (a .below))) _ _ (first .before .fate-of .ensures) (first .if1 .left) _ (c .before .before .get-slot .ensures) _
-    (c .before .fate-of2 .ensures)
+    token-there (arrays (now (a .fates)) (now (a .newest)) (now (a .below))) _ _ (first .before .fate-of .ensures) (first .if1 .left) _ (c .before .before .before .before .get-slot .ensures) _
+    (c .before .before .before .fate-of2 .ensures)
     (c .if2 .taken)
 
 version-of-requires : tie.Need-version-of-requires
@@ -34,10 +34,10 @@ version-of-requires c κs = search needs
 returns-3 : tie.Need-returns-3
 returns-3 c =
     let second = c .before .before .before .before in
-    let first = second .before .before .before in
+    let first = second .before .before .before .before .before in
     let a = first .before .before .before .before .before .args in
-    not-linked (arrays (now (a .fates)) (now (a .newest)) (now (a .below))) _ _ (first .before .fate-of .ensures) (first .if1 .left) _ (second .before .before .get-slot .ensures) _
-    (second .before .fate-of2 .ensures)
+    not-linked (arrays (now (a .fates)) (now (a .newest)) (now (a .below))) _ _ (first .before .fate-of .ensures) (first .if1 .left) _ (second .before .before .before .before .get-slot .ensures) _
+    (second .before .before .before .fate-of2 .ensures)
     (second .if2 .left)
     _
     (c .before .before .before .version-of .ensures)
@@ -47,10 +47,10 @@ returns-4 : tie.Need-returns-4
 returns-4 c =
     let third = c .before .before in
     let second = third .before .before .before .before in
-    let first = second .before .before .before in
+    let first = second .before .before .before .before .before in
     let a = first .before .before .before .before .before .args in
-    linked (arrays (now (a .fates)) (now (a .newest)) (now (a .below))) _ _ (first .before .fate-of .ensures) (first .if1 .left) _ (second .before .before .get-slot .ensures) _
-    (second .before .fate-of2 .ensures)
+    linked (arrays (now (a .fates)) (now (a .newest)) (now (a .below))) _ _ (first .before .fate-of .ensures) (first .if1 .left) _ (second .before .before .before .before .get-slot .ensures) _
+    (second .before .before .before .fate-of2 .ensures)
     (second .if2 .left)
     _
     (third .before .before .before .version-of .ensures)
