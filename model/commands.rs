@@ -142,7 +142,10 @@ impl Desk {
         }
         let word = match &change {
             Change::Opening => "begin",
-            Change::Image { .. } => "write",
+            Change::Image { file, .. } => {
+                now.overtake(&self.sheet, *file);
+                "write"
+            }
             Change::Outcome { action, fate } => {
                 now.settle(&self.sheet, *action, *fate);
                 decided(*fate)

@@ -1,6 +1,6 @@
-//! The store as documents 01 and 02 tell it, at the level of histories: each file has its versions and at most one token, each action
-//! a fate and the place at which it was decided, every image that was stored whole stays, and every append uses up one place. There are no
-//! bytes here, no rows and no links.
+//! The store as documents 01 and 02 tell it, at the level of histories: each file has its versions and at most one token, which another
+//! image of its action overtakes, each action a fate and the place at which it was decided, every image that was stored whole stays, and
+//! every append uses up one place. There are no bytes here, no rows and no links.
 
 use std::collections::BTreeMap;
 
@@ -38,6 +38,10 @@ impl File {
         self.versions.last().map_or(0, |version| version.start)
     }
 
+    fn token_start(&self) -> u64 {
+        self.token.as_ref().map_or(0, |token| token.version.start)
+    }
+
     fn has_token_of(&self, action: u64) -> bool {
         matches!(&self.token, Some(token) if token.action == action)
     }
@@ -62,7 +66,7 @@ pub struct Sheet {
     pub fates: BTreeMap<u64, Fate>,
     pub outcomes: BTreeMap<u64, u64>, // by action, the place at which it was decided
     pub files: BTreeMap<u64, File>,
-    pub images: Vec<Image>, // every one, those of aborted actions included
+    pub images: Vec<Image>, // every one, those of aborted actions and overtaken ones included
 }
 
 /// What goes: the numbers of an opening, and the latest times that were read since.
@@ -70,7 +74,7 @@ pub struct Session {
     pub files: u64,
     pub floor: u64,
     seen: BTreeMap<u64, u64>,       // a file's newest version, or its empty history
-    seen_token: BTreeMap<u64, u64>, // a file's token
+    seen_token: BTreeMap<u64, u64>, // a file's token, those that it overtook included
 }
 
 /// One append.
@@ -192,8 +196,9 @@ impl Sheet {
             return refused(4);
         }
         self.is_undecided(action)?;
-        if let Some(token) = self.files.get(&file).and_then(|f| f.token.as_ref()) {
-            return Err(Refusal(8, token.action));
+        let token = self.files.get(&file).and_then(|f| f.token.as_ref());
+        if let Some(others) = token.filter(|token| token.action != action) {
+            return Err(Refusal(8, others.action));
         }
         if start <= now.end_of(self, file).max(now.floor) {
             return refused(10);
@@ -238,6 +243,12 @@ impl Session {
         start.max(self.seen.get(&file).copied().unwrap_or(0))
     }
 
+    /// The same of its token: its start, the latest time read there, or the start of one that it overtook.
+    pub fn token_end_of(&self, sheet: &Sheet, file: u64) -> u64 {
+        let start = sheet.files.get(&file).map_or(0, File::token_start);
+        start.max(self.seen_token.get(&file).copied().unwrap_or(0))
+    }
+
     fn see(&mut self, file: u64, time: u64) {
         let latest = self.seen.entry(file).or_insert(0);
         *latest = time.max(*latest);
@@ -246,6 +257,11 @@ impl Session {
     fn see_token(&mut self, file: u64, time: u64) {
         let latest = self.seen_token.entry(file).or_insert(0);
         *latest = time.max(*latest);
+    }
+
+    /// To be told before an image is stored: the token that it overtakes, if there is one, leaves its end to it.
+    pub fn overtake(&mut self, sheet: &Sheet, file: u64) {
+        self.see_token(file, self.token_end_of(sheet, file));
     }
 
     /// To be told before an outcome is stored: what was read of a token is now read of the version, or of nothing.

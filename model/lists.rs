@@ -2,7 +2,7 @@
 //! file with a token, a time at or beside a start. Without that, nearly every answer would be a refusal.
 
 use crate::commands::Desk;
-use crate::histories::{Fate, MOST_FILES, PAGES};
+use crate::histories::{Fate, Image, MOST_FILES, PAGES};
 use crate::random::Random;
 
 pub struct List {
@@ -67,7 +67,7 @@ impl Author {
             n if n < 75 => self.read(),
             n if n < 80 => format!("test {}", self.action(3)),
             n if n < 83 || (is_full && n < 90) => self.again(),
-            n if n < 92 => format!("commit {}", self.action(6)),
+            n if n < 92 => self.commit(),
             _ => format!("abort {}", self.action(6)),
         }
     }
@@ -122,6 +122,19 @@ impl Author {
         }
     }
 
+    /// Often of an action that has written a file again.
+    fn commit(&mut self) -> String {
+        let sheet = &self.desk.sheet;
+        let token_of = |image: &Image| sheet.files.get(&image.file).and_then(|f| f.token.as_ref());
+        let is_overtaken =
+            |image: &&Image| token_of(image).is_some_and(|t| t.action == image.action && t.version.place > image.place);
+        let again: Vec<u64> = sheet.images.iter().filter(is_overtaken).map(|image| image.action).collect();
+        match again.len() {
+            n if n > 0 && self.random.once_in(2) => format!("commit {}", again[self.random.below(n as u64) as usize]),
+            _ => format!("commit {}", self.action(6)),
+        }
+    }
+
     /// The decision of a decided action once more, often of the one that was decided last: its reply may have been lost.
     fn again(&mut self) -> String {
         let last = self.desk.sheet.outcomes.iter().max_by_key(|(_, place)| **place).map(|(action, _)| *action);
@@ -161,19 +174,36 @@ impl Author {
 
     fn read(&mut self) -> String {
         let file = self.file();
-        let action = match (self.token(file), self.random.below(8)) {
-            (Some((action, _)), 0..=2) => action,
-            (_, 3) => self.action(4),
-            (_, 4) => self.action(1),
+        let mut time = self.time(file);
+        let action = match (self.token(file), self.random.below(10)) {
+            (Some((action, _)), 0..=1) => action,
+            (Some((action, start)), 2..=4) => {
+                time = start.saturating_sub(2).saturating_add(self.random.below(14)); // about those that it overtook
+                action
+            }
+            (_, 5) => self.action(4),
+            (_, 6) => self.action(1),
             _ => 0,
         };
-        format!("read {} {} {}", file, self.time(file), action)
+        format!("read {} {} {}", file, time, action)
+    }
+
+    /// Now and then one whose end lies above its newest start: that was read there, or an overtaken token left it.
+    fn written_file(&mut self) -> u64 {
+        let files = self.desk.sheet.files.iter();
+        let ended: Vec<u64> = files.filter(|(f, history)| self.end(**f) > history.newest_start()).map(|(f, _)| *f).collect();
+        match ended.len() {
+            n if n > 0 && self.random.once_in(2) => ended[self.random.below(n as u64) as usize],
+            _ => self.file(),
+        }
     }
 
     fn write(&mut self) -> String {
-        let mut file = self.file();
-        if self.token(file).is_some() && !self.random.once_in(4) {
-            file = 1 + self.random.below(self.files);
+        let (mut file, mut action) = (self.written_file(), self.action(12));
+        match (self.token(file), self.random.below(8)) {
+            (Some((own, _)), 0..=3) => action = own,
+            (Some(_), 4..=6) => file = 1 + self.random.below(self.files),
+            _ => (),
         }
         let start = self.start(file);
         let length = match self.random.below(20) {
@@ -181,7 +211,6 @@ impl Author {
             1 => 32,
             _ => 1 + self.random.below(8),
         };
-        let action = self.action(12);
         let text: String = (0..length).map(|_| (0x21 + self.random.below(0x5E)) as u8 as char).collect();
         format!("write {} {} {} {}", file, start, action, text)
     }
@@ -193,8 +222,8 @@ impl Author {
         let bar = self.end(file).max(floor);
         match self.random.below(12) {
             0 => self.time(file),
-            1 | 2 => bar,
-            3 => bar.saturating_sub(1),
+            1..=3 => bar,
+            4 => bar.saturating_sub(1),
             _ if self.desk.cut.is_some() => bar.saturating_add(1 + self.random.below(20)),
             _ => bar.saturating_add(1 + self.random.below(3)),
         }

@@ -3,10 +3,11 @@
 use crate::commands::{Desk, BARE_FILES};
 use crate::histories::{Fate, PAGES};
 use crate::lists::List;
+use crate::overtaken::{self, Overtaken};
 use std::collections::BTreeMap;
 
 /// Every answer that the program can give, by command, and every refusal that can be reached; and what else must come: decisions asked
-/// again, what a sheet is like at a bare `open`, and writes about its floor.
+/// again, what a sheet is like at a bare `open`, and writes about its floor. Where files are written again, `overtaken.rs` has the rest.
 const ANSWERS: &str = "open open,open no 1,open no 2,\
     bare open,bare open of a sheet without an image,bare open no 2,\
     bare open after one for more files,bare open without a state,bare open while a cut waits,\
@@ -39,6 +40,7 @@ struct Watch {
     is_bare: bool, // the last opening
     files: u64,    // of the last state
     torn: u64,     // the highest start in a torn image
+    overtaken: Overtaken,
 }
 
 /// An answer's kind: the command's first word, and of the answer what makes it that answer.
@@ -64,7 +66,8 @@ impl Watch {
             "write write" | "write no 10" | "write lost" => self.written(line, &answer, &before),
             _ => vec![],
         };
-        more.into_iter().map(str::to_string).chain([kind]).collect()
+        let again = self.overtaken.kinds(&self.desk, &kind, line, cut);
+        more.into_iter().chain(again).map(str::to_string).chain([kind]).collect()
     }
 
     /// Which image a bare `open` has its floor from, and what else lay about.
@@ -94,6 +97,7 @@ impl Watch {
             (before.cut.is_some(), "bare open while a cut waits"),
             (is_newest_lower, "bare open with a newer image that starts lower"),
             (self.torn > highest.start, "bare open with a torn image that starts higher"),
+            (overtaken::is_overtaken(sheet, highest), "bare open with the highest start overtaken"),
         ]);
         ["bare open", by_fate].into_iter().chain(besides).collect()
     }
@@ -123,7 +127,7 @@ impl Watch {
 }
 
 /// What of these was met.
-fn met(cases: &[(bool, &'static str)]) -> Vec<&'static str> {
+pub fn met(cases: &[(bool, &'static str)]) -> Vec<&'static str> {
     cases.iter().filter(|(is_met, _)| *is_met).map(|(_, what)| *what).collect()
 }
 
@@ -152,12 +156,13 @@ pub fn count(list: &List, counts: &mut BTreeMap<String, u64>) {
 /// Each answer must have come once in 4,000 commands, and none that is not listed.
 pub fn is_covered(counts: &BTreeMap<String, u64>, commands: u64) -> bool {
     let mut is_right = true;
-    for answer in ANSWERS.split(',') {
-        let n = counts.get(answer).copied().unwrap_or(0);
+    let must: Vec<&str> = ANSWERS.split(',').chain(overtaken::ANSWERS.split(',')).collect();
+    for answer in &must {
+        let n = counts.get(*answer).copied().unwrap_or(0);
         println!("  {:>8}  {}{}", n, answer, if n <= commands / 4000 { "  too seldom" } else { "" });
         is_right &= n > commands / 4000;
     }
-    for answer in counts.keys().filter(|answer| !ANSWERS.split(',').any(|listed| listed == answer.as_str())) {
+    for answer in counts.keys().filter(|answer| !must.contains(&answer.as_str())) {
         println!("  not listed: {}", answer);
         is_right = false;
     }

@@ -8,6 +8,7 @@ mod compare;
 mod histories;
 mod lists;
 mod met;
+mod overtaken;
 mod points;
 mod random;
 
@@ -56,6 +57,15 @@ fn check_lengths(program: &str) -> bool {
     both.iter().all(|newline| ends(*newline))
 }
 
+/// Cuts after each number of bytes where a file is written again, once and twice.
+fn check_cuts(program: &str) -> bool {
+    let is_right = |second: u64, third: u64| {
+        let (lines, expected) = points::three_images(second, third);
+        commands::answers(&lines) == expected && compare::agree(program, List { lines, ends_in_newline: true })
+    };
+    (0..=64).all(|n| is_right(n, 64) && is_right(64, n) && is_right(n, n))
+}
+
 fn check(program: &str, seed: u64, commands: u64) -> bool {
     let mut tally = Tally { passed: 0, failed: 0 };
     let mut counts = BTreeMap::new();
@@ -63,6 +73,7 @@ fn check(program: &str, seed: u64, commands: u64) -> bool {
     println!("seed {}", seed);
     check_points(program, &mut tally);
     tally.tell("lines of 0 to 200,000 bytes", check_lengths(program));
+    tally.tell("three images of a file under one action, the second and the third cut after every byte", check_cuts(program));
     tally.tell("a conversation of 30,000 lines", compare::agree(program, lists::list_of(seed, 30_000, false)));
     while alike && done < commands {
         let list = lists::list(seed.wrapping_add(conversations));

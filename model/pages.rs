@@ -7,12 +7,16 @@ mod random;
 mod sheet;
 
 use random::Random;
-use sheet::{Fields, Found, Log, MOST_FILES, MOST_PAGES, PAGE};
+use sheet::{Fields, Found, History, Log, MOST_FILES, MOST_PAGES, PAGE};
 
 const SEED: u64 = 20261115;
 const PAGES: u64 = 200_000;
 const UNTOUCHED: u8 = 0x77;
 const REFUSED: u64 = u64::MAX;
+
+/// Of the sheets inspected: those in which an action has written a file again, and what the lowest wrong page is, of a file with a token.
+const AGAIN: [&str; 4] =
+    ["lawful, files written again", "another action's image", "linked to the image that it overtakes", "not above the version"];
 
 #[rustfmt::skip]
 extern "C" {
@@ -43,6 +47,7 @@ struct Trial {
     lawful: u64,
     unlawful: u64,
     refused: u64,
+    again: [u64; AGAIN.len()],
 }
 
 impl Trial {
@@ -190,10 +195,14 @@ impl Trial {
         if open.is_empty() || self.random.once_in(5) {
             return fields;
         }
-        let action = self.random.pick(&open);
+        let mut action = self.random.pick(&open);
         let file = 1 + self.random.below(files);
         let history = log.files.get(&file).cloned().unwrap_or_default();
-        if history.token.is_some() || self.random.once_in(4) {
+        let own = history.token.map_or(action, |(by, ..)| by);
+        if self.random.once_in(2) {
+            action = own;
+        }
+        if action != own || self.random.once_in(4) {
             fields.numbers = [3, 1 + self.random.below(2), 0, action, 0, 0];
         } else {
             fields.numbers = [2, 3, file, action, history.version.0, history.version.1 + 1 + self.random.below(3)];
@@ -203,13 +212,19 @@ impl Trial {
     }
 
     /// A page whose fields are right for the table and wrong for the pages below.
-    fn misfit(&mut self, mut fields: Fields, place: u64) -> Fields {
+    fn misfit(&mut self, log: &Log, mut fields: Fields, place: u64) -> Fields {
         let other = self.random.below(place);
-        match (fields.numbers[0], self.random.below(4)) {
+        let history = log.files.get(&fields.numbers[2]).cloned().unwrap_or_default();
+        let own = fields.numbers[3];
+        let mut others = log.decided.iter().rev().filter(|(action, is_decided)| !**is_decided && **action != own);
+        match (fields.numbers[0], self.random.below(8)) {
             (1, _) => fields.numbers = [3, 1, 0, other, 0, 0],
             (2, 0) => fields.numbers[5] -= 1,
             (2, 1) => fields.numbers[4] = other,
             (2, 2) => fields.numbers[2] = 1,
+            (2, 3) => fields.numbers[4] = history.token.map_or(other, |(_, place, _)| place),
+            (2, 4 | 5) => fields.numbers[5] = history.version.1.max(1),
+            (2, 6) => fields.numbers[3] = others.next().map_or(other, |(action, _)| *action),
             _ => fields.numbers[3] = other,
         }
         fields
@@ -221,8 +236,9 @@ impl Trial {
         let mut bytes = Vec::new();
         for place in 1..=used {
             let mut fields = self.next_page(&log, place, files);
-            if wild > 0 && self.random.once_in(wild) {
-                fields = self.misfit(fields, place);
+            let has_token = log.files.get(&fields.numbers[2]).is_some_and(|history| history.token.is_some());
+            if wild > 0 && self.random.once_in(if has_token { wild / 8 + 1 } else { wild }) {
+                fields = self.misfit(&log, fields, place);
             }
             let mut page = sheet::written(&fields, place);
             if self.random.once_in(20) {
@@ -240,8 +256,36 @@ impl Trial {
         bytes
     }
 
+    /// Which of `AGAIN` a sheet is, if any, by the lowest wrong page and what those below it tell.
+    fn count_again(&mut self, bytes: &[u8], files: u64, place: u64, log: &Log) {
+        if place == 0 {
+            self.again[0] += u64::from(log.overtaken > 0);
+            return;
+        }
+        let from = PAGE * (place as usize - 1);
+        let Found::Fields(fields) = sheet::tested(&bytes[from..from + PAGE], place, files) else {
+            return;
+        };
+        let [kind, _, file, action, link, start] = fields.numbers;
+        let history = log.files.get(&file).cloned().unwrap_or_default();
+        let History { version, token: Some((by, token, _)) } = history else {
+            return;
+        };
+        if kind != 2 || log.decided.get(&action) != Some(&false) {
+            return;
+        }
+        let is_own = by == action;
+        self.again[1] += u64::from(!is_own);
+        self.again[2] += u64::from(is_own && link == token && start > version.1);
+        self.again[3] += u64::from(is_own && link == version.0);
+    }
+
     fn inspects_alike(&mut self, bytes: &[u8], files: u64) -> bool {
-        let expected = sheet::inspected(bytes, files).unwrap_or(REFUSED);
+        let climbed = sheet::climbed(bytes, files);
+        if let Some((place, log)) = &climbed {
+            self.count_again(bytes, files, *place, log);
+        }
+        let expected = climbed.map_or(REFUSED, |(place, _)| place);
         match expected {
             0 => self.lawful += 1,
             REFUSED => self.refused += 1,
@@ -289,7 +333,8 @@ fn is_right(is_right: bool, what: impl FnOnce() -> String) -> bool {
 fn main() {
     let words: Vec<u64> = std::env::args().skip(1).map(|word| word.parse().unwrap_or(SEED)).collect();
     let (seed, pages) = (words.first().copied().unwrap_or(SEED), words.get(1).copied().unwrap_or(PAGES));
-    let mut t = Trial { random: Random::new(seed), packs: [0; 3], tests: [0; 5], lawful: 0, unlawful: 0, refused: 0 };
+    let random = Random::new(seed);
+    let mut t = Trial { random, packs: [0; 3], tests: [0; 5], lawful: 0, unlawful: 0, refused: 0, again: [0; AGAIN.len()] };
     let (mut passed, mut failed) = (0, 0);
     let mut tell = |what: String, is_right: bool| {
         println!("{}: {}", if is_right { "ok" } else { "FAILED" }, what);
@@ -304,6 +349,9 @@ fn main() {
     let often = [t.lawful, t.unlawful, t.refused].iter().all(|n| *n > pages / 200);
     let counts = format!("{} lawful, {} not, {} refused", t.lawful, t.unlawful, t.refused);
     tell(format!("{} sheets inspected: {}", pages / 10, counts), alike && often);
+    let often = t.again.iter().all(|n| *n > pages / 4000);
+    let counts: Vec<String> = AGAIN.iter().zip(&t.again).map(|(what, n)| format!("{} {}", n, what)).collect();
+    tell(format!("where files have tokens: {}", counts.join(", ")), often);
     tell("sheets of up to 65,537 pages inspected".to_string(), t.long_sheets());
     println!("{} passed, {} failed", passed, failed);
     std::process::exit(i32::from(failed != 0));

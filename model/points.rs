@@ -161,6 +161,74 @@ pub const POINTS: &[Point] = &[
         output: "open 0 0 / none / begin 1 / cut 0 / lost / open 1 1 / write 2 / commit 3 / read 2 52 a",
     },
     Point {
+        what: "a file written again: the newest image is the token, and an own read before it still bars the next writer",
+        input: "open / begin / write 1 10 1 a / read 1 40 1 / write 1 7 1 b / read 1 7 1 / commit 1 / read 1 7 0 / begin / \
+                write 1 40 5 c / write 1 41 5 c",
+        output: "open 0 0 / begin 1 / write 2 / read 2 10 a / write 3 / read 3 7 b / commit 4 / read 3 7 b / begin 5 / \
+                 no 10 0 / write 6",
+    },
+    Point {
+        what: "a file written again is barred by its current end alone, and linked past what it overtook",
+        input: "open / begin / write 1 10 1 a / commit 1 / begin / write 1 20 4 b / write 1 20 4 c / write 1 30 4 d / \
+                write 1 10 4 e / write 1 11 4 e / read 1 11 4 / read 1 10 4 / commit 4 / read 1 30 0 / read 1 10 0 / read 1 9 0",
+        output: "open 0 0 / begin 1 / write 2 / commit 3 / begin 4 / write 5 / write 6 / write 7 / no 10 0 / write 8 / \
+                 read 8 11 e / read 2 10 a / commit 9 / read 8 11 e / read 2 10 a / none",
+    },
+    Point {
+        what: "a file written again is barred by the floor",
+        input: "open / begin / write 1 10 1 a / open 8 20 / write 1 20 1 b / write 1 21 1 b / read 1 21 1",
+        output: "open 0 0 / begin 1 / write 2 / open 2 1 / no 10 0 / write 3 / read 3 21 b",
+    },
+    Point {
+        what: "another action's token, whatever the start",
+        input: "open / begin / begin / write 1 10 1 a / write 1 10 2 b / write 1 0 2 b / write 1 11 1 c / write 1 12 2 b / \
+                abort 1 / write 1 10 2 b / commit 2 / read 1 10 0",
+        output: "open 0 0 / begin 1 / begin 2 / write 3 / no 8 1 / no 8 1 / write 4 / no 8 1 / abort 5 / write 6 / commit 7 / \
+                 read 6 10 b",
+    },
+    Point {
+        what: "outside, only the newest image is in the way",
+        input: "open / begin / write 1 10 1 a / write 1 20 1 b / read 1 15 0 / read 1 20 0 / write 1 15 1 c / write 1 16 1 c / \
+                read 1 16 0 / commit 1 / read 1 15 0 / read 1 20 0",
+        output: "open 0 0 / begin 1 / write 2 / write 3 / none / no 9 1 / no 10 0 / write 4 / no 9 1 / commit 5 / none / \
+                 read 4 16 c",
+    },
+    Point {
+        what: "an own read before the token bars writing again",
+        input: "open / begin / write 1 10 1 a / read 1 5 1 / write 1 5 1 b / write 1 6 1 b / read 1 9 1",
+        output: "open 0 0 / begin 1 / write 2 / none / no 10 0 / write 3 / read 3 6 b",
+    },
+    Point {
+        what: "an overtaken start bars the next writer until the opening",
+        input: "open / begin / write 1 10 1 a / write 1 7 1 b / commit 1 / begin / write 1 10 5 c / open 8 0 / write 1 7 5 c / \
+                write 1 8 5 c / commit 5 / read 1 7 0 / read 1 10 0",
+        output: "open 0 0 / begin 1 / write 2 / write 3 / commit 4 / begin 5 / no 10 0 / open 5 1 / no 10 0 / write 6 / \
+                 commit 7 / read 3 7 b / read 6 8 c",
+    },
+    Point {
+        what: "written again after an opening: the start that the opening found counts, not those before it",
+        input: "open / begin / write 1 30 1 a / write 1 10 1 b / open 8 0 / write 1 7 1 c / commit 1 / begin / write 1 10 6 d / \
+                write 1 11 6 d",
+        output: "open 0 0 / begin 1 / write 2 / write 3 / open 3 1 / write 4 / commit 5 / begin 6 / no 10 0 / write 7",
+    },
+    Point {
+        what: "an abort takes every image of the action, and what was read of them",
+        input: "open / begin / write 1 10 1 a / read 1 40 1 / write 1 7 1 b / abort 1 / begin / write 1 5 5 c / commit 5 / \
+                read 1 100 0",
+        output: "open 0 0 / begin 1 / write 2 / read 2 10 a / write 3 / abort 4 / begin 5 / write 6 / commit 7 / read 6 5 c",
+    },
+    Point {
+        what: "a bare open counts overtaken images",
+        input: "open / begin / write 1 10 1 a / write 1 7 1 b / commit 1 / open / begin / write 2 10 5 c / write 2 11 5 c",
+        output: "open 0 0 / begin 1 / write 2 / write 3 / commit 4 / open 4 0 / begin 5 / no 10 0 / write 6",
+    },
+    Point {
+        what: "two files, one of them written again",
+        input: "open / begin / write 1 10 1 a / write 2 10 1 b / write 1 12 1 c / commit 1 / open 8 0 / read 1 11 0 / \
+                read 1 12 0 / read 2 12 0",
+        output: "open 0 0 / begin 1 / write 2 / write 3 / write 4 / commit 5 / open 5 0 / none / read 4 12 c / read 3 10 b",
+    },
+    Point {
         what: "grammar before state",
         input: "begin x / begin / open 8 / open  8 0 /  open / open  / OPEN / open 8 -0 / open 8 +0 / / read 1 1 / \
                 test 18446744073709551616 / test 18446744073709551615 / open 0008 00 / test 4294967297 / write 1 1 1 / \
@@ -169,6 +237,29 @@ pub const POINTS: &[Point] = &[
                  no 5 0 / what / what / what / cut 64",
     },
 ];
+
+/// Three images of file 1 under one action, the second and the third cut after so many bytes, and what must be answered: the newest one
+/// that is stored whole is the token, and the version in the end.
+pub fn three_images(second: u64, third: u64) -> (Vec<Vec<u8>>, Vec<String>) {
+    let mut talk = vec![("open".to_string(), "open 0 0".to_string()), ("begin".to_string(), "begin 1".to_string())];
+    talk.push(("write 1 10 1 a".to_string(), "write 2".to_string()));
+    let (mut used, mut newest) = (2, "read 2 10 a".to_string());
+    for (bytes, start, text) in [(second, 7, 'b'), (third, 12, 'c')] {
+        used += u64::from(bytes > 0);
+        if bytes == 64 {
+            newest = format!("read {} {} {}", used, start, text);
+        }
+        talk.push((format!("cut {}", bytes), format!("cut {}", bytes)));
+        talk.push((format!("write 1 {} 1 {}", start, text), "lost".to_string()));
+        talk.push(("open 8 0".to_string(), format!("open {} 1", used)));
+        talk.push(("read 1 20 1".to_string(), newest.clone()));
+    }
+    talk.push(("commit 1".to_string(), format!("commit {}", used + 1)));
+    talk.push(("open 8 0".to_string(), format!("open {} 0", used + 1)));
+    talk.push(("read 1 20 0".to_string(), newest));
+    talk.push(("read 1 6 0".to_string(), "none".to_string()));
+    talk.into_iter().map(|(line, answer)| (line.into_bytes(), answer)).unzip()
+}
 
 /// A text of points as lines; `~` becomes the byte 7F hex, which no text may have.
 pub fn lines(text: &str) -> Vec<Vec<u8>> {

@@ -121,6 +121,7 @@ pub struct History {
 pub struct Log {
     pub decided: BTreeMap<u64, bool>, // by action
     pub files: BTreeMap<u64, History>,
+    pub overtaken: u64, // images that their own action has written again
 }
 
 impl Log {
@@ -139,9 +140,11 @@ impl Log {
             return true;
         }
         let history = self.files.entry(file).or_default();
-        if history.token.is_some() || link != history.version.0 || start <= history.version.1 {
+        let has_others_token = history.token.is_some_and(|(by, ..)| by != action);
+        if has_others_token || link != history.version.0 || start <= history.version.1 {
             return false;
         }
+        self.overtaken += u64::from(history.token.is_some());
         history.token = Some((action, place, start));
         true
     }
@@ -162,8 +165,8 @@ impl Log {
     }
 }
 
-/// 0 if lawful, else the lowest place that is bad or does not fit; None if line 1 refuses.
-pub fn inspected(sheet: &[u8], files: u64) -> Option<u64> {
+/// 0 if lawful, else the lowest place that is bad or does not fit, and what the pages below it tell; None if line 1 refuses.
+pub fn climbed(sheet: &[u8], files: u64) -> Option<(u64, Log)> {
     let pages = sheet.len() / PAGE;
     if sheet.len() % PAGE != 0 || !is_in_bounds(pages as u64, files) {
         return None;
@@ -177,8 +180,8 @@ pub fn inspected(sheet: &[u8], files: u64) -> Option<u64> {
             _ => false,
         };
         if !is_lawful {
-            return Some(place);
+            return Some((place, log));
         }
     }
-    Some(0)
+    Some((0, log))
 }

@@ -11,14 +11,21 @@ struct ask {
 static struct kept kept;
 static int seen_refusal[16], seen_answer[8], seen_cut[PAGE + 2];
 
-/* What a test of an action, or a decision of one that is decided, has met; several may come at once. */
+/* What a test of an action, a decision of one that is decided, or a write has met; several may come at once. */
 enum { SAME, OPPOSITE, TRUE_FATE, OTHER_OUTCOME, NO_OUTCOME, TWO_OUTCOMES, OUTCOME_ABOVE, NO_OPENING, FULL_SHEET, PAGE_ABOVE,
-       TOKEN_LEFT, COLD_ROW, FALSELY_OPEN, MET };
+       TOKEN_LEFT, COLD_ROW, FALSELY_OPEN, OTHERS_TOKEN, OTHERS_TOKEN_10, OWN_LOWER, OWN_SAME, OWN_HIGHER, OWN_END_KEPT, OWN_END_RAISED,
+       OWN_COLD, OWN_10, OWN_11, OWN_BELOW_CURRENT, STRAY_END, MET };
 static const char *const met[MET] = {"the same decision again", "the opposite decision", "a fate that is the outcome's",
                                      "a fate that is not the outcome's", "a fate without an outcome", "two outcomes",
                                      "an outcome above the end", "an outcome without an opening", "a full sheet",
                                      "a page above the end that is not blank", "a token of the action in a row", "a cold row",
-                                     "a test of an undecided action that has an outcome"};
+                                     "a test of an undecided action that has an outcome", "another action's token",
+                                     "another action's token, and a start that 10 refuses", "a file written again at a lower start",
+                                     "a file written again at the same start", "a file written again at a higher start",
+                                     "a file written again below its token end", "a file written again at its token end or above",
+                                     "a file written again, its row cold", "a file written again at a start that 10 refuses",
+                                     "a file written again on too few pages", "a file written again, its token below the current place",
+                                     "no token, but a token end above the start"};
 static int seen_met[MET];
 
 /* ---- the plain calls: each gives the five numbers of its answer */
@@ -88,6 +95,9 @@ static int warm(uint64_t a[TOLD], uint64_t file, uint64_t *row) {
     return 1;
 }
 
+static void raise(uint64_t *end, uint64_t time) { *end = *end < time ? time : *end; }
+
+/* The token of the same action is overtaken, and leaves its end. */
 static void plain_write(uint64_t a[TOLD], const struct call *q) {
     uint64_t line = action_line(q->action), place = kept.end + 1;
     if (q->file < 1 || q->file > FILES)
@@ -99,7 +109,7 @@ static void plain_write(uint64_t a[TOLD], const struct call *q) {
     uint64_t *row = kept.rows + 5 * (q->file - 1);
     if (!warm(a, q->file, row))
         return;
-    if (row[3])
+    if (row[3] && action_of(row[3]) != q->action)
         return no(a, 8, action_of(row[3]));
     if (q->time <= row[2] || q->time <= kept.floor)
         return no(a, 10, 0);
@@ -107,11 +117,12 @@ static void plain_write(uint64_t a[TOLD], const struct call *q) {
     memcpy(value, q->value, q->length);
     if (!stored(a, kept.undecided + 1, 2, (int)q->length, q->file, q->action, row[1], q->time, value))
         return;
-    row[3] = place, row[4] = q->time;
+    row[4] = row[3] ? row[4] : 0;
+    raise(row + 4, q->time);
+    row[3] = place;
 }
 
 static void told_value(uint64_t a[TOLD], uint64_t place) { answer(a, VALUE, place, start_of(place), page_at(place)[1], 0); }
-static void raise(uint64_t *end, uint64_t time) { *end = *end < time ? time : *end; }
 
 static void plain_read(uint64_t a[TOLD], const struct call *q) {
     uint64_t line = q->action ? action_line(q->action) : 0, place;
@@ -187,12 +198,48 @@ static void meet_again(uint64_t action) {
     }
 }
 
+/* What is met where the action has the token already. */
+static void meet_own(const uint64_t row[5], uint64_t start, int is_cold, int is_late) {
+    uint64_t before = start_of(row[3]);
+    int has_room = pages - kept.end > kept.undecided;
+    seen_met[OWN_10] += !is_late;
+    seen_met[OWN_11] += is_late && !has_room;
+    if (!is_late || !has_room)
+        return;
+    seen_met[start < before ? OWN_LOWER : start == before ? OWN_SAME : OWN_HIGHER]++;
+    seen_met[row[4] > start ? OWN_END_KEPT : OWN_END_RAISED]++;
+    seen_met[OWN_COLD] += is_cold;
+    seen_met[OWN_BELOW_CURRENT] += row[3] < row[1];
+}
+
+/* What is met where a write comes to line 8. */
+static void meet_write(const struct call *q) {
+    uint64_t row[5], a[TOLD];
+    if (q->file < 1 || q->file > FILES || q->length > 32 || action_line(q->action))
+        return;
+    memcpy(row, kept.rows + 5 * (q->file - 1), sizeof row);
+    int is_cold = row[0] == 0;
+    if (!warm(a, q->file, row))
+        return;
+    int is_late = q->time > row[2] && q->time > kept.floor;
+    if (row[3] == 0) {
+        seen_met[STRAY_END] += is_late && row[4] > q->time;
+    } else if (action_of(row[3]) == q->action) {
+        meet_own(row, q->time, is_cold, is_late);
+    } else {
+        seen_met[OTHERS_TOKEN]++;
+        seen_met[OTHERS_TOKEN_10] += !is_late;
+    }
+}
+
 static void meet(const struct call *q) {
     if (kept.end > pages || kept.undecided > kept.end || action_line(q->action) == 5)
         return;
     uint8_t fate = kept.fates[q->action - 1];
     if (q->kind == TEST)
         seen_met[FALSELY_OPEN] += fate == 1 && outcome_of(q->action, kept.end);
+    if (q->kind == WRITE)
+        meet_write(q);
     if ((q->kind != COMMIT && q->kind != ABORT) || fate == 1)
         return;
     int is_same = fate == (q->kind == COMMIT ? 2 : 3);
@@ -262,6 +309,12 @@ static void decide_again(struct call *q, uint64_t action) {
         q->kind = TEST;
 }
 
+/* The action of a file's token if its row has one, else another. */
+static uint64_t token_action(uint64_t file, uint64_t other) {
+    uint64_t token = kept.rows[5 * ((file + FILES - 1) % FILES) + 3];
+    return token && token <= pages ? action_of(token) : other;
+}
+
 /* Mostly what a careful caller would ask: a file that there is, an undecided action, a start above the last. */
 static struct ask random_ask(void) {
     struct ask a = {{(enum kind)below(KINDS), 1 + below(FILES), below(20), random_action(), below(36), NULL}, {0}};
@@ -270,10 +323,14 @@ static struct ask random_ask(void) {
         q->file = below(FILES + 2);
     if (kept.undecided == 0 && below(2))
         q->kind = BEGIN;
+    if (q->kind == TEST && below(2))
+        q->kind = WRITE;
     if (q->kind == READ && below(3))
         q->action = 0;
-    if (q->kind == WRITE && below(8))
+    if (q->kind == WRITE && below(5))
         q->time = kept.floor + kept.rows[5 * ((q->file + FILES - 1) % FILES) + 2] + 1 + below(3);
+    if ((q->kind == WRITE || q->kind == READ) && below(3) == 0)
+        q->action = token_action(q->file, q->action);
     if (below(60) == 0)
         q->time = UINT64_MAX;
     if (q->kind == ABORT && below(2))
@@ -361,6 +418,20 @@ static void mislead(struct call *q) {
     decide_again(q, action);
 }
 
+/* A row whose token is gone but for its end, or lies below the current image, and a write of its file. */
+static void twist(struct call *q) {
+    uint64_t file = 1 + below(FILES), *row = kept.rows + 5 * (file - 1), place = row[3];
+    if (place == 0 || place > pages || !is_image(place, file))
+        return;
+    *q = (struct call){WRITE, file, kept.floor + row[2] + 1 + below(3), action_of(place), 0, NULL};
+    row[3] = 0;
+    if (below(2))
+        return raise(row + 4, q->time + below(3));
+    row[1] = place;
+    for (uint64_t p = place - 1; p > 0 && row[3] == 0; p--)
+        row[3] = is_image(p, file) && action_of(p) == q->action ? p : 0;
+}
+
 /* The call that was made is cut: what stood before it comes back from some byte of its page on. */
 static int cut_is_right(uint64_t place) {
     int n = cut_page(place, before + PAGE * (place - 1));
@@ -383,6 +454,8 @@ static int calls_alike(int wild) {
         }
         if (wild && below(20) == 0)
             mislead(&q.call);
+        if (wild && below(10) == 0)
+            twist(&q.call);
         uint64_t end = kept.end;
         if (!asked_alike(&q, a))
             return 0;
@@ -428,8 +501,8 @@ static int large_alike(int wild) {
     return 1;
 }
 
-/* Every answer, every refusal that these calls can give, every cut and all that a decided action can meet has come often; 2 is
-   open's. */
+/* Every answer, every refusal that these calls can give, every cut and all that a decided action or a write can meet has come often; 2
+   is open's. */
 static int all_seen(void) {
     for (int n = 1; n <= 13; n++)
         if (n != 2 && seen_refusal[n] < 20)
@@ -453,7 +526,7 @@ int main(int count, char **words) {
     told("runs on damaged sheets, fates, rows and states", runs_alike(1));
     told("runs with cuts on more than 1,024 pages", large_alike(0));
     told("runs with damage on more than 1,024 pages", large_alike(1));
-    told("every answer, refusal and cut seen, and all that a decided action can meet", all_seen());
+    told("every answer, refusal and cut seen, and all that a decided action or a write can meet", all_seen());
     printf("%d passed, %d failed\n", passed, failed);
     return failed != 0;
 }

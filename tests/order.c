@@ -16,7 +16,7 @@
 #include "plain.h"
 #include "tell.h"
 
-enum { APPENDS = 6, PAGES = APPENDS + 4, FILES = 8, PROGRAM_SIZE = 256 * PAGE };
+enum { APPENDS = 7, PAGES = APPENDS + 4, FILES = 8, PROGRAM_SIZE = 256 * PAGE };
 static uint8_t sheet[PAGES * PAGE];      /* of the calls, and of the wrong stores that must be found out */
 static uint8_t whole[APPENDS + 1][PAGE]; /* the pages that will be stored, by their places */
 
@@ -173,18 +173,20 @@ static void controls(void) {
 
 /* ---- the library and the program */
 
-/* Two actions: begin, write, commit; begin, write, abort. The first value has no byte that is 0. */
-static const char text[] = "all-thirty-two-bytes-of-a-value.", short_text[] = "AB";
+/* Two actions: begin, write, write the same file again, commit; begin, write, abort. The first value has no byte that is 0. */
+static const char text[] = "all-thirty-two-bytes-of-a-value.", short_text[] = "AB", again_text[] = "C";
 enum { LATE = 1234567890 };
 
 static void expect_pages(void) {
     uint8_t value[32] = {0};
     plain_pack(whole[1], 1, 0, 0, 1, 0, 0, value, 1);
-    plain_pack(whole[3], 3, 1, 0, 1, 0, 0, value, 3);
-    plain_pack(whole[4], 1, 0, 0, 4, 0, 0, value, 4);
-    plain_pack(whole[6], 3, 2, 0, 4, 0, 0, value, 6);
+    plain_pack(whole[4], 3, 1, 0, 1, 0, 0, value, 4);
+    plain_pack(whole[5], 1, 0, 0, 5, 0, 0, value, 5);
+    plain_pack(whole[7], 3, 2, 0, 5, 0, 0, value, 7);
+    memcpy(value, again_text, 1);
+    plain_pack(whole[3], 2, 1, 3, 1, 0, LATE - 1, value, 3);
     memcpy(value, short_text, 2);
-    plain_pack(whole[5], 2, 2, 3, 4, 2, LATE + 1, value, 5);
+    plain_pack(whole[6], 2, 2, 3, 5, 3, LATE + 1, value, 6);
     memcpy(value, text, 32);
     plain_pack(whole[2], 2, 32, 3, 1, 0, LATE, value, 2);
 }
@@ -196,12 +198,13 @@ static void calls(void) {
                           {WRITE, 3, LATE, 1, 32, (const uint8_t *)text},
                           {READ, 3, LATE, 1, 0, NULL},
                           {WRITE, 3, LATE, 1, 33, (const uint8_t *)text}, /* refused */
+                          {WRITE, 3, LATE - 1, 1, 1, (const uint8_t *)again_text},
                           {COMMIT, 0, 0, 1, 0, NULL},
                           {COMMIT, 0, 0, 1, 0, NULL}, /* asked again */
                           {BEGIN, 0, 0, 0, 0, NULL},
-                          {WRITE, 3, LATE + 1, 4, 2, (const uint8_t *)short_text},
-                          {TEST, 0, 0, 4, 0, NULL},
-                          {ABORT, 0, 0, 4, 0, NULL}};
+                          {WRITE, 3, LATE + 1, 5, 2, (const uint8_t *)short_text},
+                          {TEST, 0, 0, 5, 0, NULL},
+                          {ABORT, 0, 0, 5, 0, NULL}};
     struct lent l = {sheet, sizeof sheet, fates, PAGES, rows, 5 * FILES, 0, 0, 0};
     for (size_t i = 0; i < sizeof list / sizeof *list; i++) {
         uint64_t told[TOLD];
@@ -272,12 +275,12 @@ static int feed(int input, const char *lines) { return write(input, lines, strle
    is waiting; like the second commit they append nothing. The sheet is the program's only until its end, so that it is watched up
    to the last reply. */
 static int talked(const char *program) {
-    static const char rest[] = "write 3 1234567890 1 all-thirty-two-bytes-of-a-value.\nread 3 1234567890 1\nwrite 3 1234567891 1 C\n"
-                               "commit 1\ncommit 1\nbegin\nwrite 3 1234567891 4 AB\ntest 4\nabort 4\nopen\ncut 20\n"
-                               "read 3 1234567890 0\nabort 4\n";
-    static const char replies[] = "write 2\nread 2 1234567890 all-thirty-two-bytes-of-a-value.\nno 8 1\ncommit 3\ncommit 3\n"
-                                  "begin 4\nwrite 5\ntest 1 0\nabort 6\nopen 6 0\ncut 20\n"
-                                  "read 2 1234567890 all-thirty-two-bytes-of-a-value.\nabort 6\n";
+    static const char rest[] = "write 3 1234567890 1 all-thirty-two-bytes-of-a-value.\nread 3 1234567890 1\nwrite 3 0 1 C\n"
+                               "write 3 1234567889 1 C\ncommit 1\ncommit 1\nbegin\nwrite 3 1234567891 5 AB\ntest 5\nabort 5\n"
+                               "open\ncut 20\nread 3 1234567890 0\nabort 5\n";
+    static const char replies[] = "write 2\nread 2 1234567890 all-thirty-two-bytes-of-a-value.\nno 10 0\n"
+                                  "write 3\ncommit 4\ncommit 4\nbegin 5\nwrite 6\ntest 1 0\nabort 7\n"
+                                  "open 7 0\ncut 20\nread 3 1234567889 C\nabort 7\n";
     int input, output;
     pid_t process = started(program, &input, &output);
     if (process < 0 || ptrace(PTRACE_CONT, process, NULL, NULL) != 0 || !feed(input, "open\nbegin\n")

@@ -66,14 +66,20 @@ __attribute__((unused)) static uint64_t highest_start(uint64_t upto, uint64_t fi
     return highest;
 }
 
-/* A file's row by the fates that are lent, or by the pages up to the end if none are. */
+/* A file's row by the fates that are lent, or by the pages up to the end if none are. A fate is looked for once where images of one action
+   follow each other. */
 static void row_of(uint64_t file, const uint8_t *fates, uint64_t end, uint64_t row[5]) {
+    uint64_t action = 0;
+    uint8_t fate = 0;
     memset(row, 0, 5 * sizeof *row);
     row[0] = 1;
     for (uint64_t p = end; p > 0; p--) {
         if (!is_image(p, file))
             continue;
-        uint8_t fate = fates ? fates[action_of(p) - 1] : fate_of(action_of(p), end);
+        if (action_of(p) != action) {
+            action = action_of(p);
+            fate = fates ? fates[action - 1] : fate_of(action, end);
+        }
         if (fate == 2) {
             row[1] = p;
             row[2] = start_of(p);

@@ -1,7 +1,8 @@
 /* Points of documents 01 and 02 that the command program cannot show, at the calls themselves: a cold row that stays cold under refusals 1
    to 6 and is rebuilt under the later ones, damaged rows, a page above the end that is not blank, a link that leads nowhere, as many
    links as a sheet can have, an outcome that is lost on two pages, a decision that is asked again, also with fates and sheets that no call
-   has left so, and the highest start of any bytes. Prints a line for each and 'N passed, M failed'. */
+   has left so, the highest start of any bytes, and a file that its action writes again. Prints a line for each and 'N passed, M
+   failed'. */
 #include "door.h"
 #include "plain.h"
 #include "tell.h"
@@ -34,6 +35,14 @@ static void set_up(void) {
         rows[i] = i % 5 ? 77 + (uint64_t)i : 0;
 }
 
+/* One more undecided action, 9: files with a token of action 7 are not for it to write. */
+static void set_up_another(void) {
+    set_up();
+    put(1, 0, 0, 9, 0, 0, 9);
+    fates[8] = 1;
+    end = 9, undecided = 2;
+}
+
 static struct lent lent(void) { return (struct lent){sheet, sizeof sheet, fates, PAGES, rows, NUMBERS, end, 0, undecided}; }
 
 /* A refusal's number, 0 for an answer. */
@@ -64,7 +73,8 @@ static void cold_rows(void) {
     expect("refusal 4 leaves a cold row cold", WRITE, 1, 40, 7, 33, 4, 0, 0);
     expect("refusal 5 leaves a cold row cold", READ, 1, 5, 9, 0, 5, 0, 0);
     expect("refusal 6 leaves a cold row cold", WRITE, 1, 40, 4, 0, 6, 0, 0);
-    expect("refusal 8 leaves the row rebuilt", WRITE, 1, 40, 7, 0, 8, 7, 1);
+    set_up_another();
+    expect("refusal 8 leaves the row rebuilt", WRITE, 1, 40, 9, 0, 8, 7, 1);
     told("its numbers are those of the pages", rows[1] == 5 && rows[2] == 20 && rows[3] == 8 && rows[4] == 30);
     set_up();
     expect("refusal 9 leaves the row rebuilt", READ, 1, 30, 0, 0, 9, 7, 1);
@@ -361,6 +371,177 @@ static void longest_sheets(void) {
     told("65,536 pages whose starts fall", highest_of(MOST_PAGES) == MOST_PAGES - 1 && highest_of(MOST_PAGES + 1) == MOST_PAGES - 1);
 }
 
+/* Whether action 7 writes file 1 again at a start, and its row's token end is then this: the current version stays, and is the link. */
+static int writes_again(uint64_t start, uint64_t token_end) {
+    uint64_t got[TOLD];
+    make_call(lent(), (struct call){.kind = WRITE, .file = 1, .time = start, .action = 7}, got);
+    const uint8_t *page = sheet + PAGE * LAST;
+    return got[WHICH] == STORED && got[FIRST] == 9 && got[END] == 9 && got[UNDECIDED] == 1 && plain_fits(page, 9, 2)
+           && plain_get(page, 8, 12) == 7 && plain_get(page, 12, 16) == 5 && plain_get(page, 16, 24) == start && rows[0] == 1
+           && rows[1] == 5 && rows[2] == 20 && rows[3] == 9 && rows[4] == token_end;
+}
+
+/* The row of file 1 rebuilt, its token read up to a time. */
+static void set_up_read(uint64_t time) {
+    uint64_t got[TOLD];
+    set_up();
+    make_call(lent(), (struct call){.kind = READ, .file = 1, .time = time, .action = 7}, got);
+}
+
+static void written_again(void) {
+    uint64_t got[TOLD];
+    set_up();
+    told("an own token is written again before its start, its row cold: its end stays", writes_again(21, 30));
+    set_up();
+    told("at its start", writes_again(30, 30));
+    set_up();
+    told("past it: the end is the new start", writes_again(31, 31));
+    set_up_read(40);
+    told("after an own read at 40 the end is 40", rows[4] == 40 && writes_again(25, 40));
+    end = 9;
+    make_call(lent(), (struct call){.kind = COMMIT, .action = 7}, got);
+    told("and the current end once committed", got[FIRST] == 10 && rows[1] == 9 && rows[2] == 40 && rows[3] == 0 && rows[4] == 0);
+    set_up_read(40);
+    told("but a start above that is the end", writes_again(41, 41));
+    set_up();
+    expect("at the current end it is refused 10", WRITE, 1, 20, 7, 0, 10, 0, 1);
+    told("and the token stays", rows[3] == 8 && rows[4] == 30);
+    undecided = 2;
+    expect("with too few pages, 11", WRITE, 1, 40, 7, 0, 11, 0, 1);
+    undecided = 1;
+    sheet[PAGE * LAST + 5] = 1;
+    expect("with a page above the end that is not blank, 12", WRITE, 1, 40, 7, 0, 12, 0, 1);
+    told("and the token stays then too", rows[3] == 8 && rows[4] == 30);
+    set_up_another();
+    expect("another action is refused 8 before 10 and 11", WRITE, 1, 0, 9, 0, 8, 7, 1);
+    fates[6] = 2;
+    expect("also where the token's action is decided", WRITE, 1, 40, 9, 0, 8, 7, 1);
+    set_up();
+    memcpy(rows + 5, (uint64_t[]){1, 0, 0, 0, 99}, 5 * sizeof *rows);
+    make_call(lent(), (struct call){.kind = WRITE, .file = 2, .time = 40, .action = 7}, got);
+    told("an end that stands without a token is not kept", got[WHICH] == STORED && rows[8] == 9 && rows[9] == 40);
+}
+
+/* Ten pages: action 1 wrote file 1 at 10 and is committed; action 4 wrote it at 30, at 20 and at a start, and may be committed. */
+static void set_up_three(uint64_t start, int is_committed) {
+    memset(sheet, 0, sizeof sheet);
+    put(1, 0, 0, 1, 0, 0, 1);
+    put(2, 0, 1, 1, 0, 10, 2);
+    put(3, 1, 0, 1, 0, 0, 3);
+    put(1, 0, 0, 4, 0, 0, 4);
+    put(2, 0, 1, 4, 2, 30, 5);
+    put(2, 0, 1, 4, 2, 20, 6);
+    put(2, 0, 1, 4, 2, start, 7);
+    if (is_committed)
+        put(3, 1, 0, 4, 0, 0, 8);
+}
+
+/* Page 7 under an action, with a link and a start; or page 10, where action 4 is committed and action 9 follows. */
+static uint64_t third(uint64_t action, uint64_t link, uint64_t start) {
+    set_up_three(25, 0);
+    put(2, 0, 1, action, link, start, 7);
+    return bench_inspect(sheet, sizeof sheet, 2);
+}
+static uint64_t next(uint64_t link, uint64_t start) {
+    set_up_three(25, 1);
+    put(1, 0, 0, 9, 0, 0, 9);
+    put(2, 0, 1, 9, link, start, 10);
+    return bench_inspect(sheet, sizeof sheet, 2);
+}
+
+static void lawful_sheets(void) {
+    told("three images of a file under one action are lawful, whatever their starts", third(4, 2, 25) == 0 && third(4, 2, 11) == 0
+                                                                                          && third(4, 2, 30) == 0 && third(4, 2, 99) == 0);
+    told("not where one is linked to an image that it overtakes", third(4, 5, 25) == 7 && third(4, 6, 25) == 7 && third(4, 0, 25) == 7);
+    told("nor where one starts no later than the version", third(4, 2, 10) == 7 && third(4, 2, 9) == 7);
+    told("nor where its action is decided", third(1, 2, 25) == 7);
+    set_up_three(25, 0);
+    put(1, 0, 0, 6, 0, 0, 6);
+    put(2, 0, 1, 6, 2, 25, 7);
+    told("nor where the token is another action's", bench_inspect(sheet, sizeof sheet, 2) == 7);
+    told("once committed, the next version goes on from the newest image alone", next(7, 26) == 0 && next(7, 30) == 0);
+    told("not from one that was overtaken", next(5, 31) == 10 && next(6, 26) == 10 && next(2, 26) == 10 && next(7, 25) == 10);
+}
+
+/* What a rebuild of file 1 answers, the sheet just opened. */
+static int rebuilds(uint64_t current, uint64_t current_end, uint64_t token, uint64_t token_end) {
+    uint64_t got[TOLD];
+    make_call(lent(), (struct call){.kind = OPEN}, got);
+    end = got[END], undecided = got[UNDECIDED];
+    make_call(lent(), (struct call){.kind = REBUILD, .file = 1}, got);
+    return got[WHICH] == REBUILT && got[FIRST] == current && got[SECOND] == current_end && got[THIRD] == token && got[FOURTH] == token_end;
+}
+
+/* Whether a read of file 1 at a time, inside an action or outside any, gives the image at a place. */
+static int reads(uint64_t time, uint64_t action, uint64_t place) {
+    uint64_t got[TOLD];
+    make_call(lent(), (struct call){.kind = READ, .file = 1, .time = time, .action = action}, got);
+    return got[WHICH] == VALUE && got[FIRST] == place;
+}
+
+static void newest_counts(void) {
+    set_up_three(25, 0);
+    told("of three images the newest is the token, with its own start as the end", rebuilds(2, 10, 7, 25));
+    told("inside it is found, and before it the version", reads(25, 4, 7) && reads(24, 4, 2));
+    told("outside the version is found up to its start", reads(24, 0, 2) && !reads(25, 0, 2));
+    set_up_three(25, 1);
+    told("once committed it is the version", rebuilds(7, 25, 0, 0) && reads(25, 0, 7) && reads(99, 0, 7));
+    told("and those that it overtook are not found", reads(24, 0, 2) && reads(10, 0, 2));
+    put(2, 0, 1, 4, 5, 35, 7);
+    told("a read goes by the links: if one leads to an overtaken image, that is found", rebuilds(7, 35, 0, 0) && reads(34, 0, 5));
+}
+
+/* An image of file 1 under action 1, cut after some bytes, and the sheet opened again: whether it is lawful. */
+static int image_is_cut(struct lent *l, uint64_t start, int bytes) {
+    uint64_t got[TOLD], place = l->end + 1;
+    make_call(*l, (struct call){.kind = WRITE, .file = 1, .time = start, .action = 1}, got);
+    int is_stored = got[WHICH] == STORED && got[FIRST] == place;
+    memset(l->sheet + PAGE * (place - 1) + bytes, 0, (size_t)(PAGE - bytes));
+    make_call(*l, (struct call){.kind = OPEN}, got);
+    l->end = got[END], l->undecided = got[UNDECIDED];
+    return is_stored && got[WHICH] == OPENED && l->end == place - (bytes == 0) && l->undecided == 1
+           && bench_inspect(l->sheet, l->size, 2) == 0;
+}
+
+static int finds(struct lent l, uint64_t action, uint64_t place, uint64_t start) {
+    uint64_t got[TOLD];
+    make_call(l, (struct call){.kind = READ, .file = 1, .time = 50, .action = action}, got);
+    return got[WHICH] == VALUE && got[FIRST] == place && got[SECOND] == start;
+}
+
+/* Three images of file 1 under one action, at 10, 7 and 12, of which the second and the third are cut after some bytes: whether the newest
+   that is whole is the token each time, and the version after the commit. */
+static int three_images(int second, int third) {
+    uint8_t six[6 * PAGE] = {0}, six_fates[6] = {0};
+    uint64_t number[NUMBERS] = {0}, got[TOLD], newest = 2, start = 10;
+    struct lent l = {six, sizeof six, six_fates, 6, number, NUMBERS, 0, 0, 0};
+    make_call(l, (struct call){.kind = BEGIN}, got);
+    l.end = got[END], l.undecided = got[UNDECIDED];
+    if (!image_is_cut(&l, 10, PAGE) || !image_is_cut(&l, 7, second))
+        return 0;
+    if (second == PAGE)
+        newest = l.end, start = 7;
+    if (!finds(l, 1, newest, start) || !image_is_cut(&l, 12, third))
+        return 0;
+    if (third == PAGE)
+        newest = l.end, start = 12;
+    if (!finds(l, 1, newest, start))
+        return 0;
+    make_call(l, (struct call){.kind = COMMIT, .action = 1}, got);
+    make_call(l, (struct call){.kind = OPEN}, got);
+    l.end = got[END], l.undecided = got[UNDECIDED];
+    return got[WHICH] == OPENED && l.undecided == 0 && bench_inspect(six, sizeof six, 2) == 0 && finds(l, 0, newest, start);
+}
+
+static void cut_images(void) {
+    int right = 0;
+    for (int second = 0; second <= PAGE; second++)
+        for (int third = 0; third <= PAGE; third++)
+            right += three_images(second, third);
+    told("three images, the second and the third cut after any bytes: the newest whole one is the token, and then the version",
+         right == (PAGE + 1) * (PAGE + 1));
+}
+
 int main(void) {
     cold_rows();
     damaged_rows();
@@ -373,6 +554,10 @@ int main(void) {
     which_starts_count();
     sizes_and_counts();
     longest_sheets();
+    written_again();
+    lawful_sheets();
+    newest_counts();
+    cut_images();
     printf("%d passed, %d failed\n", passed, failed);
     return failed != 0;
 }

@@ -15,7 +15,8 @@ static int page_fits(uint64_t place) {
         return 1;
     uint64_t row[5];
     row_of(file_of(place), NULL, place - 1, row);
-    return row[3] == 0 && link_of(place) == row[1] && start_of(place) > row[2];
+    int is_free = row[3] == 0 || action_of(row[3]) == action_of(place);
+    return is_free && link_of(place) == row[1] && start_of(place) > row[2];
 }
 
 static uint64_t inspected(void) {
@@ -39,6 +40,8 @@ static void add_page(uint64_t place, int wild) {
     for (uint64_t k = 0; k < 20 && place > 1 && fate_of(action, place - 1) != 1; k++)
         action = 1 + (k < 10 ? below(place - 1) : (action + place - 3) % (place - 1));
     row_of(file, NULL, place - 1, row);
+    if (row[3] && (kind == 2 || kind == 3) && below(2))
+        action = action_of(row[3]);
     if (kind == 1)
         plain_pack(page, 1, 0, 0, place, 0, 0, none, place);
     else if (kind == 4)
@@ -139,6 +142,14 @@ static int rebuilds_alike(uint64_t (*count)(void), int sheets) {
     return seen[0] > sheets / 10 && (sheets < SHEETS || (seen[1] > 100 && seen[3] > 100 && seen[7] > 100));
 }
 
+/* Whether an image is overtaken: there is a newer one of its file under its action. */
+static int is_overtaken(uint64_t place) {
+    for (uint64_t p = pages; p > place; p--)
+        if (file_of(p) == file_of(place) && action_of(p) == action_of(place) && is_kind(p, 2))
+            return 1;
+    return 0;
+}
+
 static int inspects_alike(uint64_t (*count)(void), int sheets, int wild) {
     int lawful = 0, far = 0;
     for (int k = 0; k < sheets; k++) {
@@ -152,9 +163,70 @@ static int inspects_alike(uint64_t (*count)(void), int sheets, int wild) {
     return wild ? lawful > sheets / 20 && lawful < sheets - sheets / 20 && far > sheets / 20 : lawful == sheets;
 }
 
+/* What an image above a lawful sheet may be, of a file that has a token. */
+enum { FITS, FITS_ABOVE_TWO, BEFORE_TOKEN, BY_ANOTHER, LINKED_TO_TOKEN, LINKED_ELSEWHERE, NOT_ABOVE, OVER };
+static const char *const over[OVER] = {"one that fits", "one that fits above two or more", "one that fits and starts before the token",
+                                       "one by another action", "one linked to the token", "one linked elsewhere",
+                                       "one that starts no later than the version"};
+static int over_counts[OVER];
+
+/* Whether an image overtakes another: there is an older one of its file under its action. */
+static int overtakes(uint64_t place) {
+    for (uint64_t p = place - 1; p > 0; p--)
+        if (file_of(p) == file_of(place) && action_of(p) == action_of(place) && is_kind(p, 2))
+            return 1;
+    return 0;
+}
+
+static int image_is_alike(uint64_t place, const uint64_t row[5], uint64_t action, uint64_t link, uint64_t start) {
+    static const uint8_t value[32] = {9};
+    plain_pack(page_at(place), 2, 1, file_of(row[3]), action, link, start, value, place);
+    int fits = page_fits(place), is_own = action == action_of(row[3]), is_above = start > row[2];
+    over_counts[FITS] += fits;
+    over_counts[FITS_ABOVE_TWO] += fits && overtakes(row[3]);
+    over_counts[BEFORE_TOKEN] += fits && start < start_of(row[3]);
+    over_counts[BY_ANOTHER] += !is_own && link == row[1] && is_above;
+    over_counts[LINKED_TO_TOKEN] += is_own && link == row[3] && is_above;
+    over_counts[LINKED_ELSEWHERE] += is_own && link != row[3] && link != row[1] && is_above;
+    over_counts[NOT_ABOVE] += is_own && link == row[1] && !is_above && start > 0;
+    return bench_inspect(sheet, PAGE * pages, FILES) == (fits ? 0 : place);
+}
+
+/* Images of a file that has a token: by its action and another one, with links and starts about those of version and token. */
+static int images_are_alike(uint64_t place, const uint64_t row[5]) {
+    uint64_t another = 1 + below(place - 1), token = start_of(row[3]);
+    while (fate_of(another, place - 1) != 1)
+        another = 1 + another % (place - 1);
+    uint64_t actions[] = {action_of(row[3]), another}, links[] = {row[1], row[3], below(place)};
+    uint64_t starts[] = {row[2] - (row[2] > 0), row[2], row[2] + 1, token - 1, token, token + (token < UINT64_MAX)};
+    for (int i = 0; i < 2 * 3 * 6; i++)
+        if (!image_is_alike(place, row, actions[i % 2], links[i / 2 % 3], starts[i / 6]))
+            return 0;
+    return 1;
+}
+
+static int inspects_images_alike(uint64_t (*count)(void), int sheets, int least) {
+    int all = 1;
+    memset(over_counts, 0, sizeof over_counts);
+    for (int k = 0; k < sheets; k++) {
+        fill_sheet(count(), 0);
+        uint64_t place = end_of() + 1, row[5];
+        for (uint64_t f = 1; f <= FILES && place <= pages; f++) {
+            row_of(f, NULL, place - 1, row);
+            if (row[3] && !images_are_alike(place, row))
+                return 0;
+            memset(page_at(place), 0, PAGE);
+        }
+    }
+    for (int i = 0; i < OVER; i++)
+        if (over_counts[i] < least)
+            all = (printf("only %d times: %s\n", over_counts[i], over[i]), 0);
+    return all;
+}
+
 /* What there may be where the highest start is asked for; several may come at once. After the first come fates 1 to 3, in this order. */
 enum { NO_IMAGE, UNDECIDED_HIGHEST, COMMITTED_HIGHEST, ABORTED_HIGHEST, NEWEST_LOWER, TORN_HIGHER, NO_OPENING, HIGHER_FILE, SPOILT_HIGHER,
-       PART_HIGHER, NO_FILES, FAR, CASES };
+       PART_HIGHER, NO_FILES, FAR, OVERTAKEN_HIGHEST, CASES };
 
 /* How often each must come at least on lawful sheets, on any and on large ones; 0 where it cannot, or comes too seldom to be asked for. */
 enum { LAWFUL, ANY, LARGE };
@@ -174,6 +246,7 @@ static const struct {
     [PART_HIGHER] = {"part of an image higher", {200, 200, 0}},
     [NO_FILES] = {"images, but a count of 0 files or above 256", {5000, 5000, 50}},
     [FAR] = {"a start above 2^56", {100, 100, 0}},
+    [OVERTAKEN_HIGHEST] = {"the highest overtaken", {500, 500, 10}},
 };
 static int case_counts[CASES];
 
@@ -206,6 +279,7 @@ static void count_cases(uint64_t size, uint64_t files, uint64_t highest) {
         int what = page_at(p)[0] == 2 && start_of(p) >= highest ? case_of_image(p, size, files) : CASES;
         if (what < CASES && (start_of(p) > highest || what <= ABORTED_HIGHEST))
             case_counts[what]++;
+        case_counts[OVERTAKEN_HIGHEST] += what >= UNDECIDED_HIGHEST && what <= ABORTED_HIGHEST && is_overtaken(p);
     }
 }
 
@@ -309,6 +383,7 @@ int main(int count, char **words) {
     told("rebuild, any rows and fates", rebuilds_alike(small_count, SHEETS));
     told("inspect, lawful sheets", inspects_alike(small_count, SHEETS, 0));
     told("inspect, any sheets", inspects_alike(small_count, SHEETS, 1));
+    told("inspect, an image above a token", inspects_images_alike(small_count, SHEETS, 500));
     told("highest start, lawful sheets", starts_alike(small_count, SHEETS, 0, LAWFUL));
     told("highest start, any sheets", starts_alike(small_count, SHEETS, 1, ANY));
     told("open, lawful sheets of more than 1,024 pages", opens_alike(large_count, LARGE_SHEETS, 0));
@@ -316,6 +391,7 @@ int main(int count, char **words) {
     told("rebuild, on more than 1,024 pages", rebuilds_alike(large_count, LARGE_SHEETS));
     told("inspect, lawful sheets of more than 1,024 pages", inspects_alike(large_count, LARGE_SHEETS, 0));
     told("inspect, any sheets of more than 1,024 pages", inspects_alike(large_count, LARGE_SHEETS, 1));
+    told("inspect, an image above a token on more than 1,024 pages", inspects_images_alike(large_count, LARGE_SHEETS, 20));
     told("highest start, any sheets of more than 1,024 pages", starts_alike(large_count, LARGE_SHEETS, 1, LARGE));
     told("open and inspect, 65,536 pages", longest_is_right());
     printf("%d passed, %d failed\n", passed, failed);

@@ -46,6 +46,9 @@ zeros 16384 >blank
 { "$tool" pack 8 1 opening; "$tool" pack 8 2 image 3 1 0 10 AB; "$tool" pack 8 3 committed 1; zeros 192; } >lawful
 { "$tool" pack 8 1 opening; "$tool" pack 8 2 image 8 1 0 10 0x00ff20; "$tool" pack 8 3 aborted 1 | head -c 20; zeros 44; } >torn
 { "$tool" pack 8 1 opening; "$tool" pack 8 2 committed 1; "$tool" pack 8 3 aborted 1; } >twice
+{ "$tool" pack 8 1 opening; "$tool" pack 8 2 image 3 1 0 10 AB; "$tool" pack 8 3 image 3 1 0 7 AC; "$tool" pack 8 4 image 3 1 0 9 AD; } >again
+{ head -c 192 again; "$tool" pack 8 4 image 3 1 3 9 AD; } >linked
+{ "$tool" pack 8 1 opening; "$tool" pack 8 2 image 3 1 0 10 AB; "$tool" pack 8 3 opening; "$tool" pack 8 4 image 3 3 0 9 AD; } >anothers
 { "$tool" pack 8 1 opening; zeros 64; "$tool" pack 8 3 opening; } >gap
 { "$tool" pack 8 1 opening; "$tool" pack 8 2 image 1 1 0 1 0x; "$tool" pack 8 3 image 2 1 0 1 0x3078; } >values
 { zeros 63; } >short
@@ -78,6 +81,11 @@ expect 1 "torn: $wrong
 2: unfit" "" inspect 7 torn
 expect 1 "twice: $wrong
 3: aborted, action 1" "" inspect 8 twice
+expect 0 "again: lawful, 4 of 4 pages used" "" inspect 8 again
+expect 1 "linked: $wrong
+4: image, file 3, action 1, link 3, start 9, value AD" "" inspect 8 linked
+expect 1 "anothers: $wrong
+4: image, file 3, action 3, link 0, start 9, value AD" "" inspect 8 anothers
 expect 1 "gap: $wrong
 2: blank" "" inspect 8 gap
 expect 1 "stray: $wrong
