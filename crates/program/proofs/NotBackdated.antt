@@ -36,7 +36,8 @@ use Rattle.promises.proofs.boxes.Boxes.{Reached}
 use Rattle.promises.proofs.boxes.BoxRuns.{reached-next, reached-on, reached}
 use Rattle.promises.proofs.boxes.Found.{some-is, not-heard}
 use Rattle.promises.proofs.boxes.Extends.{stays}
-use Rattle.promises.proofs.answers.Origins.{solid-image, page-lies-in, lies-page, Adds, from-event}
+use Rattle.promises.proofs.boxes.BoxPages.{solid-image, page-lies-in, lies-page}
+use Rattle.promises.proofs.answers.Origins.{Adds, from-event}
 use Rattle.program.specs.Program.{Memory, memoryOf, turned, talked, firstMemory, callEvent, openEvent, eventsOf, Keeps, AllLines, memoryAfter, runOf, boxNow}
 use Rattle.program.specs.Backdating.{IsUnnumbered, NothingBackdated}
 use Rattle.program.proofs.Meets.{Met, met-on, met-off, leftFor, met-sheet, AllRows, line-steps}

@@ -73,15 +73,6 @@ newest-effective x xs h (next {y} {xs = ys} m) n =
     next (among-notBy (y .image .action) x (effective ys) (newest-effective x ys (h .1) m (λ z k e. n z (next k) e))
     (λ e. omega (arith, n y first (sym e), each-among (λ z. z .place < y .place) x ys (h .0) m)))
 
-first-or : (x y : Placed) (xs ys : List Placed) → (Among x ys → Among x xs) → Among x (y ∷ ys) → Among x (y ∷ xs)
-first-or x y xs ys r first = first
-first-or x y xs ys r (next m) = next (r m)
-
-effective-among : (x : Placed) (xs : List Placed) → Among x (effective xs) → Among x xs
-unfolding effective
-effective-among x [] m = elim m [ ]
-effective-among x (y ∷ ys) m = first-or x y ys (notBy (y .image .action) (effective ys)) (λ k. effective-among x ys (notBy-among (y .image .action) x (effective ys) k .1)) m
-
 newest-or : (x y z : Placed) (xs ys : List Placed) → Each (λ u. u .place < z .place) ys → (Among x xs → x .image .action ≡ z .image .action → ⊥) → (Among x xs → Among y ys → y .place ≤ x .place)
     → y .image .action ≡ x .image .action → Among x (z ∷ xs) → Among y (z ∷ ys) → y .place ≤ x .place
 newest-or x y z xs ys h n r e first first = omega arith
