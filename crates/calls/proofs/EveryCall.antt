@@ -1,5 +1,5 @@
--- Every call ends in one of four ways: a refusal by one of its lines, an answer, an answer with one row changed, or a page appended
--- where there is room for it. A property of results that all four have is a property of every call. Assumes nothing.
+-- Every call ends in one of four ways: a refusal by one of its lines, an answer, an answer with the row of its file changed, or a page
+-- appended where there is room for it. A property of results that all four have is a property of every call. Assumes nothing.
 use Prim.Native.Nat.{ℕ, suc, pred, _+_, _-_, _<_, _≤_}
 use mathlib.Core.Path.{_≡_, refl}
 use mathlib.Core.Bool.{Bool, true, false, cond, _&&_}

@@ -20,7 +20,7 @@ use Rattle.recovery.specs.Steps.{sealedImage, sheetWorld, rowHoldsBy, rowHoldsI
 use Rattle.recovery.proofs.Held.{row-held}
 use Rattle.calls.specs.Calls.{imageOf, actionOf, isFreeFor}
 use Rattle.calls.specs.LineSteps.{roomLine}
-use Rattle.calls.specs.ReadSteps.{storeAnswer, writeAnswer, holderOf}
+use Rattle.calls.specs.ReadSteps.{storeAnswer, writeAnswer, tokenAction}
 use Rattle.calls.proofs.ReadImages.{met-at, RowHeld, no-token}
 
 -- ---- lines 10 to 12
@@ -55,7 +55,7 @@ module _ (s : List ℕ) (files : ℕ) (st : State) (f t a : ℕ) (r : Row) (u v 
       let k : rowHoldsIn s files (st .end) f r ≡ false = sym (row-held files s (st .end) f r u v hu hv) ∙ h in
       simp k
 
-  module _ (h : rowHoldsBy (st .end) r u v ≡ true) (n : ℕ) (hn : n ≡ holderOf v a) where
+  module _ (h : rowHoldsBy (st .end) r u v ≡ true) (n : ℕ) (hn : n ≡ tokenAction v a) where
     held : rowHoldsIn s files (st .end) f r ≡ true
     held = sym (row-held files s (st .end) f r u v hu hv) ∙ h
 
@@ -63,8 +63,8 @@ module _ (s : List ℕ) (files : ℕ) (st : State) (f t a : ℕ) (r : Row) (u v 
     Held = (n ≡ a → isFreeFor (sheetWorld s files (st .end)) a r ≡ true)
         × ((n ≡ a → ⊥) → (isFreeFor (sheetWorld s files (st .end)) a r ≡ false) × (actionOf (imageOf (nth blank (pagesOf s files) (r .token))) ≡ n))
 
-    by-holder : (z : Sought) → v ≡ z → n ≡ holderOf z a → Held
-    unfolding holderOf
+    by-holder : (z : Sought) → v ≡ z → n ≡ tokenAction z a → Held
+    unfolding tokenAction
     by-holder (sought.Sought.Image x) i k =
         let m = met-at files s f (r .token) x (sym hv ∙ i) in
         let e : actionOf (imageOf (nth blank (pagesOf s files) (r .token))) ≡ n = ap (λ (g : Entry). actionOf (imageOf g)) (m .page-is) ∙ sym k in

@@ -73,6 +73,6 @@ writeAnswer s files state file start a r =
     (Refused 7 0)
 
 -- the action whose token was found, or the given one if there is none
-unfoldable pub holderOf : Sought → ℕ → ℕ
-holderOf (sought.Sought.Image x) a = x .action
-holderOf sought.Sought.Other a = a
+unfoldable pub tokenAction : Sought → ℕ → ℕ
+tokenAction (sought.Sought.Image x) a = x .action
+tokenAction sought.Sought.Other a = a

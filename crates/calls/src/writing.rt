@@ -12,7 +12,7 @@ use recovery::file_count;
 use recovery::has_file;
 use recovery::image_at;
 use recovery::is_lent_right;
-use recovery::later;
+use recovery::raised_row;
 use recovery::refuse;
 use recovery::row_holds_by;
 use recovery::set_row;
@@ -28,7 +28,7 @@ ghost use Rattle.recovery.specs.Steps.{lineOne};
 ghost use Rattle.calls.specs.Calls.{Call, writtenEnd, written};
 ghost use Rattle.calls.specs.Leaves.{callLeaves, padded};
 ghost use Rattle.calls.specs.LineSteps.{actionLine};
-ghost use Rattle.calls.specs.ReadSteps.{storeAnswer, writeAnswer, holderOf};
+ghost use Rattle.calls.specs.ReadSteps.{storeAnswer, writeAnswer, tokenAction};
 
 // A value and zeros after it.
 fn pad(value: &[u8]) -> [u8; Page::VALUE_SIZE]
@@ -63,8 +63,8 @@ fn store_answer(sheet: &[u8], state: State, files: u64, start: u64, row: Row) ->
 }
 
 // The action whose token was found, or the given one if there is none.
-fn holder(token: Sought, action: u64) -> u64
-    ensures { λ r. ⌜ r ≡ holderOf token action ⌝ }
+fn token_action(token: Sought, action: u64) -> u64
+    ensures { λ r. ⌜ r ≡ tokenAction token action ⌝ }
 {
     match token {
         Sought::Image(x) => x.action,
@@ -90,7 +90,7 @@ fn write_answer(
     if !row_holds_by(state.end, row, current, token) {
         return Answer::Refused(7, 0);
     }
-    let holder = holder(token, action);
+    let holder = token_action(token, action);
     if holder != action {
         return Answer::Refused(8, holder);
     }
@@ -104,7 +104,7 @@ fn written_end(row: Row, start: u64) -> u64
     if row.token == 0 {
         return start;
     }
-    later(row.tokenend, start)
+    raised_row(row, 0, start).tokenend
 }
 
 // The row once an image was written at a place.

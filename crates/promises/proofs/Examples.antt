@@ -1,7 +1,7 @@
 -- Runs that meet the premises of each promise, with what they hear: document 01's listing, a change of two locks that is cut with any
--- of its bytes stored, a commit whose reply is lost, a time that is mended inside its action, one life of a box with each promise asked of it, rows rebuilt in two orders, the
--- reserve kept and used up, a floor that is too low, and a lawful sheet that no run of this store makes. Each premise is proved, so no
--- promise is empty.
+-- of its bytes stored, a commit whose reply is lost, a time that is mended inside its action, one life of a box with each promise asked
+-- of it, rows rebuilt in two orders, the reserve kept and used up, a floor that is too low, and a lawful sheet that no run of this
+-- store makes. Each premise is proved, so no promise is empty.
 use Prim.Native.Nat.{ℕ, suc, _≤_, _<_}
 use mathlib.Core.Path.{_≡_, refl, sym, _∙_, subst}
 use mathlib.Core.List.{List, [], _∷_, _++_}
@@ -442,13 +442,19 @@ token-met = promised 12 2 .overtakes (at before) (calls token) 2 9 7 8 (9 ∷ []
 pub overtakes-met : (link : ℕ) × IsEffective 12 2 (boxAt twice) 9 (record { file = 2; action = 7; link = link; start = 7; value = 6 ∷ [] })
 overtakes-met = promised 12 2 .overtakes (at life) (calls again) 2 7 7 9 (6 ∷ []) (is-run 12 2 twice refl) refl writes-again
 
+pub overtakes-cut-met : (link : ℕ) × IsEffective 12 2 (boxAt (life ++ cut again 64 ∷ [])) 9 (record { file = 2; action = 7; link = link; start = 7; value = 6 ∷ [] })
+overtakes-cut-met = promised 12 2 .overtakes (at life) (eventOf 12 2 (cut again 64)) 2 7 7 9 (6 ∷ []) (is-run 12 2 (life ++ cut again 64 ∷ []) refl) (refl, refl) writes-again
+
 pub own-shown-met : Hears (boxAt twice) (calls (read 2 8 7)) (Value 9 7 1)
 own-shown-met = promised 12 2 .own-shown (at twice) 9 8 _ (is-run 12 2 twice refl) (overtakes-met .1) (0, twice-open) (omega arith)
 
-pub overtaken-met : (file time reader start size : ℕ) → Hears (boxAt twice) (calls (read file time reader)) (Value 8 start size) → ⊥
-overtaken-met file time reader start size h =
-    let p = promised 12 2 .found (at before) (at (does again ∷ [])) token 8 (is-run 12 2 twice refl) writes-token in
-    promised 12 2 .overtaken (at twice) 8 9 file time reader start size _ _ (is-run 12 2 twice refl) (p .1) (overtakes-met .1 .here) refl refl (omega arith) h
+-- the overtaken image, once its action is committed or aborted
+pub overtaken-met : (c : Bool) (file time reader start size : ℕ) → Hears (boxAt (twice ++ does (decide 7 c) ∷ [])) (calls (read file time reader)) (Value 8 start size) → ⊥
+overtaken-met c file time reader start size h =
+    let r = is-run 12 2 (twice ++ does (decide 7 c) ∷ []) refl in
+    let p = promised 12 2 .found (at before) (at (does again ∷ does (decide 7 c) ∷ [])) token 8 r writes-token in
+    let q = promised 12 2 .found (at life) (at (does (decide 7 c) ∷ [])) again 9 r writes-again in
+    promised 12 2 .overtaken (at (twice ++ does (decide 7 c) ∷ [])) 8 9 file time reader start size _ _ r (p .1) (q .1) refl refl (omega arith) h
 
 pub torn-overtakes-none-met : IsEffective 12 2 (boxAt pulled) 8 (record { file = 2; action = 7; link = token-met .0; start = 9; value = 9 ∷ [] })
 torn-overtakes-none-met = promised 12 2 .torn-overtakes-none (at life) again (firstBytes 20) 8 _ (is-run 12 2 pulled refl) refl (token-met .1)

@@ -1,5 +1,5 @@
--- A file's effective images: what holds of each image holds of them, and leaving an action's older images out moves neither the
--- version nor the token of other actions. Assumes nothing.
+-- A file's effective images: what holds of each image holds of them; without the images of an action that is not committed the versions
+-- are the same, and if it is not undecided either, so is the token. Assumes nothing.
 use Prim.Native.Nat.{ℕ}
 use mathlib.Core.Path.{_≡_, refl, sym, ap, _∙_}
 use mathlib.Core.List.{List, [], _∷_}

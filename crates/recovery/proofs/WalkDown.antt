@@ -17,7 +17,7 @@ use Rattle.page.specs.Layout.{pageSize}
 use Rattle.page.specs.Answers.{tested, imageOfFile}
 use Rattle.recovery.specs.Places.{nth}
 use Rattle.recovery.specs.Log.{Entry, blank, torn, bad, opening, image, outcome, Fate, unknown, undecided, committed, aborted, Placed, imagesOf, notBy, effective, effectiveOf, versionsOf, currentOf, tokenOf, placeOf, startOf}
-use Rattle.recovery.specs.Sheet.{pageBytes, entryOf, imageFrom, isOpening, seal, decoded, sealed, pages}
+use Rattle.recovery.specs.Sheet.{pageBytes, entryOf, imageFrom, isOpening, seal, decoded, sealed}
 use Rattle.recovery.specs.World.{down, rebuiltRow, fateFrom, fateIn}
 use Rattle.recovery.specs.Steps.{countedFate, rowFromPages}
 use Rattle.recovery.specs.declared.Row.{Row}

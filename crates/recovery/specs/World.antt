@@ -1,7 +1,6 @@
 -- What open and rebuild do, over decoded pages, line by line in the order of document 01 (docs/STORE.md, The calls).
 use mathlib.Core.List.{List, [], _∷_}
 use mathlib.Core.Bool.{Bool, true, false, cond, _&&_, _||_}
-use mathlib.Core.Option.{none}
 use Prim.Native.Nat.{ℕ, zero, suc, _+_}
 use lib.ListN.{length, getD}
 use lib.Dec.{eqb, leb}

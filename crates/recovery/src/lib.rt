@@ -23,7 +23,6 @@ pub use rebuilding::rebuild;
 pub use rebuilding::rebuilt_row;
 pub use rebuilding::row_holds_by;
 pub use rebuilding::warm_row;
-pub use rolling::later;
 pub use rolling::raised_row;
 pub use rows::file_count;
 pub use rows::has_file;
@@ -36,7 +35,7 @@ ghost use Rattle.recovery.specs.Lent.{sizesRight};
 ghost use Rattle.recovery.specs.Steps.{lineOne, refusal};
 
 // A file's row (a cached index entry): its rebuilt mark, the place of the current version and how far it was read, the place of
-// the token and how far that was read. Place 0 is none.
+// the token and how far that one, or one that it overtook, was read. Place 0 is none.
 pub struct Row {
     pub mark: u64,
     pub current: u64,

@@ -1,11 +1,11 @@
-// Rolling a row forward: a read raises how far the current version or the token was read.
+// Rolling a row forward: a read, and a write of a token's file again, raise the row's ends.
 use crate::Row;
 ghost use mathlib.Core.Path.{_≡_};
 ghost use Prim.Native.Nat.{max};
 ghost use Rattle.recovery.specs.RollSteps.{raised};
 
 // The later of two times.
-pub fn later(a: u64, b: u64) -> u64
+fn later(a: u64, b: u64) -> u64
     ensures { λ r. ⌜ r ≡ max a b ⌝ }
 {
     if a < b {

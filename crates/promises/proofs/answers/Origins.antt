@@ -9,11 +9,11 @@ use native.Mathlib.Omega.{arith}
 use lib.ListN.{length}
 use borrow.Author.Tests.{eq-eqb, ne-eqb}
 use Rattle.page.specs.Layout.{pageSize, kindAt, markAt}
-use Rattle.recovery.specs.Log.{Entry, blank, torn}
+use Rattle.recovery.specs.Log.{Entry, torn}
 use Rattle.recovery.specs.Sheet.{sealed}
 use Rattle.recovery.specs.declared.Answer.the-variants.{Stored}
 use Rattle.recovery.specs.Lent.{Left}
-use Rattle.calls.specs.Calls.{Call, call}
+use Rattle.calls.specs.Calls.{Call}
 use Rattle.recovery.proofs.Spots.{entry-top}
 use Rattle.promises.specs.Runs.{Box, on, off, sheetOf, Event, calls, opens, cuts, answerTo, after, runs, Allowed, AllAllowed, blankBox, Run}
 use Rattle.promises.specs.Promises.{IsPageOf, IsWhole, Did}

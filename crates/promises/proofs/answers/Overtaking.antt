@@ -36,7 +36,7 @@ module _ (n files : ℕ) (b : Box) (r : Reached n files b) where
   box-overtaken place p file time reader start size i j here there f a l e =
       let v = box-shows n files b r file time reader place start size e in
       let s : v .seen ≡ i = same (sym (v .effective .here) ∙ here) in
-      omega (arith, v .effective .newest p j there (f ∙ ap (λ (x : Image). x .file) (sym s)) (a ∙ ap (λ (x : Image). x .action) (sym s)))
+      omega (arith, v .effective .none-newer p j there (f ∙ ap (λ (x : Image). x .file) (sym s)) (a ∙ ap (λ (x : Image). x .action) (sym s)))
     where
       same : {x y : Image} → image x ≡ image y → x ≡ y
       same e = cc
@@ -50,11 +50,11 @@ module _ (n files : ℕ) (b : Box) (r : Reached n files b) where
       → IsEffective n files (after b (cuts k kept)) place i
   box-torn-none k kept t h place i e = record {
     here = let y = page-lies-in n files b r place (image i) (solid-image i) (e .here) in stays n files b r (cuts k kept ∷ []) (t, tt) place (image i) (y .low) (y .high) (y .here);
-    newest = λ p j q f a. turn p j f a (there-before (cuts k kept) t p j q);
+    none-newer = λ p j q f a. turn p j f a (there-before (cuts k kept) t p j q);
   }
     where
       turn : (p : ℕ) (j : Image) → j .file ≡ i .file → j .action ≡ i .action → Lies (r .log) p (image j) ⊎ Adds b (cuts k kept) p (image j) → p ≤ place
-      turn p j f a (inl y) = e .newest p j (lies-page n files b r p (image j) y) f a
+      turn p j f a (inl y) = e .none-newer p j (lies-page n files b r p (image j) y) f a
       turn p j f a (inr y) = absurd (false≢true (sym h ∙ y .whole .1))
 
   module _ (f s a : ℕ) (v : List ℕ) (place : ℕ) (x : answerTo b (calls (write f s a v)) ≡ some (Stored place)) where
@@ -72,7 +72,7 @@ module _ (n files : ℕ) (b : Box) (r : Reached n files b) where
 
     pub box-overtakes : (e : Event) → Allowed n files e → IsWhole (write f s a v) e
         → (link : ℕ) × IsEffective n files (after b e) place (record { file = f; action = a; link = link; start = s; value = v })
-    box-overtakes e t w = let k = page e t w in (k .0, record { here = k .1; newest = λ p j q g c. turn p j (there-before e t p j q) })
+    box-overtakes e t w = let k = page e t w in (k .0, record { here = k .1; none-newer = λ p j q g c. turn p j (there-before e t p j q) })
       where
         page : (e : Event) → Allowed n files e → IsWhole (write f s a v) e → IsPageOf (write f s a v) (sealed files (sheetOf (after b e)) place)
         page (calls k) t w = subst (λ c. IsPageOf (write f s a v) (sealed files (sheetOf (after b (calls c))) place)) (sym w) (box-found n files b r (write f s a v) (subst Typed w t) place x [] tt)

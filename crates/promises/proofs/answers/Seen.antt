@@ -188,7 +188,7 @@ module _ (n files : ℕ) (es : List Event) (r : Run n files es) where
   none-shows action h file time reader place start size i other here mine e =
       let v = box-shows n files box m file time reader place start size (answered box (calls (read file time reader)) (Value place start size) e) in
       let a : v .seen .action ≡ action = ap (λ (x : Image). x .action) (image-same (sym (v .effective .here) ∙ here)) ∙ mine in
-      let w = v .whose (λ q. other (sym q ∙ a)) .2 in
+      let w = v .whose (λ q. other (sym q ∙ a)) in
       h (w .0) (subst (λ x. answerTo box (calls (test x)) ≡ some (Told 2 (w .0))) a (answered box (calls (test (v .seen .action))) (Told 2 (w .0)) (w .1)))
 
   not-two : (action : ℕ) (x : Fate) → fateOf (m .log) action ≡ x → (fateNumber x ≡ 2 → ⊥) → NoneShows n files box action
@@ -219,5 +219,5 @@ module _ (n files : ℕ) (es : List Event) (r : Run n files es) where
         wrote = subst (λ x. Did n files es (write x start (i .action) (i .value)) place) (v .is .0) (subst (λ x. Did n files es (write (i .file) x (i .action) (i .value)) place) (v .is .1) d);
         bytes = ap (λ x. take x (valueIn (pageBytes (sheetOf box) place))) (sym (v .is .2)) ∙ value-bytes files (sheetOf box) place i (v .effective .here);
         long = sym (v .is .2);
-        whose = λ o. v .whose o .2;
+        whose = v .whose;
       }

@@ -6,12 +6,13 @@ use lib.ListN.{length}
 use lib.Dec.{leb}
 use borrow.Author.Tests.{leb-true, leb-false}
 use Rattle.encoding.proofs.Logic.{clash}
-use Rattle.recovery.specs.Log.{Image, Entry, blank, torn, bad, opening, image, outcome}
+use Rattle.recovery.specs.Log.{Image, Entry, blank, torn, bad, opening, image, outcome, Placed, effectiveOf}
 use Rattle.recovery.specs.Sheet.{sealed}
 use Rattle.promises.specs.Runs.{Box, sheetOf}
 use Rattle.promises.specs.Promises.{IsEffective}
 use Rattle.promises.proofs.logs.Outcomes.{Lies}
-use Rattle.promises.proofs.logs.Newest.{Effective}
+use Rattle.promises.proofs.logs.Versions.{Among}
+use Rattle.promises.proofs.logs.Newest.{among-effective, effective-lies, effective-none-newer}
 use Rattle.promises.proofs.boxes.Boxes.{Reached, page-lies, log-page, page-above}
 
 -- ---- a page that is neither blank nor torn nor bad
@@ -45,9 +46,13 @@ module _ (n files : ℕ) (b : Box) (r : Reached n files b) where
   pub lies-page : (p : ℕ) (g : Entry) → Lies (r .log) p g → sealed files (sheetOf b) p ≡ g
   lies-page p g h = log-page n files b r p (h .low) (h .high) ∙ h .here
 
-  -- and so are its effective images: the promises' and the log's are the same
-  pub effective-in : (p : ℕ) (i : Image) → IsEffective n files b p i → Effective (r .log) p i
-  effective-in p i h = record { here = page-lies-in p (image i) (solid-image i) (h .here); newest = λ q j y. h .newest q j (lies-page q (image j) y) }
+  -- and so are its effective images
+  pub effective-in : (p : ℕ) (i : Image) → IsEffective n files b p i → Among (record { place = p; image = i }) (effectiveOf (r .log) (i .file))
+  effective-in p i h =
+      among-effective (r .log) p i (page-lies-in p (image i) (solid-image i) (h .here)) (λ q j y. h .none-newer q j (lies-page q (image j) y))
 
-  pub effective-out : (p : ℕ) (i : Image) → Effective (r .log) p i → IsEffective n files b p i
-  effective-out p i h = record { here = lies-page p (image i) (h .here); newest = λ q j e. h .newest q j (page-lies-in q (image j) (solid-image j) e) }
+  pub effective-out : (f : ℕ) (x : Placed) → Among x (effectiveOf (r .log) f) → IsEffective n files b (x .place) (x .image)
+  effective-out f x h = record {
+    here = lies-page (x .place) (image (x .image)) (effective-lies (r .log) f x h);
+    none-newer = λ q j e. effective-none-newer (r .log) f x h q j (page-lies-in q (image j) (solid-image j) e);
+  }

@@ -18,7 +18,6 @@ use Rattle.recovery.specs.Log.{Entry, blank, fateOf, imagesOf, effective, versi
 use Rattle.recovery.specs.Sheet.{pageBytes, entryOf, decoded, seal, sealed, pages}
 use Rattle.recovery.specs.World.{sizes, down}
 use Rattle.recovery.proofs.Pages.{page-at-place, pages-long}
-use Rattle.calls.specs.Calls.{call}
 use Rattle.promises.specs.Runs.{Box, on, off, Event, calls, opens, cuts, answerTo, after, runs, Allowed, AllAllowed, blankBox, Run}
 use Rattle.promises.specs.Model.{blankModel, modelAnswer, modelAfter, modelOn}
 use Rattle.promises.proofs.logs.Fates.{undecided-low}
@@ -27,7 +26,7 @@ use Rattle.promises.proofs.bytes.Cuts.{cutLog}
 use Rattle.promises.proofs.bytes.ByteCalls.{drop-zeros}
 use Rattle.promises.proofs.boxes.Boxes.{Bounds, bounds, isOn, At, Reached, agrees, model-says}
 use Rattle.promises.proofs.boxes.BoxCalls.{called, was-cut}
-use Rattle.promises.proofs.boxes.BoxOpens.{opening, opened-at, opened-answer, opened-power}
+use Rattle.promises.proofs.boxes.BoxOpens.{opened-at, opened-answer, opened-power}
 
 module _ (n files : ℕ) where
   -- ---- events and runs

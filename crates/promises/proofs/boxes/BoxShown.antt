@@ -7,7 +7,7 @@ use native.Mathlib.Omega.{arith}
 use lib.ListN.{length}
 use lib.Dec.{leb}
 use borrow.Author.Tests.{le-leb}
-use Rattle.recovery.specs.Log.{Image, image, committed, fateOf, outcomeOf}
+use Rattle.recovery.specs.Log.{Image, image, committed, fateOf, outcomeOf, effectiveOf}
 use Rattle.recovery.specs.Sheet.{decoded, sealed}
 use Rattle.recovery.specs.World.{fateNumber}
 use Rattle.recovery.specs.declared.Answer.{Answer}
@@ -17,6 +17,7 @@ use Rattle.promises.specs.Runs.{Box, sheetOf, calls, answerTo, Typed}
 use Rattle.promises.specs.Model.{modelCall, modelAnswer}
 use Rattle.promises.specs.Promises.{TellsFate, IsEffective, IsVersion, Shown}
 use Rattle.promises.proofs.logs.Logs.{Lawful}
+use Rattle.promises.proofs.logs.Versions.{Among}
 use Rattle.promises.proofs.logs.Fates.{same-fate}
 use Rattle.promises.proofs.worlds.Shown.{committed-shown, own-shown}
 use Rattle.promises.proofs.worlds.Visible.{Whose, shared, own, read-shows, read-none}
@@ -78,22 +79,25 @@ module _ (n files : ℕ) (b : Box) (r : Reached n files b) where
     box-shows p s l e =
         let k = heard-on (read f t a) tt (Value p s l) e in
         let v = read-shows (r .log) (r .model) lawful (r .at .says) f t a p s l (k .1) in
-        let h = effective-out n files b r p (v .seen) (v .effective) in
+        let h = effective-out n files b r f (record { place = p; image = v .seen }) (v .effective) in
         record {
           seen = v .seen;
           effective = h;
           is = (v .file, v .start, v .len, v .inTime, numbers p (v .seen) (h .here) .1);
-          whose = λ o. (h, v .file, committed-told (v .seen) (k .0) (v .whose) o);
+          whose = λ o. committed-told (v .seen) (k .0) (v .whose) o;
         }
 
     -- the highest start that is not above the time
     module _ (q : ℕ) (i : Image) (v : IsVersion n files b f q i) where
+      effective-of : Among (record { place = q; image = i }) (effectiveOf (r .log) f)
+      effective-of = subst (λ g. Among (record { place = q; image = i }) (effectiveOf (r .log) g)) (v .1) (effective-in n files b r q i (v .0))
+
       fate : fateOf (r .log) (i .action) ≡ committed
       fate = same-fate (told-fate n files b r (i .action) 2 (v .2 .0) (answered b (calls (test (i .action))) (Told 2 (v .2 .0)) (v .2 .1)) .2)
 
     pub box-highest : (p s l : ℕ) → answerTo b (calls (read f t a)) ≡ some (Value p s l) → (q : ℕ) (i : Image) → IsVersion n files b f q i → i .start ≤ t → i .start ≤ s
     box-highest p s l e q i v =
-        read-shows (r .log) (r .model) lawful (r .at .says) f t a p s l (heard-on (read f t a) tt (Value p s l) e .1) .latest q i (effective-in n files b r q i (v .0)) (v .1) (fate q i v)
+        read-shows (r .log) (r .model) lawful (r .at .says) f t a p s l (heard-on (read f t a) tt (Value p s l) e .1) .latest (record { place = q; image = i }) (effective-of q i v) (fate q i v)
 
     pub box-later : answerTo b (calls (read f t a)) ≡ some Nothing → (q : ℕ) (i : Image) → IsVersion n files b f q i → t < i .start
-    box-later e q i v = read-none (r .log) (r .model) lawful (r .at .says) f t a (heard-on (read f t a) tt Nothing e .1) q i (effective-in n files b r q i (v .0)) (v .1) (fate q i v)
+    box-later e q i v = read-none (r .log) (r .model) lawful (r .at .says) f t a (heard-on (read f t a) tt Nothing e .1) (record { place = q; image = i }) (effective-of q i v) (fate q i v)

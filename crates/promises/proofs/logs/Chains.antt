@@ -29,7 +29,7 @@ abbrev pub Ordered : List Placed → Type 0
 Ordered [] = Unit {0}
 Ordered (x ∷ vs) = Above x vs × Ordered vs
 
--- its images: each is known and above the versions below it, and those below it are decided
+-- its effective images: each is known and above the versions below it, and those below it are decided
 abbrev pub Chain : (ℕ → Fate) → List Placed → Type 0
 Chain φ [] = Unit {0}
 Chain φ (x ∷ xs) = Known (φ (x .image .action)) × Above x (versionsOf φ xs) × All 2 φ xs × Chain φ xs

@@ -99,11 +99,7 @@ token-among φ x (y ∷ ys) e = go (φ (y .image .action)) e (token-among φ x y
     go committed k r = absurd (Option·some-ne-none _ (sym k))
     go aborted k r = next (r k)
 
--- ---- of a log: an image that none of its file and action overtook
-
-pub record Effective (l : List Entry) (p : ℕ) (i : Image) : Type 0 where
-  pub here : Lies l p (image i)
-  pub newest : (q : ℕ) (j : Image) → Lies l q (image j) → j .file ≡ i .file → j .action ≡ i .action → q ≤ p
+-- ---- of a log
 
 -- an image of a log is among its file's images
 entry-among : (l : List Entry) (p : ℕ) (i : Image) → entryIn l p ≡ image i → Among (record { place = p; image = i }) (imagesOf l (i .file))
@@ -125,18 +121,23 @@ entry-among (g ∷ l) p i e = go (eqb p (suc (length l))) refl e (entry-among l 
     go true q k r = rw (k, eq-eqb (i .file) (i .file) refl, ← eqb-true p (suc (length l)) q) first
     go false q k r = lift g (r k)
 
--- which are its file's effective images, and no others
-pub among-effective : (l : List Entry) (p : ℕ) (i : Image) → Effective l p i → Among (record { place = p; image = i }) (effectiveOf l (i .file))
-among-effective l p i h = newest-effective (record { place = p; image = i }) (imagesOf l (i .file)) (images-fall l (i .file)) (entry-among l p i (h .here .here)) (λ y k e.
-    let z = each-among (Spot l (i .file)) y (imagesOf l (i .file)) (image-spots l (i .file)) k in
-    h .newest (y .place) (y .image) (record { low = z .low; high = z .high; here = z .here }) (z .mine) e)
+-- an image of which none of its file and action is newer is effective, and the other way round
+abbrev pub NoneNewer : List Entry → ℕ → Image → Type 0
+NoneNewer l p i = (q : ℕ) (j : Image) → Lies l q (image j) → j .file ≡ i .file → j .action ≡ i .action → q ≤ p
 
-pub effective-at : (l : List Entry) (f : ℕ) (x : Placed) → Among x (effectiveOf l f) → Effective l (x .place) (x .image)
-effective-at l f x h =
-    let z = each-among (Spot l f) x (effectiveOf l f) (spots l f) h in
-    record {
-      here = record { low = z .low; high = z .high; here = z .here };
-      newest = λ q j b g a.
-          effective-newest x (imagesOf l f) (images-fall l f) h (record { place = q; image = j })
-          (subst (λ k. Among (record { place = q; image = j }) (imagesOf l k)) (g ∙ z .mine) (entry-among l q j (b .here))) a;
-    }
+pub among-effective : (l : List Entry) (p : ℕ) (i : Image) → Lies l p (image i) → NoneNewer l p i → Among (record { place = p; image = i }) (effectiveOf l (i .file))
+among-effective l p i h n = newest-effective (record { place = p; image = i }) (imagesOf l (i .file)) (images-fall l (i .file)) (entry-among l p i (h .here)) (λ y k e.
+    let z = each-among (Spot l (i .file)) y (imagesOf l (i .file)) (image-spots l (i .file)) k in
+    n (y .place) (y .image) (record { low = z .low; high = z .high; here = z .here }) (z .mine) e)
+
+module _ (l : List Entry) (f : ℕ) (x : Placed) (h : Among x (effectiveOf l f)) where
+  pub effective-spot : Spot l f x
+  effective-spot = each-among (Spot l f) x (effectiveOf l f) (spots l f) h
+
+  pub effective-lies : Lies l (x .place) (image (x .image))
+  effective-lies = let z = effective-spot in record { low = z .low; high = z .high; here = z .here }
+
+  pub effective-none-newer : NoneNewer l (x .place) (x .image)
+  effective-none-newer q j b g a =
+      effective-newest x (imagesOf l f) (images-fall l f) h (record { place = q; image = j })
+      (subst (λ k. Among (record { place = q; image = j }) (imagesOf l k)) (g ∙ effective-spot .mine) (entry-among l q j (b .here))) a

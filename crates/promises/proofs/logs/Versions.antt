@@ -19,7 +19,7 @@ latestOf t (x ∷ xs) = cond (leb (x .image .start) t) (some x) (latestOf t xs)
 abbrev pub version : List Entry → ℕ → ℕ → Option Placed
 version l f t = latestOf t (versions l f)
 
--- ---- the versions are the committed images
+-- ---- the versions are those images, of the effective ones, whose action is committed
 
 pub data Among (x : Placed) : List Placed → Type 0 where
   first : {xs : List Placed} → Among x (x ∷ xs)

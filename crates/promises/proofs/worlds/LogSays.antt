@@ -10,14 +10,14 @@ use borrow.Author.Tests.{eqb-true, eqb-false, eq-eqb, ne-eqb}
 use Rattle.recovery.specs.Log.{Image, Entry, torn, opening, image, outcome, undecided, Placed, fateOf, outcomeOf, imagesOf, verdict, placeOf, startOf}
 use Rattle.recovery.specs.World.{fatesOf, undecidedOf}
 use Rattle.inspection.specs.Lawful.{versions, current, token}
-use Rattle.promises.specs.Model.{Object, object, Status, pending, Model, newest, placed, since, changed, stores, askedOf, decidedAs, ended, endedBy, modelOpened}
+use Rattle.promises.specs.Model.{Object, object, Status, pending, Model, newest, placed, since, changed, stores, askedBefore, decidedAs, ended, endedBy, modelOpened}
 use Rattle.promises.specs.FromLog.{statusOf, versionOf, versionIn, history}
 use Rattle.promises.proofs.logs.Logs.{ImageFits, Lawful}
 use Rattle.promises.proofs.logs.Appends.{opening-versions, opening-token, image-versions, image-token, owns, longer, outcome-versions, outcome-token}
 use Rattle.promises.proofs.logs.Fates.{opening-undecided, outcome-undecided}
 use Rattle.promises.proofs.logs.Histories.{newest-is}
 
--- an object's ends: where its newest version and its token start, or when they were asked for last
+-- an object's ends: where its newest version and its token start, or when they, or a token that it replaced, were asked for last
 abbrev pub currentEnd : Object → ℕ
 currentEnd x = max (since (newest (x .history))) (x .asked)
 
@@ -36,7 +36,7 @@ pub record Says (l : List Entry) (m : Model) : Type 0 where
 
 -- an object with the token that is written, and once an action is decided
 abbrev pub given : Model → ℕ → ℕ → ℕ → List ℕ → Object
-given m f start a v = object (m .object f .history) (m .object f .asked) (some (record { place = suc (m .used); action = a; start = start; value = v })) (askedOf (m .object f .tokenasked) (m .object f .token))
+given m f start a v = object (m .object f .history) (m .object f .asked) (some (record { place = suc (m .used); action = a; start = start; value = v })) (askedBefore (m .object f .tokenasked) (m .object f .token))
 
 abbrev pub left : Model → ℕ → Bool → ℕ → Object
 left m a c f = endedBy a c (m .object f) (m .object f .token)

@@ -15,14 +15,14 @@ use Rattle.inspection.specs.Lawful.{versions, token}
 use Rattle.calls.specs.Calls.{read}
 use Rattle.promises.proofs.logs.Logs.{Lawful, Known, Decided, not-undecided, known-place}
 use Rattle.promises.proofs.logs.Chains.{Ordered, Chain, versions-ordered, chain}
-use Rattle.promises.proofs.logs.Versions.{version, Among, first, next, among-versions, newest, shown}
-use Rattle.promises.proofs.logs.Newest.{each-among, Effective, among-effective}
+use Rattle.promises.proofs.logs.Versions.{Among, first, next, among-versions, newest, shown}
+use Rattle.promises.proofs.logs.Newest.{each-among}
 use Rattle.promises.proofs.logs.Histories.{latest-is}
 use Rattle.promises.specs.Model.{Model, latest, shows, reading, modelCall}
 use Rattle.promises.specs.FromLog.{versionIn}
 use Rattle.promises.proofs.worlds.LogSays.{Says}
 
--- a token starts after every version, and an undecided image is its file's token
+-- a token starts after every version, and an effective image that is undecided is its file's token
 pub token-later : (φ : ℕ → Fate) (xs : List Placed) (y : Placed) → Chain φ xs → tokenOf φ xs ≡ some y → startOf (currentOf φ xs) < y .image .start
 unfolding tokenOf versionsOf
 token-later φ [] y h e = absurd (Option·some-ne-none _ (sym e))
@@ -41,7 +41,7 @@ undecided-token φ x xs h (next {y} {xs = ys} m) e = not-undecided (φ (x .image
 
 module _ (l : List Entry) (m : Model) (w : Lawful l) (s : Says l m) where
   -- a read at its start finds a committed one
-  pub committed-shown : (p : ℕ) (i : Image) → Effective l p i → (leb 1 (i .file) && leb (i .file) (m .files)) ≡ true → fateOf l (i .action) ≡ committed
+  pub committed-shown : (p : ℕ) (i : Image) → Among (record { place = p; image = i }) (effectiveOf l (i .file)) → (leb 1 (i .file) && leb (i .file) (m .files)) ≡ true → fateOf l (i .action) ≡ committed
       → modelCall m (read (i .file) (i .start) 0) .0 ≡ Value p (i .start) (length (i .value))
   committed-shown p i h f c =
       rw f (subst (λ z. reading m (i .file) (i .start) 0 (m .object (i .file)) z .0 ≡ Value p (i .start) (length (i .value))) (sym (s .token (i .file))) (go (token l (i .file)) refl))
@@ -56,7 +56,7 @@ module _ (l : List Entry) (m : Model) (w : Lawful l) (s : Says l m) where
       o = versions-ordered (fateOf l) (effectiveOf l (i .file)) k
 
       a : Among x (versions l (i .file))
-      a = among-versions (fateOf l) x (effectiveOf l (i .file)) (among-effective l p i h) c
+      a = among-versions (fateOf l) x (effectiveOf l (i .file)) h c
 
       found : shows (latest (i .start) (m .object (i .file) .history)) ≡ Value p (i .start) (length (i .value))
       found = ap (λ h. shows (latest (i .start) h)) (s .history (i .file)) ∙ ap shows (latest-is (i .start) (versions l (i .file)) ∙ ap versionIn (shown x (versions l (i .file)) o a))
@@ -66,7 +66,7 @@ module _ (l : List Entry) (m : Model) (w : Lawful l) (s : Says l m) where
       go (some y) q = rw (lt-leb (y .image .start) (i .start) (omega (arith, token-later (fateOf l) (effectiveOf l (i .file)) y k q, newest x (versions l (i .file)) o a))) found
 
   -- a read of its own action finds an undecided one, from its start on
-  pub own-shown : (p : ℕ) (i : Image) (t : ℕ) → Effective l p i → (leb 1 (i .file) && leb (i .file) (m .files)) ≡ true → fateOf l (i .action) ≡ undecided → i .start ≤ t
+  pub own-shown : (p : ℕ) (i : Image) (t : ℕ) → Among (record { place = p; image = i }) (effectiveOf l (i .file)) → (leb 1 (i .file) && leb (i .file) (m .files)) ≡ true → fateOf l (i .action) ≡ undecided → i .start ≤ t
       → modelCall m (read (i .file) t (i .action)) .0 ≡ Value p (i .start) (length (i .value))
   own-shown p i t h f d q = rw (
     f,
@@ -74,7 +74,7 @@ module _ (l : List Entry) (m : Model) (w : Lawful l) (s : Says l m) where
     s .status (i .action),
     d,
     s .token (i .file),
-    undecided-token (fateOf l) (record { place = p; image = i }) (effectiveOf l (i .file)) (chain l (i .file) w) (among-effective l p i h) d,
+    undecided-token (fateOf l) (record { place = p; image = i }) (effectiveOf l (i .file)) (chain l (i .file) w) h d,
     le-leb (i .start) t q,
     eq-eqb (i .action) (i .action) refl,
   )

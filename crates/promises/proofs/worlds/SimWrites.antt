@@ -21,7 +21,7 @@ use Rattle.calls.specs.Calls as store
 use Rattle.calls.specs.Calls.{begin, write, append, onBegin, imageOf, actionOf, onWrite}
 use Rattle.recovery.proofs.Spots.{Lies}
 use Rattle.promises.specs.Model as model
-use Rattle.promises.specs.Model.{Object, pending, Model, newest, since, refuses, changed, stores, stored, hasRoom, askedOf, writing, modelCall}
+use Rattle.promises.specs.Model.{Object, pending, Model, newest, since, refuses, changed, stores, stored, hasRoom, askedBefore, writing, modelCall}
 use Rattle.promises.specs.FromLog.{versionIn}
 use Rattle.promises.proofs.logs.Logs.{ImageFits}
 use Rattle.promises.proofs.logs.Appends.{opening-versions, opening-token, image-versions, image-token}
@@ -67,10 +67,10 @@ module _ (w : World) (l : List Entry) (m : Model) (s : Sim w l m) where
     objects = changed (m .object) f (given m f start a v)
 
     -- the token's end: its start, and what was asked for of the token that it overtakes
-    end-is : store.writtenEnd (rowFor l x f) start ≡ max start (askedOf (x .tokenasked) (x .token))
+    end-is : store.writtenEnd (rowFor l x f) start ≡ max start (askedBefore (x .tokenasked) (x .token))
     end-is = rw (s .says .token f) (go (token l f) (token-lies l f))
       where
-        go : (z : Option Placed) → Lies l f z → cond (eqb (placeOf z) 0) start (max (max (since (versionIn z)) (x .tokenasked)) start) ≡ max start (askedOf (x .tokenasked) (versionIn z))
+        go : (z : Option Placed) → Lies l f z → cond (eqb (placeOf z) 0) start (max (max (since (versionIn z)) (x .tokenasked)) start) ≡ max start (askedBefore (x .tokenasked) (versionIn z))
         go none i = omega arith
         go (some y) i = rw (ne-eqb (y .place) 0 (λ e. omega (arith, i .low))) (omega arith)
 

@@ -13,12 +13,11 @@ use Rattle.recovery.proofs.LogFates.{undecided-known}
 use Rattle.inspection.specs.Lawful.{versions, token}
 use Rattle.calls.specs.Walk.{nothing}
 use Rattle.calls.specs.Calls.{read, versionAnswer}
-use Rattle.recovery.proofs.Spots.{Spot, spots}
 use Rattle.promises.proofs.logs.Logs.{Lawful, known-place}
 use Rattle.promises.proofs.logs.Chains.{Ordered, versions-ordered, chain, token-live}
 use Rattle.promises.proofs.logs.Versions as found
 use Rattle.promises.proofs.logs.Versions.{version, Among, among-versions, versions-among, newest, Shows, highest, all-later}
-use Rattle.promises.proofs.logs.Newest.{each-among, token-among, Effective, among-effective, effective-at}
+use Rattle.promises.proofs.logs.Newest.{token-among, effective-spot}
 use Rattle.promises.proofs.logs.Histories.{latest-is}
 use Rattle.promises.specs.Model.{Version, Model, Reply, latest, shows, refuses, modelCall}
 use Rattle.promises.specs.FromLog.{versionOf, versionIn}
@@ -32,14 +31,14 @@ pub data Whose (l : List Entry) (a : ℕ) (i : Image) : Type 0 where
 
 -- no version of a file that starts by a time starts after s
 abbrev pub Latest : List Entry → ℕ → ℕ → ℕ → Type 0
-Latest l f t s = (q : ℕ) (i : Image) → Effective l q i → i .file ≡ f → fateOf l (i .action) ≡ committed → i .start ≤ t → i .start ≤ s
+Latest l f t s = (x : Placed) → Among x (effectiveOf l f) → fateOf l (x .image .action) ≡ committed → x .image .start ≤ t → x .image .start ≤ s
 
 abbrev pub AllLater : List Entry → ℕ → ℕ → Type 0
-AllLater l f t = (q : ℕ) (i : Image) → Effective l q i → i .file ≡ f → fateOf l (i .action) ≡ committed → t < i .start
+AllLater l f t = (x : Placed) → Among x (effectiveOf l f) → fateOf l (x .image .action) ≡ committed → t < x .image .start
 
 pub record Visible (l : List Entry) (f t a p s n : ℕ) : Type 0 where
   pub seen : Image
-  pub effective : Effective l p seen
+  pub effective : Among (record { place = p; image = seen }) (effectiveOf l f)
   pub file : seen .file ≡ f
   pub start : seen .start ≡ s
   pub len : length (seen .value) ≡ n
@@ -59,33 +58,26 @@ module _ (l : List Entry) (m : Model) (w : Lawful l) (s : Says l m) (f t a : ℕ
     nothing = λ e. clash cc;
   }
 
-  among : (q : ℕ) (i : Image) → Effective l q i → i .file ≡ f → Among (record { place = q; image = i }) (effectiveOf l f)
-  among q i e g = subst (λ (x : ℕ). Among (record { place = q; image = i }) (effectiveOf l x)) g (among-effective l q i e)
-
   version-among : (y : Placed) → Among y (effectiveOf l f) → fateOf l (y .image .action) ≡ committed → Among y (versions l f)
   version-among y i c = among-versions (fateOf l) y (effectiveOf l f) i c
 
   ordered : Ordered (versions l f)
   ordered = versions-ordered (fateOf l) (effectiveOf l f) (chain l f w)
 
-  -- the newest version by the time
-  abbrev Newest : ℕ → Type 0
-  Newest st = (y : Placed) → Among y (effectiveOf l f) → fateOf l (y .image .action) ≡ committed → y .image .start ≤ t → y .image .start ≤ st
-
-  make : (x : Placed) → Among x (effectiveOf l f) → x .image .start ≤ t → Whose l a (x .image) → Newest (x .image .start) → (r : Model) → Sees (versionAnswer x, r)
+  make : (x : Placed) → Among x (effectiveOf l f) → x .image .start ≤ t → Whose l a (x .image) → Latest l f t (x .image .start) → (r : Model) → Sees (versionAnswer x, r)
   make x y k o h r = record {
     value = λ p st n e.
         let i : x .place ≡ p = cc in
         let j : x .image .start ≡ st = cc in
         record {
           seen = x .image;
-          effective = rw i at (effective-at l f x y);
-          file = each-among (Spot l f) x (effectiveOf l f) (spots l f) y .mine;
+          effective = rw i at y;
+          file = effective-spot l f x y .mine;
           start = j;
           len = cc;
           inTime = rw j at k;
           whose = o;
-          latest = λ q v d g c u. rw j at (h (record { place = q; image = v }) (among q v d g) c u);
+          latest = λ z d c u. rw j at (h z d c u);
         };
     nothing = λ e. clash cc;
   }
@@ -94,8 +86,7 @@ module _ (l : List Entry) (m : Model) (w : Lawful l) (s : Says l m) (f t a : ℕ
   sees-versions : (z : Option Placed) → version l f t ≡ z → (r : Model) → Sees (shows (versionIn z), r)
   sees-versions none q r = record {
     value = λ p st n e. clash cc;
-    nothing = λ e o v d g c.
-        all-later t (record { place = o; image = v }) (versions l f) (version-among (record { place = o; image = v }) (among o v d g) c) q;
+    nothing = λ e z d c. all-later t z (versions l f) (version-among z d c) q;
   }
   sees-versions (some x) q r = go
     where
@@ -105,7 +96,7 @@ module _ (l : List Entry) (m : Model) (w : Lawful l) (s : Says l m) (f t a : ℕ
       o : (fateOf l (x .image .action) ≡ committed) × Among x (effectiveOf l f)
       o = versions-among (fateOf l) x (effectiveOf l f) (k .among)
 
-      newest-in : Newest (x .image .start)
+      newest-in : Latest l f t (x .image .start)
       newest-in y i c u = highest t x y (versions l f) ordered (version-among y i c) u q
 
       go : Sees (versionAnswer x, r)
@@ -121,7 +112,7 @@ module _ (l : List Entry) (m : Model) (w : Lawful l) (s : Says l m) (f t a : ℕ
       mine : Whose l a (x .image)
       mine = own (rw j at (known-place l (x .image .action) w (undecided-known live) .0)) j
 
-      newest-in : Newest (x .image .start)
+      newest-in : Latest l f t (x .image .start)
       newest-in y n c u =
           omega (arith, newest y (versions l f) ordered (version-among y n c), token-later (fateOf l) (effectiveOf l f) x (chain l f w) i)
 

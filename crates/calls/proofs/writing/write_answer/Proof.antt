@@ -20,14 +20,14 @@ returns c =
     let a = c .before .before .before .before .before .args in
     write-7 (now (a .sheet)) (a .files) (a .state) (a .file) (a .start) (a .action) (a .row) _ _ (c .before .before .before .image-at .ensures) (c .before .before .image-at2 .ensures) (refused (c .before .row-holds-by .ensures) (c .if1 .taken))
 
-holder-requires : tie.Need-holder-requires
-holder-requires c κs = search needs
+token-action-requires : tie.Need-token-action-requires
+token-action-requires c κs = search needs
 
 returns-2 : tie.Need-returns-2
 returns-2 c =
     let b = c .before .before in
     let a = b .before .before .before .before .before .args in
-    write-8 (now (a .sheet)) (a .files) (a .state) (a .file) (a .start) (a .action) (a .row) _ _ (b .before .before .before .image-at .ensures) (b .before .before .image-at2 .ensures) (passed (b .before .row-holds-by .ensures) (b .if1 .left)) _ (c .before .holder .ensures) (c .if2 .taken)
+    write-8 (now (a .sheet)) (a .files) (a .state) (a .file) (a .start) (a .action) (a .row) _ _ (b .before .before .before .image-at .ensures) (b .before .before .image-at2 .ensures) (passed (b .before .row-holds-by .ensures) (b .if1 .left)) _ (c .before .token-action .ensures) (c .if2 .taken)
 
 store-answer-requires : tie.Need-store-answer-requires
 store-answer-requires c κs = search needs
@@ -36,7 +36,7 @@ returns-3 : tie.Need-returns-3
 returns-3 c =
     let b = c .before .before .before in
     let a = b .before .before .before .before .before .args in
-    write-store (now (a .sheet)) (a .files) (a .state) (a .file) (a .start) (a .action) (a .row) _ _ (b .before .before .before .image-at .ensures) (b .before .before .image-at2 .ensures) (passed (b .before .row-holds-by .ensures) (b .if1 .left)) _ (c .before .before .holder .ensures) (c .before .if2 .left) _ (c .store-answer .ensures)
+    write-store (now (a .sheet)) (a .files) (a .state) (a .file) (a .start) (a .action) (a .row) _ _ (b .before .before .before .image-at .ensures) (b .before .before .image-at2 .ensures) (passed (b .before .row-holds-by .ensures) (b .if1 .left)) _ (c .before .before .token-action .ensures) (c .before .if2 .left) _ (c .store-answer .ensures)
 
 pub write-answer-spec : {M : Type 1} → statement M
 write-answer-spec =
@@ -46,7 +46,7 @@ write-answer-spec =
     image-at-requires-2
     row-holds-by-requires
     returns
-    holder-requires
+    token-action-requires
     returns-2
     store-answer-requires
     returns-3)
