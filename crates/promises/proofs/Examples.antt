@@ -30,6 +30,7 @@ use Rattle.calls.specs.Cuts.{firstBytes}
 use Rattle.promises.specs.Runs.{Ordered, Box, off, sheetOf, Event, calls, opens, cuts, after, heard, Hears, Run, blankBox}
 use Rattle.promises.specs.Model.{latest, blankModel, modelHeard, modelRuns}
 use Rattle.promises.specs.Promises.{boxAfter, pageIn, IsPageOf, IsEffective, IsVersion, Shown, ShowsAt, Did, WasWritten, AllShow, NoneShows, Falls, othersHeard}
+use Rattle.promises.proofs.boxes.BoxPages.{image-same}
 use Rattle.promises.proofs.Proved.{promised}
 use Rattle.promises.proofs.Trying.{Step, does, opened, cut, events, eventOf, is-run, has-floors, none-torn, hears-by, blank-above, inNumbers}
 
@@ -317,9 +318,6 @@ late-writes = hears-by 12 2 (at late) (calls (write 1 13 7 [])) (Stored 10) (is-
 -- the page of the older version, found at the end; it is committed
 pub found-met : IsPageOf older (pageIn 12 2 (boxAt late) 2)
 found-met = promised 12 2 .found (at begun) (at (does (decide 1 true) ∷ does (read 1 6 0) ∷ newer ++ does token ∷ tail)) older 2 late-run writes
-
-image-same : {x y : Image} → image x ≡ image y → x ≡ y
-image-same e = cc
 
 abbrev seen : Image
 seen = record { file = 1; action = 1; link = found-met .0; start = 5; value = 7 ∷ [] }

@@ -21,7 +21,7 @@ use Rattle.promises.proofs.boxes.BoxRuns.{reached-next}
 use Rattle.promises.proofs.boxes.Extends.{stays}
 use Rattle.promises.proofs.boxes.Found.{some-is, not-heard, stored-is, box-found, box-found-cut}
 use Rattle.promises.proofs.boxes.BoxShown.{box-shows}
-use Rattle.promises.proofs.boxes.BoxPages.{solid-image, page-lies-in, lies-page}
+use Rattle.promises.proofs.boxes.BoxPages.{solid-image, image-same, page-lies-in, lies-page}
 use Rattle.promises.proofs.answers.Origins.{Adds, from-event}
 
 one-call : (e : Event) (c d : Call) → IsWhole c e → IsWhole d e → c ≡ d
@@ -35,11 +35,8 @@ module _ (n files : ℕ) (b : Box) (r : Reached n files b) where
       → j .file ≡ i .file → j .action ≡ i .action → place < p → answerTo b (calls (read file time reader)) ≡ some (Value place start size) → ⊥
   box-overtaken place p file time reader start size i j here there f a l e =
       let v = box-shows n files b r file time reader place start size e in
-      let s : v .seen ≡ i = same (sym (v .effective .here) ∙ here) in
+      let s : v .seen ≡ i = image-same (sym (v .effective .here) ∙ here) in
       omega (arith, v .effective .none-newer p j there (f ∙ ap (λ (x : Image). x .file) (sym s)) (a ∙ ap (λ (x : Image). x .action) (sym s)))
-    where
-      same : {x y : Image} → image x ≡ image y → x ≡ y
-      same e = cc
 
   -- an image of the box after an event was there before it, or is what it added
   there-before : (e : Event) → Allowed n files e → (p : ℕ) (j : Image) → sealed files (sheetOf (after b e)) p ≡ image j → Lies (r .log) p (image j) ⊎ Adds b e p (image j)

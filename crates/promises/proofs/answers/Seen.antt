@@ -38,7 +38,7 @@ use Rattle.promises.proofs.boxes.BoxRuns.{reached, answer-is}
 use Rattle.promises.proofs.boxes.Found.{told-fate}
 use Rattle.promises.proofs.boxes.BoxShown.{box-all, box-shows}
 use Rattle.promises.proofs.answers.Heard.{answered, hears}
-use Rattle.promises.proofs.boxes.BoxPages.{Solid, solid-opening, solid-image, solid-outcome, page-lies-in, lies-page}
+use Rattle.promises.proofs.boxes.BoxPages.{Solid, solid-opening, solid-image, solid-outcome, image-same, page-lies-in, lies-page}
 use Rattle.promises.proofs.answers.Origins.{origin, did}
 
 -- ---- the page that tells a fate
@@ -68,11 +68,8 @@ call-outcome (rebuild f) a c h = absurd h
 call-image : (k : Call) (i : Image) → IsPageOf k (image i) → k ≡ write (i .file) (i .start) (i .action) (i .value)
 call-image begin i h = clash cc
 call-image (write f s a v) i h =
-    let e : i ≡ record { file = f; action = a; link = h .0; start = s; value = v } = same (h .1) in
+    let e : i ≡ record { file = f; action = a; link = h .0; start = s; value = v } = image-same (h .1) in
     λ t. write (sym e t .file) (sym e t .start) (sym e t .action) (sym e t .value)
-  where
-    same : {x y : Image} → image x ≡ image y → x ≡ y
-    same e = cc
 call-image (read f t a) i h = absurd h
 call-image (test a) i h = absurd h
 call-image (decide a c) i h = clash cc
@@ -86,9 +83,6 @@ module _ (n files : ℕ) (b : Box) (m : Reached n files b) where
   status-by a x e = m .at .says .status a ∙ ap (λ y. statusOf y (outcomeOf (m .log) a)) e
 
 -- ---- the bytes of a value
-
-image-same : {x y : Image} → image x ≡ image y → x ≡ y
-image-same e = cc
 
 -- the value's bytes in an image's page are the image's value
 value-bytes : (files : ℕ) (s : List ℕ) (p : ℕ) (i : Image) → sealed files s p ≡ image i → take (length (i .value)) (valueIn (pageBytes s p)) ≡ i .value

@@ -31,6 +31,9 @@ solid-image i = record { not-blank = λ e. clash cc; not-torn = λ e. clash cc; 
 pub solid-outcome : (a : ℕ) (c : Bool) → Solid (outcome a c)
 solid-outcome a c = record { not-blank = λ e. clash cc; not-torn = λ e. clash cc; not-bad = λ e. clash cc }
 
+pub image-same : {x y : Image} → image x ≡ image y → x ≡ y
+image-same e = cc
+
 module _ (n files : ℕ) (b : Box) (r : Reached n files b) where
   pub page-lies-in : (p : ℕ) (g : Entry) → Solid g → sealed files (sheetOf b) p ≡ g → Lies (r .log) p g
   page-lies-in p g s e =
