@@ -5,7 +5,7 @@
 use Prim.Native.Nat.{ℕ, suc, _≤_, _<_}
 use mathlib.Core.Path.{_≡_, refl, sym, _∙_, subst}
 use mathlib.Core.List.{List, [], _∷_, _++_}
-use mathlib.Core.Bool.{Bool, true, false, cond}
+use mathlib.Core.Bool.{Bool, true, false, cond, true≢false}
 use mathlib.Core.Option.{Option, some, none}
 use mathlib.Core.Logic.{_⊎_}
 use native.Mathlib.Omega.{arith}
@@ -32,7 +32,7 @@ use Rattle.promises.specs.Model.{latest, blankModel, modelHeard, modelRu
 use Rattle.promises.specs.Promises.{boxAfter, pageIn, IsPageOf, IsEffective, IsVersion, Shown, ShowsAt, Did, WasWritten, AllShow, NoneShows, Falls, othersHeard}
 use Rattle.promises.proofs.boxes.BoxPages.{image-same}
 use Rattle.promises.proofs.Proved.{promised}
-use Rattle.promises.proofs.Trying.{Step, does, opened, cut, events, eventOf, is-run, has-floors, none-torn, hears-by, blank-above, inNumbers}
+use Rattle.promises.proofs.Trying.{Step, does, opened, cut, events, eventOf, is-run, has-floors, none-torn, hears-by, same-cut, blank-above, inNumbers}
 
 -- ---- document 01's listing, with "AB" and "CD"
 
@@ -176,27 +176,66 @@ pub mended-heard : heard (blankBox 12) (events 12 2 mended) ≡ inNumbers (
 unfolding modelHeard latest
 mended-heard = promised 12 2 .as-model (events 12 2 mended) (is-run 12 2 mended refl) ∙ refl
 
--- the supply pulled when these bytes of the mending page are stored: the first image is still the token, or the second replaces it
-abbrev mending : (ℕ → Bool) → List Event
-mending kept = events 6 2 (opened 0 ∷ does begin ∷ does (write 1 10 1 (7 ∷ [])) ∷ [])
-    ++ cuts (write 1 6 1 (8 ∷ [])) kept ∷ events 6 2 (opened 0 ∷ does (read 1 10 1) ∷ does (decide 1 true) ∷ does (read 1 10 0) ∷ does (read 1 9 0) ∷ [])
+-- mended twice, and the supply pulled each time when these bytes of the page are stored: three images of one file under one action, of
+-- which the newest that is stored whole is the token, and then the version
+abbrev typed : List Event
+typed = events 8 2 (opened 0 ∷ does begin ∷ does (write 1 10 1 (7 ∷ [])) ∷ [])
 
-mending-run : (kept : ℕ → Bool) → Ordered kept → Run 6 2 (mending kept)
-mending-run kept o = record { sized = refl; allowed = (λ e. refl, (tt, (omega arith, ((omega arith, o), (λ e. refl, (tt, (tt, (tt, (tt, tt))))))))) }
+abbrev then-read : List Event
+then-read = events 8 2 (opened 0 ∷ does (read 1 10 1) ∷ does (decide 1 true) ∷ does (read 1 10 0) ∷ does (read 1 5 0) ∷ [])
 
-abbrev mendedTo : ℕ → Answer → Answer → List (Option (List ℕ))
-mendedTo end a b = inNumbers (some (Opened 0 0) ∷ some (Stored 1) ∷ some (Stored 2) ∷ none ∷ some (Opened end 1) ∷ some a ∷ some (Stored (suc end)) ∷ some a ∷ some b ∷ [])
+abbrev mended-then : (ℕ → Bool) → List Event
+mended-then kept′ = events 8 2 (opened 0 ∷ []) ++ cuts (write 1 8 1 (9 ∷ [])) kept′ ∷ then-read
 
-pub mending-heard : (kept : ℕ → Bool) → Ordered kept
-    → heard (blankBox 6) (mending kept) ≡ cond (kept 0) (cond (kept 63) (mendedTo 3 (Value 3 6 1) (Value 3 6 1)) (mendedTo 3 (Value 2 10 1) Nothing)) (mendedTo 2 (Value 2 10 1) Nothing)
+abbrev mending : (ℕ → Bool) → (ℕ → Bool) → List Event
+mending kept kept′ = typed ++ cuts (write 1 6 1 (8 ∷ [])) kept ∷ mended-then kept′
+
+mending-run : (kept kept′ : ℕ → Bool) → Ordered kept → Ordered kept′ → Run 8 2 (mending kept kept′)
+mending-run kept kept′ o o′ = record { sized = refl; allowed = (λ e. refl, (tt, (omega arith, ((omega arith, o), (λ e. refl, ((omega arith, o′), (λ e. refl, (tt, (tt, (tt, (tt, tt))))))))))) }
+
+-- the end, and the newest image, once so much of a page above this end is stored
+abbrev grownBy : Bool → ℕ → ℕ
+grownBy b end = cond b (suc end) end
+
+abbrev newestOf : Bool → ℕ → ℕ → Answer → Answer
+newestOf c place start x = cond c (Value place start 1) x
+
+abbrev mendedTo : Bool → Bool → Bool → Bool → List (Option (List ℕ))
+mendedTo b c b′ c′ =
+    let end = grownBy b 2 in
+    let end′ = grownBy b′ end in
+    let x = newestOf c′ end′ 8 (newestOf c end 6 (Value 2 10 1)) in
+    inNumbers (some (Opened 0 0) ∷ some (Stored 1) ∷ some (Stored 2) ∷ none ∷ some (Opened end 1) ∷ none ∷ some (Opened end′ 1) ∷ some x ∷ some (Stored (suc end′)) ∷ some x ∷ some Nothing ∷ [])
+
+pub mending-heard : (kept kept′ : ℕ → Bool) → Ordered kept → Ordered kept′ → heard (blankBox 8) (mending kept kept′) ≡ mendedTo (kept 0) (kept 63) (kept′ 0) (kept′ 63)
 unfolding modelHeard latest
-mending-heard kept o = promised 6 2 .as-model (mending kept) (mending-run kept o) ∙ go (kept 0) (kept 63) refl refl
+mending-heard kept kept′ o o′ = promised 8 2 .as-model (mending kept kept′) (mending-run kept kept′ o o′) ∙ go (kept 0) (kept 63) (kept′ 0) (kept′ 63) refl refl refl refl
   where
-    go : (b c : Bool) → kept 0 ≡ b → kept 63 ≡ c → modelHeard false (blankModel 6 2) (mending kept)
-        ≡ cond (kept 0) (cond (kept 63) (mendedTo 3 (Value 3 6 1) (Value 3 6 1)) (mendedTo 3 (Value 2 10 1) Nothing)) (mendedTo 2 (Value 2 10 1) Nothing)
-    go false c e f = rw e
-    go true true e f = rw (e, f)
-    go true false e f = rw (e, f)
+    -- the last byte is not stored without the first
+    none-last : (κ : ℕ → Bool) → Ordered κ → κ 63 ≡ true → κ 0 ≡ false → ⊥
+    none-last κ q e f = true≢false (sym (q .last e 0 (omega arith)) ∙ f)
+
+    -- a cut after so many bytes for each
+    after : (n n′ : ℕ) → kept 0 ≡ firstBytes n 0 → kept 63 ≡ firstBytes n 63 → kept′ 0 ≡ firstBytes n′ 0 → kept′ 63 ≡ firstBytes n′ 63
+        → modelHeard false (blankModel 8 2) (mending kept kept′) ≡ modelHeard false (blankModel 8 2) (mending (firstBytes n) (firstBytes n′))
+    after n n′ e f e′ f′ =
+        same-cut 8 2 false (blankModel 8 2) typed (mended-then kept′) (write 1 6 1 (8 ∷ [])) kept (firstBytes n) e f
+        ∙ same-cut 8 2 false (blankModel 8 2) (typed ++ cuts (write 1 6 1 (8 ∷ [])) (firstBytes n) ∷ events 8 2 (opened 0 ∷ [])) then-read (write 1 8 1 (9 ∷ [])) kept′ (firstBytes n′) e′ f′
+
+    go : (b c b′ c′ : Bool) → kept 0 ≡ b → kept 63 ≡ c → kept′ 0 ≡ b′ → kept′ 63 ≡ c′ → modelHeard false (blankModel 8 2) (mending kept kept′) ≡ mendedTo b c b′ c′
+    go false true b′ c′ e f e′ f′ = absurd (none-last kept o f e)
+    go false false false false e f e′ f′ = after 0 0 e f e′ f′ ∙ refl
+    go false false false true e f e′ f′ = absurd (none-last kept′ o′ f′ e′)
+    go false false true false e f e′ f′ = after 0 20 e f e′ f′ ∙ refl
+    go false false true true e f e′ f′ = after 0 64 e f e′ f′ ∙ refl
+    go true false false false e f e′ f′ = after 20 0 e f e′ f′ ∙ refl
+    go true false false true e f e′ f′ = absurd (none-last kept′ o′ f′ e′)
+    go true false true false e f e′ f′ = after 20 20 e f e′ f′ ∙ refl
+    go true false true true e f e′ f′ = after 20 64 e f e′ f′ ∙ refl
+    go true true false false e f e′ f′ = after 64 0 e f e′ f′ ∙ refl
+    go true true false true e f e′ f′ = absurd (none-last kept′ o′ f′ e′)
+    go true true true false e f e′ f′ = after 64 20 e f e′ f′ ∙ refl
+    go true true true true e f e′ f′ = after 64 64 e f e′ f′ ∙ refl
 
 -- ---- one life of a box of twelve pages and two files: a version of file 1 from 5 on, read at 6; a newer one from 9 on; a token of
 -- file 2, whose commit is cut after 20 bytes; the box is opened again with a floor of 6

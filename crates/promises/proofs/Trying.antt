@@ -9,6 +9,7 @@ use lib.ListN.{length, replicate, length-replicate}
 use lib.Dec.{leb, ltb}
 use borrow.Author.Tests.{leb-true, ltb-true}
 use Rattle.encoding.proofs.Logic.{and-true, clash}
+use Rattle.page.specs.Layout.{kindAt, markAt}
 use Rattle.recovery.specs.declared.Answer.{Answer}
 use Rattle.recovery.specs.Numbers.{numbersOf}
 use Rattle.recovery.specs.Log.{blank}
@@ -18,7 +19,7 @@ use Rattle.recovery.specs.Lent.{rowLength}
 use Rattle.calls.specs.Calls.{Call, begin, write, read, test, decide, rebuild}
 use Rattle.calls.specs.Cuts.{firstBytes}
 use Rattle.promises.specs.Runs.{Box, sheetOf, Event, calls, opens, cuts, answerTo, after, runs, numbered, Hears, heard, Typed, AllAllowed, Run, blankBox, Floors}
-use Rattle.promises.specs.Model.{Model, blankModel, modelHeard, modelRuns}
+use Rattle.promises.specs.Model.{Model, blankModel, modelAnswer, modelAfter, modelOn, modelHeard, modelRuns}
 use Rattle.promises.specs.Promises.{boxAfter, NoTornOutcome}
 use Rattle.promises.proofs.bytes.Mixed.{first-ordered}
 use Rattle.promises.proofs.boxes.Boxes.{page-above}
@@ -161,6 +162,14 @@ module _ (pages files : ℕ) where
   pub hears-by : (es : List Event) (e : Event) (x : Answer) → Run pages files (es ++ e ∷ []) → last (modelHeard false (blankModel pages files) (es ++ e ∷ [])) ≡ some (numbersOf x)
       → Hears (boxAfter pages files es) e x
   hears-by es e x r h = sym (last-heard (blankBox pages) es e) ∙ ap last (promised pages files .as-model (es ++ e ∷ []) r) ∙ h
+
+  -- what the model hears of a cut hangs on the first byte and on the last
+  pub same-cut : (b : Bool) (m : Model) (xs es : List Event) (k : Call) (kept kept′ : ℕ → Bool) → kept kindAt ≡ kept′ kindAt → kept markAt ≡ kept′ markAt
+      → modelHeard b m (xs ++ cuts k kept ∷ es) ≡ modelHeard b m (xs ++ cuts k kept′ ∷ es)
+  unfolding modelHeard
+  same-cut true m [] es k kept kept′ e f = ap (λ x. none ∷ modelHeard false x es) (rw (e, f))
+  same-cut false m [] es k kept kept′ e f = refl
+  same-cut b m (x ∷ xs) es k kept kept′ e f = ap (λ l. numbered (modelAnswer b m x) ∷ l) (same-cut (modelOn b m x) (modelAfter b m x) xs es k kept kept′ e f)
 
   -- ---- above the pages that the model has used all are blank
 
