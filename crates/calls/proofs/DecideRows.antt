@@ -21,112 +21,81 @@ use Rattle.page.specs.Answers.{tested, onImage, imageOfFile}
 use Rattle.recovery.specs.Places.{nth}
 use Rattle.recovery.specs.Log.{Entry, blank, bad, image}
 use Rattle.recovery.specs.Sheet.{pageBytes, entryOf, imageFrom, isOpening, seal, decoded, sealed}
-use Rattle.recovery.specs.World.{cold, isFile}
+use Rattle.recovery.specs.World.{isImageOf, imageAction, cold, isFile}
 use Rattle.recovery.specs.Lent.{rowLength, rowsOf, flat, pagesOf}
-use Rattle.recovery.specs.Steps.{sealedImage, sheetWorld, rowOf, withRowOf}
+use Rattle.recovery.specs.Steps.{sealedImage, isFound, actionFound, sheetWorld, rowOf, namesActionIn, withRowOf}
 use Rattle.recovery.specs.declared.Row.{Row}
-use Rattle.recovery.proofs.Pages.{page-at-place, pages-long}
 use Rattle.recovery.proofs.FlatRows.{rows-long, rows-flat, flat-rows, flat-long, put-flat}
-use Rattle.recovery.proofs.Lookups.{nth-past, set-some}
-use Rattle.recovery.proofs.Held.{seek-out, image-none, image-unsealed, image-sealed}
-use Rattle.calls.specs.Calls.{imageOf, isTokenOf, holdsToken, decided, settled, eachRow}
-use Rattle.calls.specs.DecideSteps.{holdsTokenIn, settledRow, settledRows}
+use Rattle.recovery.proofs.Lookups.{set-some}
+use Rattle.recovery.proofs.Held.{ofSought, lies-in, image-none, image-unsealed, image-sealed}
+use Rattle.calls.specs.Calls.{isTokenAt, holdsToken, decided, settled, eachRow}
+use Rattle.calls.specs.DecideSteps.{isTokenIn, settledRow, settledRows}
 
--- ---- a row's token
+-- ---- a token at a place
 
 -- an image that was found is one under an action
 abbrev isUnder : ℕ → Sought → Bool
-isUnder a (sought.Sought.Image x) = eqb (x .action) a
-isUnder a sought.Sought.Other = false
+isUnder a u = isFound u && eqb (actionFound u) a
 
-module _ (f a : ℕ) where
-  entry-token : (ρ : ℕ → Entry) (b : List ℕ) (u : Unpacked) → isTokenOf f a (imageOf (seal ρ (entryOf b u)))
-      ≡ isUnder a (onImage u (λ (p : Page). cond (eqb (p .file) f && isOpening (ρ (p .action))) (sought.Sought.Image p) sought.Sought.Other) sought.Sought.Other)
-  entry-token ρ b Refused = refl
-  entry-token ρ b Blank = refl
-  entry-token ρ b Torn = refl
-  entry-token ρ b (Opening y) = refl
-  entry-token ρ b (Outcome y) = by-test (λ (g : Entry). isTokenOf f a (imageOf g) ≡ false) (isOpening (ρ (y .action))) (λ q. refl) (λ q. refl)
-  entry-token ρ b Unfit = refl
-  entry-token ρ b (Image y) = go (isOpening (ρ (y .action))) (eqb (y .file) f) refl
-    where
-      go : (o c : Bool) → eqb (y .file) f ≡ c → isTokenOf f a (imageOf (cond o (image (imageFrom b y)) bad))
-          ≡ isUnder a (cond (eqb (y .file) f && o) (sought.Sought.Image y) sought.Sought.Other)
-      go true true k = simp k
-      go true false k = simp k
-      go false true k = simp k
-      go false false k = simp k
+under-seen : (a : ℕ) (b : Bool) (m : ℕ) → (b && eqb (cond b m 0) a) ≡ (b && eqb m a)
+under-seen a true m = refl
+under-seen a false m = refl
 
-  module _ (files : ℕ) (s : List ℕ) (place : ℕ) where
-    token-here : isTokenOf f a (imageOf (sealed files s place)) ≡ isUnder a (sealedImage files s f place)
-    unfolding sealed decoded sealedImage
-    token-here = entry-token (decoded files s) (pageBytes s place) (tested (pageBytes s place) place files)
+module _ (s : List ℕ) (files end a f place : ℕ) where
+  pub token-high : end < place → false ≡ isTokenIn s files end a f place
+  unfolding isTokenIn
+  token-high h = simp (lt-leb place end h)
 
-    token-in : 1 ≤ place → isTokenOf f a (imageOf (nth blank (pagesOf s files) place)) ≡ isUnder a (sealedImage files s f place)
-    token-in l = go (leb place (length s / pageSize)) refl
-      where
-        go : (c : Bool) → leb place (length s / pageSize) ≡ c → isTokenOf f a (imageOf (nth blank (pagesOf s files) place)) ≡ isUnder a (sealedImage files s f place)
-        go true e = rw (page-at-place files (length s / pageSize) s place l (leb-true place (length s / pageSize) e)) token-here
-        go false e =
-            let h : length s / pageSize < place = leb-false place (length s / pageSize) e in
-            let b : blank ≡ nth blank (pagesOf s files) place = nth-past blank (pagesOf s files) place (omega (arith, pages-long files (length s / pageSize) s)) in
-            rw (← b) (ap (isUnder a) (image-none files s f place (seek-out s place files f (λ p q. omega arith))))
-
-module _ (s : List ℕ) (files end a f : ℕ) (r : Row) where
-  pub holds-mark : (r .mark ≡ 1 → ⊥) → false ≡ holdsTokenIn s files end a f r
-  unfolding holdsTokenIn
-  holds-mark h = simp (ne-eqb (r .mark) 1 h)
-
-  module _ (m : r .mark ≡ 1) where
-    pub holds-zero : r .token ≡ 0 → false ≡ holdsTokenIn s files end a f r
-    unfolding holdsTokenIn
-    holds-zero h = rw (eq-eqb (r .mark) 1 m, h, le-leb 0 end (omega arith))
-
-    pub holds-high : end < r .token → false ≡ holdsTokenIn s files end a f r
-    unfolding holdsTokenIn
-    holds-high h = simp (eq-eqb (r .mark) 1 m, lt-leb (r .token) end h)
-
-    pub holds-by : (r .token ≡ 0 → ⊥) → r .token ≤ end → (u : Sought) → u ≡ sealedImage files s f (r .token) → isUnder a u ≡ holdsTokenIn s files end a f r
-    unfolding holdsTokenIn
-    holds-by n h u e =
-        simp (eq-eqb (r .mark) 1 m, le-leb (r .token) end h) (ap (isUnder a) e ∙ sym (token-in f a files s (r .token) (omega (arith, n))))
+  module _ (h : place ≤ end) where
+    token-by : (u : Sought) → u ≡ sealedImage files s f place → isUnder a u ≡ isTokenIn s files end a f place
+    unfolding isTokenIn
+    token-by u e =
+        let there : Entry = nth blank (pagesOf s files) place in
+        simp (le-leb place end h) (ap (λ (x : Bool × ℕ). x .0 && eqb (x .1) a) (ap ofSought e ∙ sym (lies-in files s f place)) ∙ under-seen a (isImageOf f there) (imageAction there))
 
     -- by the quick look, and one look at the action's opening
-    module _ (n : r .token ≡ 0 → ⊥) (h : r .token ≤ end) where
-      pub holds-none : sought.Sought.Other ≡ imageOfFile f (tested (pageBytes s (r .token)) (r .token) files) → false ≡ holdsTokenIn s files end a f r
-      holds-none e = holds-by n h sought.Sought.Other (image-none files s f (r .token) e)
+    pub token-none : sought.Sought.Other ≡ imageOfFile f (tested (pageBytes s place) place files) → false ≡ isTokenIn s files end a f place
+    token-none e = token-by sought.Sought.Other (image-none files s f place e)
 
-      module _ (x : Page) (e : sought.Sought.Image x ≡ imageOfFile f (tested (pageBytes s (r .token)) (r .token) files)) where
-        pub holds-other : (x .action ≡ a → ⊥) → false ≡ holdsTokenIn s files end a f r
-        holds-other o = go (isOpening (decoded files s (x .action))) refl
-          where
-            go : (b : Bool) → isOpening (decoded files s (x .action)) ≡ b → false ≡ holdsTokenIn s files end a f r
-            go true q = sym (ne-eqb (x .action) a o) ∙ holds-by n h (sought.Sought.Image x) (image-sealed files s f (r .token) x e q)
-            go false q = holds-by n h sought.Sought.Other (image-unsealed files s f (r .token) x e q)
+    module _ (x : Page) (e : sought.Sought.Image x ≡ imageOfFile f (tested (pageBytes s place) place files)) where
+      pub token-other : (x .action ≡ a → ⊥) → false ≡ isTokenIn s files end a f place
+      token-other o = go (isOpening (decoded files s (x .action))) refl
+        where
+          go : (b : Bool) → isOpening (decoded files s (x .action)) ≡ b → false ≡ isTokenIn s files end a f place
+          go true q = sym (ne-eqb (x .action) a o) ∙ token-by (sought.Sought.Image x) (image-sealed files s f place x e q)
+          go false q = token-by sought.Sought.Other (image-unsealed files s f place x e q)
 
-        pub holds-own : (b : Bool) → x .action ≡ a → b ≡ isOpening (decoded files s a) → b ≡ holdsTokenIn s files end a f r
-        holds-own true o q = sym (eq-eqb (x .action) a o) ∙ holds-by n h (sought.Sought.Image x) (image-sealed files s f (r .token) x e (ap (λ y. isOpening (decoded files s y)) o ∙ sym q))
-        holds-own false o q = holds-by n h sought.Sought.Other (image-unsealed files s f (r .token) x e (ap (λ y. isOpening (decoded files s y)) o ∙ sym q))
+      pub token-own : (b : Bool) → x .action ≡ a → b ≡ isOpening (decoded files s a) → b ≡ isTokenIn s files end a f place
+      token-own true o q = sym (eq-eqb (x .action) a o) ∙ token-by (sought.Sought.Image x) (image-sealed files s f place x e (ap (λ y. isOpening (decoded files s y)) o ∙ sym q))
+      token-own false o q = token-by sought.Sought.Other (image-unsealed files s f place x e (ap (λ y. isOpening (decoded files s y)) o ∙ sym q))
 
 -- ---- one row
 
-pub decided-yes : (c : Bool) (r : Row) → c ≡ true → record { mark = r .mark; current = r .token; currentend = r .tokenend; token = 0; tokenend = 0 } ≡ decided c r
+pub decided-yes : (c : Bool) (r : Row) → c ≡ true → record { mark = r .mark; current = r .token; currentend = r .tokenend; token = 0; tokenend = 0; tokenaction = 0 } ≡ decided c r
 decided-yes c r h = rw h
 
-pub decided-no : (c : Bool) (r : Row) → c ≡ false → record { mark = r .mark; current = r .current; currentend = r .currentend; token = 0; tokenend = 0 } ≡ decided c r
+pub decided-no : (c : Bool) (r : Row) → c ≡ false → record { mark = r .mark; current = r .current; currentend = r .currentend; token = 0; tokenend = 0; tokenaction = 0 } ≡ decided c r
 decided-no c r h = rw h
 
-module _ (s : List ℕ) (files end a : ℕ) (c : Bool) (f : ℕ) (xs : List ℕ) (r : Row) (hr : r ≡ rowOf xs f) (b : Bool) (hb : b ≡ holdsTokenIn s files end a f r) where
-  held : holdsTokenIn s files end a f (rowOf xs f) ≡ b
-  held = sym (rw hr at hb)
-
-  pub row-decided : b ≡ true → (q : Row) → q ≡ decided c r → (ys : List ℕ) → ys ≡ withRowOf xs f q → ys ≡ settledRow s files end a c f xs
+module _ (s : List ℕ) (files end a : ℕ) (c : Bool) (f : ℕ) (xs : List ℕ) where
+  by-holding : (b : Bool) → holdsToken (sheetWorld s files end) a f (rowOf xs f) ≡ b → settledRow s files end a c f xs ≡ cond b (withRowOf xs f (decided c (rowOf xs f))) xs
   unfolding settledRow
-  row-decided h q hq ys hy = hy ∙ ap (withRowOf xs f) (hq ∙ ap (decided c) hr) ∙ sym (ap (λ (o : Bool). cond o (withRowOf xs f (decided c (rowOf xs f))) xs) (held ∙ h))
+  by-holding b e = ap (λ (o : Bool). cond o (withRowOf xs f (decided c (rowOf xs f))) xs) e
 
-  pub row-same : b ≡ false → xs ≡ settledRow s files end a c f xs
-  unfolding settledRow
-  row-same h = sym (ap (λ (o : Bool). cond o (withRowOf xs f (decided c (rowOf xs f))) xs) (held ∙ h))
+  pub row-unnamed : (n : Bool) → n ≡ namesActionIn xs f a → n ≡ false → xs ≡ settledRow s files end a c f xs
+  unfolding namesActionIn
+  row-unnamed n hn h = sym (by-holding false (ap (λ (o : Bool). o && isTokenAt (sheetWorld s files end) a f (rowOf xs f .token)) (sym hn ∙ h)))
+
+  module _ (n : Bool) (hn : n ≡ namesActionIn xs f a) (named : n ≡ true) (r : Row) (hr : r ≡ rowOf xs f) (b : Bool) (hb : b ≡ isTokenIn s files end a f (r .token)) where
+    held : holdsToken (sheetWorld s files end) a f (rowOf xs f) ≡ b
+    unfolding namesActionIn isTokenIn
+    held = ap (λ (o : Bool). o && isTokenAt (sheetWorld s files end) a f (rowOf xs f .token)) (sym hn ∙ named) ∙ sym (rw hr at hb)
+
+    pub row-same : b ≡ false → xs ≡ settledRow s files end a c f xs
+    row-same h = sym (by-holding false (held ∙ h))
+
+    pub row-decided : b ≡ true → (q : Row) → q ≡ decided c r → (ys : List ℕ) → ys ≡ withRowOf xs f q → ys ≡ settledRow s files end a c f xs
+    row-decided h q hq ys hy = hy ∙ ap (withRowOf xs f) (hq ∙ ap (decided c) hr) ∙ sym (by-holding true (held ∙ h))
 
 -- ---- all rows, one by one
 
@@ -197,7 +166,7 @@ module _ (s : List ℕ) (files end a : ℕ) (c : Bool) (xs : List ℕ) where
   κ = settled (sheetWorld s files end) a c
 
   one-more : (rs : List Row) (k : ℕ) → k < length rs → settledRow s files end a c (suc k) (flat rs) ≡ flat (set rs k (κ (suc k) (getD rs k cold)))
-  unfolding settledRow holdsTokenIn
+  unfolding settledRow
   one-more rs k h = rw row-in (go (holdsToken (sheetWorld s files end) a (suc k) (getD rs k cold)))
     where
       go : (b : Bool) → cond b (withRowOf (flat rs) (suc k) (decided c (getD rs k cold))) (flat rs) ≡ flat (set rs k (cond b (decided c (getD rs k cold)) (getD rs k cold)))

@@ -21,7 +21,7 @@ use Rattle.recovery.specs.World.{World, Result, refuse, entryAt, isBlank, withR
 use Rattle.calls.specs.Walk.{Walk, met, nothing, lost}
 use Rattle.calls.specs.Lines.{lines, among}
 use Rattle.calls.specs.Leaves.{padded, valueAt}
-use Rattle.calls.specs.Calls.{Call, begin, write, read, test, decide, rebuild, forFile, forAction, ifUndecided, forUndecided, hasAction, isDecided, hasRoom, append, store, onBegin, isFreeFor, written, onWrite, onRead, onToken, onVersions, answerWalk, actionOf, versionAnswer, readCurrent, readToken, reaches, walkFrom, imageOf, settled, eachRow, onDecide, isDecidedAs, unlessDecided, on, call}
+use Rattle.calls.specs.Calls.{Call, begin, write, read, test, decide, rebuild, forFile, forAction, ifUndecided, forUndecided, hasAction, isDecided, hasRoom, append, store, onBegin, isFreeFor, written, onWrite, onRead, onToken, onVersions, answerWalk, versionAnswer, readCurrent, readToken, reaches, walkFrom, imageOf, settled, eachRow, onDecide, isDecidedAs, unlessDecided, on, call}
 
 -- the file that a call asks for, 0 if it asks for none
 unfoldable pub fileOf : Call → ℕ
@@ -112,22 +112,21 @@ module _ (P : Result → Type 0) where
     writes : (f start a : ℕ) (v : List ℕ) (r : Row) → Ways P (write f start a v) w → length v ≤ valueSize → P (onWrite w f start a v r)
     writes f start a v r h short =
         let g : Entry = image (record { file = f; action = a; link = r .current; start = start; value = v }) in
-        let rows : List Row = put (w .rows) f (written r (suc (w .end)) start) in
+        let rows : List Row = put (w .rows) f (written r (suc (w .end)) start a) in
         let room : Result = cond (hasRoom w (w .undecided + 1)) (store w g (w .fates) rows (w .undecided)) (refuse 11 0 w) in
         let long : length (padded v) ≡ valueSize = simp (length-append, length-replicate) (omega arith) in
         let late : Bool = ltb (r .currentend) start && ltb (w .floor) start in
         let timely : Result = cond late room (refuse 10 0 w) in
-        let other : ℕ = actionOf (imageOf (entryAt w (r .token))) in
-        holds (write f start a v) w h refl f r (cond (isFreeFor w a r) timely (refuse 8 other w)) (either (isFreeFor w a r) timely (refuse 8 other w)
+        holds (write f start a v) w h refl f r (cond (isFreeFor a r) timely (refuse 8 (r .tokenaction) w)) (either (isFreeFor a r) timely (refuse 8 (r .tokenaction) w)
         (by-test P late {x = room} {y = refuse 10 0 w} (λ e.
-        stores (write f start a v) w h refl refl (w .undecided + 1) (omega arith) g (w .fates) rows (w .undecided) long (written r (suc (w .end)) start, refl)
+        stores (write f start a v) w h refl refl (w .undecided + 1) (omega arith) g (w .fates) rows (w .undecided) long (written r (suc (w .end)) start a, refl)
         (ltb-true (w .floor) start (and-true (ltb (r .currentend) start) (ltb (w .floor) start) e .1)))
-        (λ e. h .refusing 10 0 refl)) (h .refusing 8 other refl))
+        (λ e. h .refusing 10 0 refl)) (h .refusing 8 (r .tokenaction) refl))
 
     row-answers : (f : ℕ) (r : Row) → Ways P (rebuild f) w → P (answerRow w f r)
     unfolding isRefused
     row-answers f r h =
-        let x : Answer = Rebuilt (r .current) (r .currentend) (r .token) (r .tokenend) in holds (rebuild f) w h refl f r (x, w) (h .answering x refl tt)
+        let x : Answer = Rebuilt (r .current) (r .currentend) (r .token) (r .tokenend) (r .tokenaction) in holds (rebuild f) w h refl f r (x, w) (h .answering x refl tt)
 
     module _ (f time a : ℕ) (h : Ways P (read f time a) w) where
       walks : (r : Row) (x : Walk) → P (answerWalk w f r x)

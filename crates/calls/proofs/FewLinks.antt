@@ -37,7 +37,7 @@ module _ (files : ℕ) (s : List ℕ) where
   image-lies : (p : ℕ) (i : Image) → page p ≡ image i → Lies p i
   image-lies zero i e = clash cc
   image-lies (suc q) i e =
-      go (sealedImage files s (i .file) (suc q)) refl (sym (held-in files s (i .file) (suc q) (omega arith)) ∙ rw e (eq-eqb (i .file) (i .file) refl))
+      go (sealedImage files s (i .file) (suc q)) refl (sym (held-in files s (i .file) (suc q)) ∙ rw e (eq-eqb (i .file) (i .file) refl))
     where
       go : (u : Sought) → sealedImage files s (i .file) (suc q) ≡ u → isFound (sealedImage files s (i .file) (suc q)) ≡ true → Lies (suc q) i
       go (sought.Sought.Image x) h k =

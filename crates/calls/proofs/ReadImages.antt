@@ -22,7 +22,7 @@ use Rattle.recovery.specs.Log.{blank, image}
 use Rattle.recovery.specs.Sheet.{pageBytes, entryOf, imageFrom, isOpening, seal, decoded}
 use Rattle.recovery.specs.World.{isImageOf}
 use Rattle.recovery.specs.Lent.{pagesOf}
-use Rattle.recovery.specs.Steps.{sealedImage, isFound, placeHoldsBy, rowHoldsBy}
+use Rattle.recovery.specs.Steps.{sealedImage, isFound, placeHoldsBy, actionFound, tokenHoldsBy, rowHoldsBy}
 use Rattle.recovery.specs.declared.Row.{Row}
 use Rattle.recovery.proofs.Pages.{page-at-place, sealed-is}
 use Rattle.recovery.proofs.Held.{held-in}
@@ -80,8 +80,7 @@ module _ (files : ℕ) (s : List ℕ) (f p : ℕ) (x : Page) where
   met-at e = from-test (tested (pageBytes s p) p files) refl e
 
 pub none-at : (files : ℕ) (s : List ℕ) (f p : ℕ) → sought.Sought.Other ≡ sealedImage files s f p → isImageOf f (nth blank (pagesOf s files) p) ≡ false
-none-at files s f zero h = refl
-none-at files s f (suc q) h = held-in files s f (suc q) (omega arith) ∙ ap isFound (sym h)
+none-at files s f p h = held-in files s f p ∙ ap isFound (sym h)
 
 -- ---- line 7
 
@@ -104,10 +103,10 @@ pub record RowHeld (files : ℕ) (s : List ℕ) (e f : ℕ) (r : Row) (u v : Sou
 
 module _ {files : ℕ} {s : List ℕ} {e f : ℕ} {r : Row} {u v : Sought} (k : RowHeld files s e f r u v) where
   each : (placeHoldsBy e (r .current) u ≡ true) × (placeHoldsBy e (r .token) v ≡ true)
-  unfolding rowHoldsBy
+  unfolding rowHoldsBy tokenHoldsBy
   each =
-      let h = and-true (leb (r .mark) 1 && placeHoldsBy e (r .current) u) (placeHoldsBy e (r .token) v) (k .holds) in
-      (and-true (leb (r .mark) 1) (placeHoldsBy e (r .current) u) (h .0) .1, h .1)
+      let h = and-true (leb (r .mark) 1 && placeHoldsBy e (r .current) u) (tokenHoldsBy e r v) (k .holds) in
+      (and-true (leb (r .mark) 1) (placeHoldsBy e (r .current) u) (h .0) .1, and-true (placeHoldsBy e (r .token) v) (eqb (r .tokenaction) (actionFound v)) (h .1) .0)
 
   pub looked-current : Looked files s f (r .current) u
   looked-current = looked files s e f (r .current) u (k .current) (each .0)

@@ -23,11 +23,11 @@ use Rattle.recovery.specs.declared.State.{State}
 use Rattle.recovery.specs.declared.Answer.{Answer}
 use Rattle.recovery.specs.declared.Answer.the-variants.{Refused, Stored}
 use Rattle.recovery.proofs.Answer.{the-type}
-use Rattle.recovery.specs.World.{World, Result, isFile, entryAt, isImageOf, placeHolds, rowHolds, withRow, warmRow, refuse}
+use Rattle.recovery.specs.World.{World, Result, isFile, entryAt, isImageOf, placeHolds, tokenHolds, rowHolds, withRow, warmRow, refuse}
 use Rattle.recovery.specs.Lent.{rowLength, rowsOf, flat, lent, refused}
 use Rattle.recovery.specs.Steps.{lineOne, rowHoldsIn, withRowOf, Warmed}
 use Rattle.recovery.proofs.FlatRows.{rows-long}
-use Rattle.calls.specs.Calls.{write, on, isFreeFor, written, onWrite, append, imageOf, actionOf}
+use Rattle.calls.specs.Calls.{write, on, isFreeFor, written, onWrite, append}
 use Rattle.calls.specs.Leaves.{callLeaves, packedEntry, padded, withPage}
 use Rattle.calls.specs.LineSteps.{actionLine, roomLine}
 use Rattle.calls.specs.ReadSteps.{storeAnswer, writeAnswer}
@@ -107,7 +107,7 @@ module _ (s fs rs : List ℕ) (st : State) (h : lineOne (length s) (length fs) (
         I = record { file = f; action = a; link = r .current; start = t; value = v }
 
         abbrev r₁ : Row
-        r₁ = written r (suc (st .end)) t
+        r₁ = written r (suc (st .end)) t a
 
         abbrev g₁ : World
         g₁ = append w₁ (image I) fs (put (put (rowsOf rs) f r) f r₁) (st .undecided)
@@ -116,7 +116,7 @@ module _ (s fs rs : List ℕ) (st : State) (h : lineOne (length s) (length fs) (
         line = roomLine s (st .end) (length rs / rowLength) (st .undecided + 1)
 
         on-room : on w (write f t a v)
-            ≡ four (suc (st .end)) (actionOf (imageOf (entryAt w (r .token)))) line (rowHolds w₁ f r) (isFreeFor w a r) (ltb (r .currentend) t && ltb (st .floor) t) (eqb line 0) g₁ w₁
+            ≡ four (suc (st .end)) (r .tokenaction) line (rowHolds w₁ f r) (isFreeFor a r) (ltb (r .currentend) t && ltb (st .floor) t) (eqb line 0) g₁ w₁
         on-room =
             on-warm
             ∙ rw (room-by (length rs / rowLength) s fs (put (rowsOf rs) f r) (st .end) (st .floor) (st .undecided) (st .undecided + 1) (omega arith) (Stored (suc (st .end)), g₁))
@@ -127,13 +127,13 @@ module _ (s fs rs : List ℕ) (st : State) (h : lineOne (length s) (length fs) (
         write-refused x hx q =
             ends-row s fs rs st (write f t a v) h f r x
             (on-room
-            ∙ four-no (suc (st .end)) (actionOf (imageOf (entryAt w (r .token)))) line (rowHolds w₁ f r) (isFreeFor w a r) (ltb (r .currentend) t && ltb (st .floor) t) (eqb line 0) g₁ w₁ x hx q)
+            ∙ four-no (suc (st .end)) (r .tokenaction) line (rowHolds w₁ f r) (isFreeFor a r) (ltb (r .currentend) t && ltb (st .floor) t) (eqb line 0) g₁ w₁ x hx q)
             g xs (wm .left-is)
 
         module _ (q : ℕ) (hq : Stored q ≡ writeAnswer s (length rs / rowLength) st f t a r) where
-          all : All (suc (st .end)) (rowHolds w₁ f r) (isFreeFor w a r) (ltb (r .currentend) t && ltb (st .floor) t) (eqb line 0) q
+          all : All (suc (st .end)) (rowHolds w₁ f r) (isFreeFor a r) (ltb (r .currentend) t && ltb (st .floor) t) (eqb line 0) q
           unfolding writeAnswer storeAnswer rowHoldsIn rowHolds
-          all = four-yes (suc (st .end)) (actionOf (imageOf (entryAt w (r .token)))) line (rowHolds w₁ f r) (isFreeFor w a r) (ltb (r .currentend) t && ltb (st .floor) t) (eqb line 0) q hq
+          all = four-yes (suc (st .end)) (r .tokenaction) line (rowHolds w₁ f r) (isFreeFor a r) (ltb (r .currentend) t && ltb (st .floor) t) (eqb line 0) q hq
 
           room : st .end < length s / pageSize
           room = omega (arith, room-is s (st .end) (length rs / rowLength) (st .undecided + 1) (eqb-true line 0 (all .four-is)))
@@ -141,7 +141,7 @@ module _ (s fs rs : List ℕ) (st : State) (h : lineOne (length s) (length fs) (
           link-low : r .current < suc (st .end)
           unfolding rowHolds
           link-low =
-              let k : placeHolds w₁ f (r .current) ≡ true = and-true (leb (r .mark) 1) (placeHolds w₁ f (r .current)) (and-true (leb (r .mark) 1 && placeHolds w₁ f (r .current)) (placeHolds w₁ f (r .token)) (all .one) .0) .1 in
+              let k : placeHolds w₁ f (r .current) ≡ true = and-true (leb (r .mark) 1) (placeHolds w₁ f (r .current)) (and-true (leb (r .mark) 1 && placeHolds w₁ f (r .current)) (tokenHolds w₁ f r) (all .one) .0) .1 in
               go (eqb (r .current) 0) refl k
             where
               go : (b : Bool) → eqb (r .current) 0 ≡ b → (b || (leb (r .current) (st .end) && isImageOf f (entryAt w (r .current)))) ≡ true → r .current < suc (st .end)
@@ -168,14 +168,14 @@ module _ (s fs rs : List ℕ) (st : State) (h : lineOne (length s) (length fs) (
               file-in : (1 ≤ f) × (f ≤ length rs / rowLength)
               file-in = let x = and-true (leb 1 f) (leb f (length rs / rowLength)) g in (leb-true 1 f (x .0), leb-true f (length rs / rowLength) (x .1))
 
-          pub write-done : (p : Page) → p ≡ page → (y : Row) → y ≡ written r q t → (s″ ys pv : List ℕ) → pv ≡ padded v → s″ ≡ withPage s (st .end) (packed p pv (suc (st .end)))
+          pub write-done : (p : Page) → p ≡ page → (y : Row) → y ≡ written r q t a → (s″ ys pv : List ℕ) → pv ≡ padded v → s″ ≡ withPage s (st .end) (packed p pv (suc (st .end)))
               → ys ≡ withRowOf xs f y
               → record { answer = Stored q; state = record { end = q; floor = st .floor; undecided = st .undecided }; sheet = s″; fates = fs; rows = ys } ≡ callLeaves s fs rs st (write f t a v)
           unfolding packedEntry
           write-done p hg y hr s″ ys pv hp hs hy =
               let o : on w (write f t a v) ≡ (Stored (suc (st .end)), g₁) = on-room ∙ rw (all .one, all .two, all .three, all .four-is) in
               let e : q ≡ suc (st .end) = all .place in
-              let k : y ≡ r₁ = hr ∙ ap (λ (n : ℕ). written r n t) e in
+              let k : y ≡ r₁ = hr ∙ ap (λ (n : ℕ). written r n t a) e in
               let x : s″ ≡ withPage s (st .end) (packed page (padded v) (suc (st .end))) =
               hs ∙ ap (λ (z : Page). withPage s (st .end) (packed z pv (suc (st .end)))) hg ∙ ap (λ (z : List ℕ). withPage s (st .end) (packed page z (suc (st .end)))) hp in
               let l : ys ≡ flat (put (put (rowsOf rs) f r) f r₁) = hy ∙ ap (withRowOf xs f) k ∙ put-warm s fs rs st h f g r xs wm r₁ in

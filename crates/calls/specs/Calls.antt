@@ -12,7 +12,7 @@ use Rattle.recovery.specs.Log.{Image, Entry, blank, torn, bad, opening, image, 
 use Rattle.recovery.specs.declared.Row.{Row}
 use Rattle.recovery.specs.declared.Answer.{Answer}
 use Rattle.recovery.specs.declared.Answer.the-variants.{Stored, Value, Nothing, Told}
-use Rattle.recovery.specs.World.{World, Result, refuse, entryAt, fateNumber, fateAt, outcomeAt, isBlank, withRow, warmRow, rowHolds, lentRight, isFile, rebuilt}
+use Rattle.recovery.specs.World.{World, Result, refuse, entryAt, fateNumber, fateAt, outcomeAt, isBlank, withRow, warmRow, isImageOf, imageAction, rowHolds, namesAction, lentRight, isFile, rebuilt}
 use Rattle.calls.specs.Walk.{Walk, met, nothing, lost, imagesBelow, follow}
 
 -- write: file, start, action, value; read: file, time, action or 0; decide: action, and whether it commits
@@ -82,34 +82,30 @@ imageOf opening = none
 imageOf (image i) = some i
 imageOf (outcome a c) = none
 
-abbrev pub actionOf : Option Image → ℕ
-actionOf none = 0
-actionOf (some i) = i .action
-
 -- ---- write, on a warm row: lines 7, 8, 10, 11, 12
 
 -- no token, or one of this action, which the new one overtakes
-abbrev pub isFreeFor : World → ℕ → Row → Bool
-isFreeFor w a r = eqb (r .token) 0 || eqb (actionOf (imageOf (entryAt w (r .token)))) a
+abbrev pub isFreeFor : ℕ → Row → Bool
+isFreeFor a r = eqb (r .token) 0 || eqb (r .tokenaction) a
 
 -- the token's end once it is written: its start; if it is written again, no less than it was
 abbrev pub writtenEnd : Row → ℕ → ℕ
 writtenEnd r start = cond (eqb (r .token) 0) start (max (r .tokenend) start)
 
-abbrev pub written : Row → ℕ → ℕ → Row
-written r place start = record { mark = 1; current = r .current; currentend = r .currentend; token = place; tokenend = writtenEnd r start }
+abbrev pub written : Row → ℕ → ℕ → ℕ → Row
+written r place start a = record { mark = 1; current = r .current; currentend = r .currentend; token = place; tokenend = writtenEnd r start; tokenaction = a }
 
 abbrev pub onWrite : World → ℕ → ℕ → ℕ → List ℕ → Row → Result
 onWrite w f start a v r =
     cond (rowHolds w f r)
-    (cond (isFreeFor w a r)
+    (cond (isFreeFor a r)
     (cond (ltb (r .currentend) start && ltb (w .floor) start)
     (cond (hasRoom w (w .undecided + 1))
     (store w (image (record { file = f; action = a; link = r .current; start = start; value = v })) (w .fates)
-    (put (w .rows) f (written r (suc (w .end)) start)) (w .undecided))
+    (put (w .rows) f (written r (suc (w .end)) start a)) (w .undecided))
     (refuse 11 0 w))
     (refuse 10 0 w))
-    (refuse 8 (actionOf (imageOf (entryAt w (r .token)))) w))
+    (refuse 8 (r .tokenaction) w))
     (refuse 7 0 w)
 
 -- ---- read, on a warm row: lines 7, 9, 13
@@ -134,10 +130,24 @@ reaches time (some i) = leb (i .start) time
 
 -- a row whose current version, or whose token, was read at a time
 abbrev pub readCurrent : ℕ → Bool → Row → Row
-readCurrent time b r = record { mark = r .mark; current = r .current; currentend = cond b (max (r .currentend) time) (r .currentend); token = r .token; tokenend = r .tokenend }
+readCurrent time b r = record {
+  mark = r .mark;
+  current = r .current;
+  currentend = cond b (max (r .currentend) time) (r .currentend);
+  token = r .token;
+  tokenend = r .tokenend;
+  tokenaction = r .tokenaction;
+}
 
 abbrev pub readToken : ℕ → Row → Row
-readToken time r = record { mark = r .mark; current = r .current; currentend = r .currentend; token = r .token; tokenend = max (r .tokenend) time }
+readToken time r = record {
+  mark = r .mark;
+  current = r .current;
+  currentend = r .currentend;
+  token = r .token;
+  tokenend = max (r .tokenend) time;
+  tokenaction = r .tokenaction;
+}
 
 abbrev pub onVersions : World → ℕ → ℕ → Row → Result
 onVersions w f time r =
@@ -156,16 +166,16 @@ onRead w f time a r = cond (rowHolds w f r) (onToken w f time a r (imageOf (entr
 -- ---- commit and abort, asked for the first time: lines 11, 12; and the rows that they change
 
 abbrev pub decided : Bool → Row → Row
-decided true r = record { mark = r .mark; current = r .token; currentend = r .tokenend; token = 0; tokenend = 0 }
-decided false r = record { mark = r .mark; current = r .current; currentend = r .currentend; token = 0; tokenend = 0 }
+decided true r = record { mark = r .mark; current = r .token; currentend = r .tokenend; token = 0; tokenend = 0; tokenaction = 0 }
+decided false r = record { mark = r .mark; current = r .current; currentend = r .currentend; token = 0; tokenend = 0; tokenaction = 0 }
 
-abbrev pub isTokenOf : ℕ → ℕ → Option Image → Bool
-isTokenOf f a none = false
-isTokenOf f a (some i) = eqb (i .file) f && eqb (i .action) a
+-- a place that is at most the old end and holds a sealed image of a file under this action
+abbrev pub isTokenAt : World → ℕ → ℕ → ℕ → Bool
+isTokenAt w a f place = leb place (w .end) && isImageOf f (entryAt w place) && eqb (imageAction (entryAt w place)) a
 
--- a rebuilt row whose token place is at most the old end and holds a sealed image of its file under this action
+-- a rebuilt row that names this action, and whose token's place says so too
 abbrev pub holdsToken : World → ℕ → ℕ → Row → Bool
-holdsToken w a f r = eqb (r .mark) 1 && leb (r .token) (w .end) && isTokenOf f a (imageOf (entryAt w (r .token)))
+holdsToken w a f r = namesAction a r && isTokenAt w a f (r .token)
 
 abbrev pub settled : World → ℕ → Bool → ℕ → Row → Row
 settled w a c f r = cond (holdsToken w a f r) (decided c r) r

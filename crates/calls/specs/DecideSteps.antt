@@ -14,7 +14,7 @@ use Rattle.recovery.specs.declared.Row.{Row}
 use Rattle.recovery.specs.declared.State.{State}
 use Rattle.recovery.specs.declared.Done.{Done}
 use Rattle.recovery.specs.declared.Answer.the-variants.{Stored}
-use Rattle.calls.specs.Calls.{decided, holdsToken, settled, eachRow}
+use Rattle.calls.specs.Calls.{decided, isTokenAt, holdsToken, settled, eachRow}
 use Rattle.calls.specs.LineSteps.{actionLine, roomLine}
 
 -- the first line that commit and abort meet, 0 if none; line 6 is met by a decision that is asked again too
@@ -29,13 +29,13 @@ unfoldable pub decidedAgain : List ℕ → List ℕ → ℕ → State → ℕ �
 decidedAgain s fates files state a c =
     cond (eqb (nth 0 fates a) (fateNumber (verdict c))) (record { answer = Stored (outcomeIn s files (state .end) a); state = state }) (refusal 6 state)
 
--- whether a row's token is decided with this action, by the sheet and the end alone
-unfoldable pub holdsTokenIn : List ℕ → ℕ → ℕ → ℕ → ℕ → Row → Bool
-holdsTokenIn s files end a f r = holdsToken (sheetWorld s files end) a f r
+-- whether a place holds a token of this action, by the sheet and the end alone
+unfoldable pub isTokenIn : List ℕ → ℕ → ℕ → ℕ → ℕ → ℕ → Bool
+isTokenIn s files end a f place = isTokenAt (sheetWorld s files end) a f place
 
 -- the lent run with the row of one file settled, and with every row settled
 unfoldable pub settledRow : List ℕ → ℕ → ℕ → ℕ → Bool → ℕ → List ℕ → List ℕ
-settledRow s files end a c f rows = cond (holdsTokenIn s files end a f (rowOf rows f)) (withRowOf rows f (decided c (rowOf rows f))) rows
+settledRow s files end a c f rows = cond (holdsToken (sheetWorld s files end) a f (rowOf rows f)) (withRowOf rows f (decided c (rowOf rows f))) rows
 
 unfoldable pub settledRows : List ℕ → ℕ → ℕ → ℕ → Bool → List ℕ → List ℕ
 settledRows s files end a c rows = flat (eachRow (settled (sheetWorld s files end) a c) 0 (rowsOf rows))

@@ -21,7 +21,7 @@ use Rattle.recovery.specs.Steps.{sealedImage, sheetWorld, rowHoldsIn}
 use Rattle.calls.specs.declared.reading.Reading.{Reading}
 use Rattle.calls.specs.LineSteps.{actionLine, roomLine}
 use Rattle.calls.specs.Walk.{Walk, met, nothing, lost, imagesBelow, follow}
-use Rattle.calls.specs.Calls.{imageOf, actionOf, isFreeFor, versionAnswer, onVersions, onRead}
+use Rattle.calls.specs.Calls.{imageOf, isFreeFor, versionAnswer, onVersions, onRead}
 
 -- lines 5 and 6 of read, which passes over them for action 0
 unfoldable pub readLine : List ℕ → ℕ → ℕ → ℕ
@@ -69,10 +69,5 @@ storeAnswer s files state start r =
 unfoldable pub writeAnswer : List ℕ → ℕ → State → ℕ → ℕ → ℕ → Row → Answer
 writeAnswer s files state file start a r =
     cond (rowHoldsIn s files (state .end) file r)
-    (cond (isFreeFor (sheetWorld s files (state .end)) a r) (storeAnswer s files state start r) (Refused 8 (actionOf (imageOf (nth blank (pagesOf s files) (r .token))))))
+    (cond (isFreeFor a r) (storeAnswer s files state start r) (Refused 8 (r .tokenaction)))
     (Refused 7 0)
-
--- the action whose token was found, or the given one if there is none
-unfoldable pub tokenAction : Sought → ℕ → ℕ
-tokenAction (sought.Sought.Image x) a = x .action
-tokenAction sought.Sought.Other a = a

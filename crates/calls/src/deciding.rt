@@ -12,6 +12,7 @@ use recovery::fate_at;
 use recovery::file_count;
 use recovery::is_lent_right;
 use recovery::is_opening_at;
+use recovery::names_action;
 use recovery::outcome_place;
 use recovery::refuse;
 use recovery::row_of;
@@ -28,7 +29,7 @@ ghost use Rattle.recovery.specs.Sheet.{isOpening, decoded};
 ghost use Rattle.recovery.specs.Lent.{rowLength, leftBy};
 ghost use Rattle.calls.specs.Calls.{Call, decided};
 ghost use Rattle.calls.specs.Leaves.{callLeaves};
-ghost use Rattle.calls.specs.DecideSteps.{decideLine, decidedAgain, holdsTokenIn, settledRow, settledRows};
+ghost use Rattle.calls.specs.DecideSteps.{decideLine, decidedAgain, isTokenIn, settledRow, settledRows};
 
 // The first line that commit and abort meet, 0 if none; line 6 is met by a decision that is asked again too.
 fn decide_line(sheet: &[u8], fates: &[u8], rows: &[u64], state: State, action: u64) -> u64
@@ -52,21 +53,22 @@ struct Decision {
     committed: bool,
 }
 
-// Whether a row's token is a sealed image of the file under the action.
-fn holds_token(sheet: &[u8], end: u64, files: u64, file: u64, row: Row, decision: Decision) -> bool
+// Whether a place up to the end holds a sealed image of the file under the action.
+fn is_token_at(
+    sheet: &[u8],
+    end: u64,
+    files: u64,
+    file: u64,
+    place: u64,
+    decision: Decision,
+) -> bool
     requires { ⌜ decision .opened ≡ isOpening (decoded files (now sheet) (decision .action)) ⌝ }
-    ensures { λ r. ⌜ r ≡ holdsTokenIn (now (sheet .entry)) files end (decision .action) file row ⌝ }
+    ensures { λ r. ⌜ r ≡ isTokenIn (now (sheet .entry)) files end (decision .action) file place ⌝ }
 {
-    if row.mark != 1 {
+    if end < place {
         return false;
     }
-    if row.token == 0 {
-        return false;
-    }
-    if end < row.token {
-        return false;
-    }
-    let found = seek_at(sheet, row.token, files, file);
+    let found = seek_at(sheet, place, files, file);
     let Sought::Image(image) = found else {
         return false;
     };
@@ -87,6 +89,7 @@ fn decided_row(row: Row, committed: bool) -> Row
             currentend: row.tokenend,
             token: 0,
             tokenend: 0,
+            tokenaction: 0,
         };
     }
     Row {
@@ -95,6 +98,7 @@ fn decided_row(row: Row, committed: bool) -> Row
         currentend: row.currentend,
         token: 0,
         tokenend: 0,
+        tokenaction: 0,
     }
 }
 
@@ -103,14 +107,17 @@ fn settle_row(sheet: &[u8], rows: &mut [u64], end: u64, files: u64, file: u64, d
     requires { ⌜ decision .opened ≡ isOpening (decoded files (now sheet) (decision .action)) ⌝ }
     ensures { λ _. ⌜ now (rows .exit) ≡ settledRow (now (sheet .entry)) files end (decision .action) (decision .committed) file (now (rows .entry)) ⌝ }
 {
+    if !names_action(&rows[..], file, decision.action) {
+        return;
+    }
     let row = row_of(&rows[..], file);
-    if !holds_token(sheet, end, files, file, row, decision) {
+    if !is_token_at(sheet, end, files, file, row.token, decision) {
         return;
     }
     set_row(rows, file, decided_row(row, decision.committed));
 }
 
-// Every row, settled. Cold rows and rows with no token cost no look at a page, and the action's opening is looked at once for all.
+// Every row, settled. A row that does not name the action costs no look at a page, and the action's opening is looked at once for all.
 fn settle_rows(sheet: &[u8], rows: &mut [u64], end: u64, files: u64, decision: Decision)
     requires { ⌜ (rowLength * (length (now rows) / rowLength) ≡ length (now rows)) × (files ≡ length (now rows) / rowLength) × (decision .opened ≡ isOpening (decoded files (now sheet) (decision .action))) ⌝ }
     ensures { λ _. ⌜ now (rows .exit) ≡ settledRows (now (sheet .entry)) files end (decision .action) (decision .committed) (now (rows .entry)) ⌝ }

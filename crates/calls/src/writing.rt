@@ -3,7 +3,6 @@ use crate::appending::append;
 use crate::refusing::action_line;
 use crate::refusing::room_line;
 use page::Page;
-use page::Sought;
 use recovery::Answer;
 use recovery::Done;
 use recovery::Row;
@@ -25,10 +24,10 @@ ghost use Rattle.page.specs.Layout.{pageSize, valueSize};
 ghost use Rattle.recovery.specs.World.{isFile};
 ghost use Rattle.recovery.specs.Lent.{leftBy, rowLength};
 ghost use Rattle.recovery.specs.Steps.{lineOne};
-ghost use Rattle.calls.specs.Calls.{Call, writtenEnd, written};
+ghost use Rattle.calls.specs.Calls.{Call, isFreeFor, writtenEnd, written};
 ghost use Rattle.calls.specs.Leaves.{callLeaves, padded};
 ghost use Rattle.calls.specs.LineSteps.{actionLine};
-ghost use Rattle.calls.specs.ReadSteps.{storeAnswer, writeAnswer, tokenAction};
+ghost use Rattle.calls.specs.ReadSteps.{storeAnswer, writeAnswer};
 
 // A value and zeros after it.
 fn pad(value: &[u8]) -> [u8; Page::VALUE_SIZE]
@@ -62,14 +61,11 @@ fn store_answer(sheet: &[u8], state: State, files: u64, start: u64, row: Row) ->
     Answer::Stored(state.end + 1)
 }
 
-// The action whose token was found, or the given one if there is none.
-fn token_action(token: Sought, action: u64) -> u64
-    ensures { λ r. ⌜ r ≡ tokenAction token action ⌝ }
+// Whether a row has no token, or one of this action.
+fn is_free_for(row: Row, action: u64) -> bool
+    ensures { λ r. ⌜ r ≡ isFreeFor action row ⌝ }
 {
-    match token {
-        Sought::Image(x) => x.action,
-        Sought::Other => action,
-    }
+    (row.token == 0) | (row.tokenaction == action)
 }
 
 // Lines 7 to 12 of write on a warm row. Each place of the row is looked at once.
@@ -90,9 +86,8 @@ fn write_answer(
     if !row_holds_by(state.end, row, current, token) {
         return Answer::Refused(7, 0);
     }
-    let holder = token_action(token, action);
-    if holder != action {
-        return Answer::Refused(8, holder);
+    if !is_free_for(row, action) {
+        return Answer::Refused(8, row.tokenaction);
     }
     store_answer(sheet, state, files, start, row)
 }
@@ -107,9 +102,9 @@ fn written_end(row: Row, start: u64) -> u64
     raised_row(row, 0, start).tokenend
 }
 
-// The row once an image was written at a place.
-fn written_row(row: Row, place: u64, start: u64) -> Row
-    ensures { λ r. ⌜ r ≡ written row place start ⌝ }
+// The row once an image was written at a place, under an action.
+fn written_row(row: Row, place: u64, start: u64, action: u64) -> Row
+    ensures { λ r. ⌜ r ≡ written row place start action ⌝ }
 {
     let tokenend = written_end(row, start);
     Row {
@@ -118,6 +113,7 @@ fn written_row(row: Row, place: u64, start: u64) -> Row
         currentend: row.currentend,
         token: place,
         tokenend,
+        tokenaction: action,
     }
 }
 
@@ -144,7 +140,7 @@ fn write_warm(
     let Answer::Stored(place) = answer else {
         return Done { answer, state };
     };
-    set_row(rows, file, written_row(row, place, start));
+    set_row(rows, file, written_row(row, place, start, action));
     let page = Page::image(value.len() as u64, file, action, row.current, start);
     append(sheet, end, files, page, &bytes);
     Done {

@@ -1,5 +1,5 @@
 -- The starred points hold.
-use Prim.Native.Nat.{ℕ, _*_, _/_, _≤_}
+use Prim.Native.Nat.{ℕ, _*_, _-_, _/_, _≤_}
 use mathlib.Core.Path.{_≡_, refl, sym, ap, _∙_}
 use mathlib.Core.Bool.{true, false}
 use mathlib.Core.List.{List, [], _∷_, _++_}
@@ -55,16 +55,16 @@ sizes-hold =
 -- ---- two pages, from one call to the next
 
 abbrev two : Left
-two = record { answer = Opened 0 0; state = record { end = 0; floor = 0; undecided = 0 }; sheet = replicate 128 0; fates = 0 ∷ 0 ∷ []; rows = replicate 40 0 }
+two = record { answer = Opened 0 0; state = record { end = 0; floor = 0; undecided = 0 }; sheet = replicate 128 0; fates = 0 ∷ 0 ∷ []; rows = replicate (rowLength * 8) 0 }
 
 abbrev begun : Left
-begun = record { answer = Stored 1; state = record { end = 1; floor = 0; undecided = 1 }; sheet = packedEntry 1 opening ++ replicate 64 0; fates = 1 ∷ 0 ∷ []; rows = replicate 40 0 }
+begun = record { answer = Stored 1; state = record { end = 1; floor = 0; undecided = 1 }; sheet = packedEntry 1 opening ++ replicate 64 0; fates = 1 ∷ 0 ∷ []; rows = replicate (rowLength * 8) 0 }
 
 abbrev unwritten : Left
-unwritten = record { answer = Refused 11 0; state = begun .state; sheet = begun .sheet; fates = begun .fates; rows = 1 ∷ replicate 39 0 }
+unwritten = record { answer = Refused 11 0; state = begun .state; sheet = begun .sheet; fates = begun .fates; rows = 1 ∷ replicate (rowLength * 8 - 1) 0 }
 
 abbrev decided : Left
-decided = record { answer = Stored 2; state = record { end = 2; floor = 0; undecided = 0 }; sheet = packedEntry 1 opening ++ packedEntry 2 (outcome 1 true); fates = 2 ∷ 0 ∷ []; rows = 1 ∷ replicate 39 0 }
+decided = record { answer = Stored 2; state = record { end = 2; floor = 0; undecided = 0 }; sheet = packedEntry 1 opening ++ packedEntry 2 (outcome 1 true); fates = 2 ∷ 0 ∷ []; rows = 1 ∷ replicate (rowLength * 8 - 1) 0 }
 
 -- the page that a begin leaves when it is cut after n bytes
 abbrev cutPage : ℕ → ℕ

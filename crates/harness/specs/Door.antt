@@ -1,12 +1,12 @@
 -- A call as numbers, for the tests and timings outside Rattle, and all that it leaves of what is lent.
-use Prim.Native.Nat.{ℕ}
+use Prim.Native.Nat.{ℕ, _+_}
 use mathlib.Core.Bool.{cond}
 use mathlib.Core.List.{List, [], _∷_, _++_}
 use lib.ListN.{length}
 use lib.Dec.{eqb, leb}
 use Rattle.recovery.specs.declared.Answer.{Answer}
 use Rattle.recovery.specs.declared.State.{State}
-use Rattle.recovery.specs.Lent.{Left, refused}
+use Rattle.recovery.specs.Lent.{rowLength, Left, refused}
 use Rattle.recovery.specs.Numbers.{numbersOf}
 use Rattle.calls.specs.declared.making.Call.{Call}
 use Rattle.calls.specs.declared.making.Call.the-variants.{Begin, Write, Read, Test, Commit, Abort}
@@ -42,13 +42,13 @@ abbrev pub left : List ℕ → List ℕ → List ℕ → List ℕ → Given
 left s fates rows out = record { sheet = s; fates = fates; rows = rows; numbers = out }
 
 abbrev pub numberCount : ℕ
-numberCount = 8
+numberCount = rowLength + 3
 
--- the answer's five numbers, then end, floor and open count
-abbrev pub eightNumbers : Answer → State → List ℕ
-eightNumbers a state = numbersOf a ++ (state .end ∷ state .floor ∷ state .undecided ∷ [])
+-- the answer's numbers, as many as a row has, then end, floor and open count
+abbrev pub toldNumbers : Answer → State → List ℕ
+toldNumbers a state = numbersOf a ++ (state .end ∷ state .floor ∷ state .undecided ∷ [])
 
--- into a run of eight numbers; with another nothing is done
+-- into a run of so many numbers; with another nothing is done
 unfoldable pub given : List ℕ → List ℕ → List ℕ → List ℕ → Left → Given
 given s fates rows out x =
-    cond (eqb (length out) numberCount) (left (x .sheet) (x .fates) (x .rows) (eightNumbers (x .answer) (x .state))) (left s fates rows out)
+    cond (eqb (length out) numberCount) (left (x .sheet) (x .fates) (x .rows) (toldNumbers (x .answer) (x .state))) (left s fates rows out)

@@ -1,23 +1,30 @@
 // The door of the tests and timings outside Rattle: a call, an opening or a rebuild as numbers, and the highest start. What a call, an
-// opening or a rebuild answers is given as eight numbers, the answer's five and the state's three, in a lent run; with a run of another
+// opening or a rebuild answers is given as nine numbers, the answer's six and the state's three, in a lent run; with a run of another
 // length nothing is done.
 use calls::Call;
 use calls::make;
 use recovery::Done;
+use recovery::ROW_LENGTH;
 use recovery::State;
 use recovery::numbers_of;
 use recovery::refuse;
 ghost use mathlib.Core.Path.{_≡_};
 ghost use lib.ListN.{length};
 ghost use Rattle.recovery.specs.Lent.{highestStartOf, leftBy, openLeaves, rebuildLeaves};
-ghost use Rattle.harness.specs.Door.{numberCount, eightNumbers, callOf, made, stateWith, left, given};
+ghost use Rattle.harness.specs.Door.{numberCount, toldNumbers, callOf, made, stateWith, left, given};
 
-// How many numbers are given.
-const NUMBERS: usize = 8;
+// Where the state's numbers lie, after the answer's, and how many are given.
+const END: usize = ROW_LENGTH;
+
+const FLOOR: usize = END + 1;
+
+const UNDECIDED: usize = FLOOR + 1;
+
+const NUMBERS: usize = UNDECIDED + 1;
 
 fn tell(out: &mut [u64], done: Done)
     requires { ⌜ length (now out) ≡ numberCount ⌝ }
-    ensures { λ _. ⌜ now (out .exit) ≡ eightNumbers (done .answer) (done .state) ⌝ }
+    ensures { λ _. ⌜ now (out .exit) ≡ toldNumbers (done .answer) (done .state) ⌝ }
 {
     let answer = done.answer;
     let state = done.state;
@@ -27,9 +34,10 @@ fn tell(out: &mut [u64], done: Done)
     out[2] = numbers[2];
     out[3] = numbers[3];
     out[4] = numbers[4];
-    out[5] = state.end;
-    out[6] = state.floor;
-    out[7] = state.undecided;
+    out[5] = numbers[5];
+    out[END] = state.end;
+    out[FLOOR] = state.floor;
+    out[UNDECIDED] = state.undecided;
 }
 
 // A call by its number.

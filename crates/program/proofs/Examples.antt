@@ -1,6 +1,6 @@
 -- Document 01's listing as a conversation: it keeps one file count, so it is a run. And short ones, computed: the text that one shows was
 -- typed; a commit that is asked again while a cut waits; what a bare `open` protects from, and what not.
-use Prim.Native.Nat.{ℕ, _<_}
+use Prim.Native.Nat.{ℕ, _*_, _<_}
 use mathlib.Core.Path.{_≡_, refl}
 use mathlib.Core.List.{List, [], _∷_, _++_}
 use mathlib.Core.Logic.{_⊎_}
@@ -20,7 +20,8 @@ use Rattle.recovery.specs.Places.{tabulate}
 use Rattle.recovery.specs.Log.{Entry, image, fateOf, outcomeOf, imagesOf, notBy, effective, versionsOf, tokenOf, highestStart}
 use Rattle.recovery.specs.Sheet.{decoded, sealed, pages}
 use Rattle.recovery.specs.World.{down, warmRow, rowHolds, lentRight, endOf, highestBad, undecidedOf, coldRows, opened}
-use Rattle.recovery.specs.Lent.{rowsOf, flat, sizesRight, openLeaves}
+use Rattle.page.specs.Layout.{mostFiles}
+use Rattle.recovery.specs.Lent.{rowLength, rowsOf, flat, sizesRight, openLeaves}
 use Rattle.recovery.specs.Numbers.{isRefused}
 use Rattle.calls.specs.Walk.{follow}
 use Rattle.calls.specs.Calls.{eachRow, call}
@@ -48,9 +49,13 @@ commits action = commitName ++ spaced action
 abbrev cutAfter : ℕ → List ℕ
 cutAfter n = cutName ++ spaced n
 
+-- the rows before the first opening
+abbrev rows : List ℕ
+rows = replicate (rowLength * mostFiles) 0
+
 -- the program on a sheet of eight pages, which is sooner computed, with these lines behind it; and its replies to lines
 abbrev after : List (List ℕ) → Memory
-after lines = memoryAfter 8 8 (replicate 8 0) (replicate 1280 0) lines
+after lines = memoryAfter 8 8 (replicate 8 0) rows lines
 
 abbrev replies : Memory → List (List ℕ) → List Reply
 replies m [] = []
@@ -82,8 +87,8 @@ listing-keeps : AllKeep 8 listing
 unfolding words numberOf three isText alone withOne withTwo withThree withText commandOf parsed decimal spaced openName beginName writeName readName testName commitName abortName cutName
 listing-keeps = (refl, (tt, (tt, (tt, (tt, (tt, (tt, (tt, (tt, (tt, (tt, (refl, (tt, (tt, (tt, (tt, tt))))))))))))))))
 
-pub listing-runs : Run 256 8 (runOf 256 8 (replicate 256 0) (replicate 1280 0) listing)
-listing-runs = program 256 8 refl (replicate 256 0) (replicate 1280 0) refl .is-run listing listing-keeps
+pub listing-runs : Run 256 8 (runOf 256 8 (replicate 256 0) rows listing)
+listing-runs = program 256 8 refl (replicate 256 0) rows refl .is-run listing listing-keeps
 
 -- ---- a value written and read within its action: the text that is shown was typed
 
@@ -103,7 +108,7 @@ unfolding words numberOf three isText alone withOne withTwo withThree withText c
 asks-read = refl
 
 pub short-typed : WasTyped short 3 10 (textOf (turned (after short) (reads 3 10 1)))
-short-typed = reads-typed 8 8 refl (replicate 8 0) (replicate 1280 0) refl short (reads 3 10 1) 3 10 1 11 2 10 2 short-keeps asks-read shown-short
+short-typed = reads-typed 8 8 refl (replicate 8 0) rows refl short (reads 3 10 1) 3 10 1 11 2 10 2 short-keeps asks-read shown-short
 
 -- ---- a commit that is asked again while a cut waits is answered, and the cut waits on
 
@@ -153,13 +158,13 @@ unnumbered = (tt, (tt, (tt, tt)))
 abbrev pub imageOf : ℕ → ℕ → ℕ → Entry
 imageOf file start byte = image (record { file = file; action = 1; link = 0; start = start; value = byte ∷ [] })
 
-on-page-2 : pageAfter 8 (replicate 8 0) (replicate 1280 0) begun 2 ≡ imageOf 1 50 65
+on-page-2 : pageAfter 8 (replicate 8 0) rows begun 2 ≡ imageOf 1 50 65
 unfolding words numberOf three isText alone withOne withTwo withThree withText commandOf parsed decimal spaced openName beginName writeName readName testName commitName abortName cutName callReply openReply startedFor openedFor calledFor acted head front packed fieldsOf lowest highest within between meetsRules isPageOf torn inBounds tested tabulate fateOf outcomeOf imagesOf notBy effective versionsOf tokenOf highestStart decoded sealed pages down warmRow rowHolds lentRight endOf highestBad undecidedOf coldRows opened rowsOf flat sizesRight openLeaves follow eachRow call packedEntry withPage callLeaves mixed isRefused begun
 on-page-2 = refl
 
-on-page-3 : pageAfter 8 (replicate 8 0) (replicate 1280 0) (begun ++ openName ∷ cutWrite) 3 ≡ imageOf 2 52 66
+on-page-3 : pageAfter 8 (replicate 8 0) rows (begun ++ openName ∷ cutWrite) 3 ≡ imageOf 2 52 66
 unfolding words numberOf three isText alone withOne withTwo withThree withText commandOf parsed decimal spaced openName beginName writeName readName testName commitName abortName cutName callReply openReply startedFor openedFor calledFor acted head front packed fieldsOf lowest highest within between meetsRules isPageOf torn inBounds tested tabulate fateOf outcomeOf imagesOf notBy effective versionsOf tokenOf highestStart decoded sealed pages down warmRow rowHolds lentRight endOf highestBad undecidedOf coldRows opened rowsOf flat sizesRight openLeaves follow eachRow call packedEntry withPage callLeaves mixed isRefused begun cutWrite
 on-page-3 = refl
 
-pub nothing-backdated-met : (pageAfter 8 (replicate 8 0) (replicate 1280 0) begun 3 ≡ imageOf 2 52 66) ⊎ (50 < 52)
-nothing-backdated-met = nothing-backdated 8 refl (replicate 8 0) (replicate 1280 0) refl begun openName cutWrite 2 3 _ _ begun-keeps is-bare unnumbered on-page-2 on-page-3
+pub nothing-backdated-met : (pageAfter 8 (replicate 8 0) rows begun 3 ≡ imageOf 2 52 66) ⊎ (50 < 52)
+nothing-backdated-met = nothing-backdated 8 refl (replicate 8 0) rows refl begun openName cutWrite 2 3 _ _ begun-keeps is-bare unnumbered on-page-2 on-page-3

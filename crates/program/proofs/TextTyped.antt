@@ -115,7 +115,7 @@ shown-value : (file time action place start size : ℕ) (x : Answer) → callRep
 unfolding callReply
 shown-value f t a place start size (answers.Answer.Refused n p) h = clash cc
 shown-value f t a place start size (answers.Answer.Opened n p) h = clash cc
-shown-value f t a place start size (answers.Answer.Rebuilt n m o p) h = clash cc
+shown-value f t a place start size (answers.Answer.Rebuilt n m o p q) h = clash cc
 shown-value f t a place start size (answers.Answer.Stored p) h = clash cc
 shown-value f t a place start size (answers.Answer.Value p s n) h =
     let i : p ≡ place = cc in

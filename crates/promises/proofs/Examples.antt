@@ -1,8 +1,9 @@
 -- Runs that meet the premises of each promise, with what they hear: document 01's listing, a change of two locks that is cut with any
--- of its bytes stored, a commit whose reply is lost, a time that is mended inside its action, one life of a box with each promise asked
+-- of its bytes stored, a commit whose reply is lost, a time that is mended inside its action, rows that name the
+-- actions of their tokens, one life of a box with each promise asked
 -- of it, rows rebuilt in two orders, the reserve kept and used up, a floor that is too low, and a lawful sheet that no run of this
 -- store makes. Each premise is proved, so no promise is empty.
-use Prim.Native.Nat.{ℕ, suc, _≤_, _<_}
+use Prim.Native.Nat.{ℕ, suc, _*_, _≤_, _<_}
 use mathlib.Core.Path.{_≡_, refl, sym, _∙_, subst}
 use mathlib.Core.List.{List, [], _∷_, _++_}
 use mathlib.Core.Bool.{Bool, true, false, cond, true≢false}
@@ -19,8 +20,8 @@ use Rattle.recovery.specs.Places.{tabulate}
 use Rattle.recovery.specs.Sheet.{pageBytes, sealed, decoded, pages}
 use Rattle.recovery.specs.World.{down, endOf, undecidedOf}
 use Rattle.recovery.specs.declared.Answer.{Answer}
-use Rattle.recovery.specs.declared.Answer.the-variants.{Refused, Opened, Stored, Value, Nothing, Told}
-use Rattle.recovery.specs.Lent.{openLeaves}
+use Rattle.recovery.specs.declared.Answer.the-variants.{Refused, Opened, Rebuilt, Stored, Value, Nothing, Told}
+use Rattle.recovery.specs.Lent.{rowLength, openLeaves}
 use Rattle.recovery.specs.Numbers.{isRefused}
 use Rattle.inspection.specs.Lawful.{lowestUnlawful}
 use Rattle.inspection.specs.declared.Inspected.the-variants.{Lowest}
@@ -237,6 +238,52 @@ mending-heard kept kept′ o o′ = promised 8 2 .as-model (mending kept kept′
     go true true true false e f e′ f′ = after 64 20 e f e′ f′ ∙ refl
     go true true true true e f e′ f′ = after 64 64 e f e′ f′ ∙ refl
 
+-- ---- two actions with a token each: a row names its token's action, through an opening and when it is written again, and a decision
+-- takes the token and its action out of its own row alone
+
+abbrev named : List Step
+named =
+    opened 0
+    ∷ does begin
+    ∷ does begin
+    ∷ does (write 1 10 1 (7 ∷ []))
+    ∷ does (write 2 20 2 (8 ∷ []))
+    ∷ does (rebuild 1)
+    ∷ does (rebuild 2)
+    ∷ does (write 1 12 1 (9 ∷ []))
+    ∷ does (rebuild 1)
+    ∷ opened 0
+    ∷ does (rebuild 1)
+    ∷ does (rebuild 2)
+    ∷ does (decide 1 true)
+    ∷ does (rebuild 1)
+    ∷ does (rebuild 2)
+    ∷ does (decide 2 false)
+    ∷ does (rebuild 2)
+    ∷ []
+
+pub named-heard : heard (blankBox 12) (events 12 2 named) ≡ inNumbers (
+    some (Opened 0 0)
+    ∷ some (Stored 1)
+    ∷ some (Stored 2)
+    ∷ some (Stored 3)
+    ∷ some (Stored 4)
+    ∷ some (Rebuilt 0 0 3 10 1)
+    ∷ some (Rebuilt 0 0 4 20 2)
+    ∷ some (Stored 5)
+    ∷ some (Rebuilt 0 0 5 12 1)
+    ∷ some (Opened 5 2)
+    ∷ some (Rebuilt 0 0 5 12 1)
+    ∷ some (Rebuilt 0 0 4 20 2)
+    ∷ some (Stored 6)
+    ∷ some (Rebuilt 5 12 0 0 0)
+    ∷ some (Rebuilt 0 0 4 20 2)
+    ∷ some (Stored 7)
+    ∷ some (Rebuilt 0 0 0 0 0)
+    ∷ [])
+unfolding modelHeard latest
+named-heard = promised 12 2 .as-model (events 12 2 named) (is-run 12 2 named refl) ∙ refl
+
 -- ---- one life of a box of twelve pages and two files: a version of file 1 from 5 on, read at 6; a newer one from 9 on; a token of
 -- file 2, whose commit is cut after 20 bytes; the box is opened again with a floor of 6
 
@@ -282,7 +329,7 @@ abbrev fates : List ℕ
 fates = replicate 12 0
 
 abbrev rows : List ℕ
-rows = replicate 10 0
+rows = replicate (rowLength * 2) 0
 
 -- what is heard on the way
 abbrev Told-of : List Step → Step → Answer → Type 0
@@ -509,8 +556,8 @@ abbrev asked : List Event
 asked = calls (read 1 6 0) ∷ calls (read 2 6 0) ∷ []
 
 pub unseen-met : othersHeard (blankBox 12) (at (first ++ opened 0 ∷ does (rebuild 2) ∷ []) ++ asked)
-    ≡ othersHeard (blankBox 12) (at first ++ opens 0 (replicate 12 3) (replicate 10 7) ∷ calls (rebuild 1) ∷ calls (rebuild 2) ∷ asked)
-unseen-met = promised 12 2 .unseen (at (first ++ opened 0 ∷ does (rebuild 2) ∷ []) ++ asked) (at first ++ opens 0 (replicate 12 3) (replicate 10 7) ∷ calls (rebuild 1) ∷ calls (rebuild 2) ∷ asked)
+    ≡ othersHeard (blankBox 12) (at first ++ opens 0 (replicate 12 3) (replicate (rowLength * 2) 7) ∷ calls (rebuild 1) ∷ calls (rebuild 2) ∷ asked)
+unseen-met = promised 12 2 .unseen (at (first ++ opened 0 ∷ does (rebuild 2) ∷ []) ++ asked) (at first ++ opens 0 (replicate 12 3) (replicate (rowLength * 2) 7) ∷ calls (rebuild 1) ∷ calls (rebuild 2) ∷ asked)
     (is-run 12 2 (first ++ opened 0 ∷ does (rebuild 2) ∷ does (read 1 6 0) ∷ does (read 2 6 0) ∷ []) refl)
     (record { sized = refl; allowed = (λ e. refl, (tt, (omega arith, (tt, (λ e. refl, (tt, (tt, (tt, (tt, tt))))))))) })
     refl

@@ -1,12 +1,12 @@
 -- Sealed images of a file, as the code finds them, and line 7. Assumes nothing.
-use Prim.Native.Nat.{ℕ, _*_, _/_, _<_, _≤_}
+use Prim.Native.Nat.{ℕ, zero, suc, _*_, _/_, _<_, _≤_}
 use mathlib.Core.Path.{_≡_, refl, sym, ap, ap₂, _∙_}
 use mathlib.Core.Bool.{Bool, true, false, cond, _&&_, _||_}
 use mathlib.Core.List.{List}
 use native.Mathlib.Omega.{arith}
 use lib.ListN.{length}
 use lib.Dec.{eqb, leb}
-use borrow.Author.Tests.{eq-eqb, ne-eqb, le-leb, lt-leb, eqb-false, leb-true, leb-false}
+use borrow.Author.Tests.{eq-eqb, ne-eqb, le-leb, lt-leb, eqb-true, eqb-false, leb-true, leb-false}
 use Rattle.encoding.proofs.Logic.{by-test}
 use Rattle.page.specs.declared.Page.{Page}
 use Rattle.page.specs.declared.Unpacked.{Unpacked}
@@ -18,10 +18,10 @@ use Rattle.page.specs.Answers.{tested, onImage, imageOfFile}
 use Rattle.recovery.specs.Places.{nth}
 use Rattle.recovery.specs.Log.{Entry, blank, bad, image}
 use Rattle.recovery.specs.Sheet.{pageBytes, entryOf, imageFrom, isOpening, seal, decoded, sealed}
-use Rattle.recovery.specs.World.{isImageOf, placeHolds, rowHolds}
+use Rattle.recovery.specs.World.{isImageOf, placeHolds, imageAction, tokenHolds, rowHolds}
 use Rattle.recovery.specs.Lent.{pagesOf}
 use Rattle.recovery.specs.declared.Row.{Row}
-use Rattle.recovery.specs.Steps.{sealedImage, sheetWorld, rowHoldsIn, isFound, placeHoldsBy, rowHoldsBy}
+use Rattle.recovery.specs.Steps.{sealedImage, sheetWorld, rowHoldsIn, isFound, placeHoldsBy, actionFound, tokenHoldsBy, rowHoldsBy}
 use Rattle.recovery.proofs.Pages.{test-out, page-at-place, pages-long}
 use Rattle.recovery.proofs.Lookups.{nth-past}
 use Rattle.recovery.proofs.WalkDown.{apart, found-same}
@@ -82,36 +82,50 @@ module _ (files : ℕ) (s : List ℕ) (file place : ℕ) where
 
 -- ---- line 7
 
+-- whether a page is an image of the file, and then its action: off the entry, and by what was found
+abbrev pub ofEntry : ℕ → Entry → Bool × ℕ
+ofEntry file g = (isImageOf file g, cond (isImageOf file g) (imageAction g) 0)
+
+abbrev pub ofSought : Sought → Bool × ℕ
+ofSought u = (isFound u, actionFound u)
+
 entry-found : (file : ℕ) (ρ : ℕ → Entry) (b : List ℕ) (u : Unpacked)
-    → isImageOf file (seal ρ (entryOf b u)) ≡ isFound (with-opening file (λ (a : ℕ). isOpening (ρ a)) u)
+    → ofEntry file (seal ρ (entryOf b u)) ≡ ofSought (with-opening file (λ (a : ℕ). isOpening (ρ a)) u)
 entry-found file ρ b Refused = refl
 entry-found file ρ b Blank = refl
 entry-found file ρ b Torn = refl
 entry-found file ρ b (Opening y) = refl
-entry-found file ρ b (Outcome y) = by-test (λ (g : Entry). isImageOf file g ≡ false) (isOpening (ρ (y .action))) (λ q. refl) (λ q. refl)
+entry-found file ρ b (Outcome y) = by-test (λ (g : Entry). ofEntry file g ≡ (false, 0)) (isOpening (ρ (y .action))) (λ q. refl) (λ q. refl)
 entry-found file ρ b Unfit = refl
 entry-found file ρ b (Image y) = go (isOpening (ρ (y .action))) (eqb (y .file) file) refl
   where
     go : (o c : Bool) → eqb (y .file) file ≡ c
-        → isImageOf file (cond o (image (imageFrom b y)) bad) ≡ isFound (cond (eqb (y .file) file && o) (sought.Sought.Image y) sought.Sought.Other)
+        → ofEntry file (cond o (image (imageFrom b y)) bad) ≡ ofSought (cond (eqb (y .file) file && o) (sought.Sought.Image y) sought.Sought.Other)
     go true true k = simp k
     go true false k = simp k
     go false true k = simp k
     go false false k = simp k
 
-held-here : (files : ℕ) (s : List ℕ) (file place : ℕ) → isImageOf file (sealed files s place) ≡ isFound (sealedImage files s file place)
+held-here : (files : ℕ) (s : List ℕ) (file place : ℕ) → ofEntry file (sealed files s place) ≡ ofSought (sealedImage files s file place)
 unfolding sealed decoded sealedImage
 held-here files s file place = entry-found file (decoded files s) (pageBytes s place) (tested (pageBytes s place) place files)
 
-pub held-in : (files : ℕ) (s : List ℕ) (file place : ℕ) → 1 ≤ place → isImageOf file (nth blank (pagesOf s files) place) ≡ isFound (sealedImage files s file place)
-held-in files s file place l = go (leb place (length s / pageSize)) refl
+pub lies-in : (files : ℕ) (s : List ℕ) (file place : ℕ) → ofEntry file (nth blank (pagesOf s files) place) ≡ ofSought (sealedImage files s file place)
+lies-in files s file zero = ap ofSought (image-none files s file 0 (seek-out s 0 files file (λ p q. omega arith)))
+lies-in files s file (suc q) = go (leb place (length s / pageSize)) refl
   where
-    go : (c : Bool) → leb place (length s / pageSize) ≡ c → isImageOf file (nth blank (pagesOf s files) place) ≡ isFound (sealedImage files s file place)
-    go true e = rw (page-at-place files (length s / pageSize) s place l (leb-true place (length s / pageSize) e)) (held-here files s file place)
+    place : ℕ
+    place = suc q
+
+    go : (c : Bool) → leb place (length s / pageSize) ≡ c → ofEntry file (nth blank (pagesOf s files) place) ≡ ofSought (sealedImage files s file place)
+    go true e = rw (page-at-place files (length s / pageSize) s place (omega arith) (leb-true place (length s / pageSize) e)) (held-here files s file place)
     go false e =
         let h : length s / pageSize < place = leb-false place (length s / pageSize) e in
         let b : blank ≡ nth blank (pagesOf s files) place = nth-past blank (pagesOf s files) place (omega (arith, pages-long files (length s / pageSize) s)) in
-        rw (← b) (ap isFound (image-none files s file place (seek-out s place files file (λ p q. omega arith))))
+        rw (← b) (ap ofSought (image-none files s file place (seek-out s place files file (λ p q. omega arith))))
+
+pub held-in : (files : ℕ) (s : List ℕ) (file place : ℕ) → isImageOf file (nth blank (pagesOf s files) place) ≡ isFound (sealedImage files s file place)
+held-in files s file place = ap (λ (x : Bool × ℕ). x .0) (lies-in files s file place)
 
 module _ (e p : ℕ) where
   pub place-zero : p ≡ 0 → (u : Sought) → true ≡ placeHoldsBy e p u
@@ -134,12 +148,30 @@ module _ (e p : ℕ) where
 module _ (files : ℕ) (s : List ℕ) (e f : ℕ) where
   place-held : (p : ℕ) (u : Sought) → u ≡ sealedImage files s f p → placeHoldsBy e p u ≡ placeHolds (sheetWorld s files e) f p
   unfolding placeHoldsBy
-  place-held p u h = go (eqb p 0) refl
+  place-held p u h = ap (λ (x : Bool). eqb p 0 || (leb p e && x)) (ap isFound h ∙ sym (held-in files s f p))
+
+  -- a token that is there has the action that was found
+  token-held : (r : Row) (u : Sought) → u ≡ sealedImage files s f (r .token) → tokenHoldsBy e r u ≡ tokenHolds (sheetWorld s files e) f r
+  unfolding tokenHoldsBy placeHoldsBy
+  token-held r u h = go (eqb (r .token) 0) refl
     where
-      go : (b : Bool) → eqb p 0 ≡ b → (b || (leb p e && isFound u)) ≡ (b || (leb p e && isImageOf f (nth blank (pagesOf s files) p)))
-      go true k = refl
-      go false k = ap (λ (x : Bool). leb p e && x) (ap isFound h ∙ sym (held-in files s f p (omega (arith, eqb-false p 0 k))))
+      there : Entry
+      there = nth blank (pagesOf s files) (r .token)
+
+      guarded : (b c : Bool) (m : ℕ) → (b && c && eqb (r .tokenaction) (cond c m 0)) ≡ (b && c && eqb (r .tokenaction) m)
+      guarded true true m = refl
+      guarded true false m = refl
+      guarded false c m = refl
+
+      go : (b : Bool) → eqb (r .token) 0 ≡ b
+          → ((b || (leb (r .token) e && isFound u)) && eqb (r .tokenaction) (actionFound u)) ≡ ((b || (leb (r .token) e && isImageOf f there)) && eqb (r .tokenaction) (imageAction there))
+      go true k =
+          let z : r .token ≡ 0 = eqb-true (r .token) 0 k in
+          rw (h, z) (ap (λ (x : Bool × ℕ). eqb (r .tokenaction) (x .1)) (sym (lies-in files s f 0)))
+      go false k =
+          let l : ofEntry f there ≡ ofSought u = lies-in files s f (r .token) ∙ ap ofSought (sym h) in
+          ap (λ (x : Bool × ℕ). leb (r .token) e && x .0 && eqb (r .tokenaction) (x .1)) (sym l) ∙ guarded (leb (r .token) e) (isImageOf f there) (imageAction there)
 
   pub row-held : (r : Row) (u v : Sought) → u ≡ sealedImage files s f (r .current) → v ≡ sealedImage files s f (r .token) → rowHoldsBy e r u v ≡ rowHoldsIn s files e f r
   unfolding rowHoldsBy rowHoldsIn rowHolds
-  row-held r u v hu hv = ap₂ _&&_ (ap (λ (b : Bool). leb (r .mark) 1 && b) (place-held (r .current) u hu)) (place-held (r .token) v hv)
+  row-held r u v hu hv = ap₂ _&&_ (ap (λ (b : Bool). leb (r .mark) 1 && b) (place-held (r .current) u hu)) (token-held r v hv)

@@ -28,7 +28,7 @@ use Rattle.recovery.proofs.Lookups.{is-file, row-some, set-some, set-no
 put-here : (xs : List ℕ) (j : ℕ) → putRow xs j (rowFrom xs j) ≡ xs
 put-here xs j =
     sym (put-stores xs j (rowFrom xs j))
-    ∙ rw (set-getD xs (rowLength * j) 0, set-getD xs (rowLength * j + 1) 0, set-getD xs (rowLength * j + 2) 0, set-getD xs (rowLength * j + 3) 0, set-getD xs (rowLength * j + 4) 0)
+    ∙ rw (set-getD xs (rowLength * j) 0, set-getD xs (rowLength * j + 1) 0, set-getD xs (rowLength * j + 2) 0, set-getD xs (rowLength * j + 3) 0, set-getD xs (rowLength * j + 4) 0, set-getD xs (rowLength * j + 5) 0)
 
 same-row : (rows : List ℕ) (f : ℕ) → rows ≡ withRowOf rows f (rowOf rows f)
 same-row rows f = go (isFile (length rows / rowLength) f) refl
@@ -115,8 +115,8 @@ module _ (s fs rs : List ℕ) (st : State) where
           sym (sym leaves-row ∙ simp n (ap (λ (xs : List ℕ). refused 7 0 s fs xs st) (sym rows-are)))
 
       pub rebuild-done : rowHoldsIn s (length rs / rowLength) (st .end) f r ≡ true
-          → record { answer = Rebuilt (r .current) (r .currentend) (r .token) (r .tokenend); state = st; sheet = s; fates = fs; rows = ys } ≡ rebuildLeaves s fs rs st f
+          → record { answer = Rebuilt (r .current) (r .currentend) (r .token) (r .tokenend) (r .tokenaction); state = st; sheet = s; fates = fs; rows = ys } ≡ rebuildLeaves s fs rs st f
       rebuild-done e =
           let n : rowHolds (withRow (lent s fs rs st) f r) f r ≡ true = holds-same ∙ e in
-          let A : Answer = Rebuilt (r .current) (r .currentend) (r .token) (r .tokenend) in
+          let A : Answer = Rebuilt (r .current) (r .currentend) (r .token) (r .tokenend) (r .tokenaction) in
           sym (sym leaves-row ∙ simp n (ap (λ (xs : List ℕ). record { answer = A; state = st; sheet = s; fates = fs; rows = xs }) (sym rows-are)))

@@ -22,7 +22,7 @@ answer-from : List ℕ → Answer
 answer-from v =
     cond (eqb (getD v 0 0) 0) (Refused (getD v 1 0) (getD v 2 0))
     (cond (eqb (getD v 0 0) 1) (Opened (getD v 1 0) (getD v 2 0))
-    (cond (eqb (getD v 0 0) 2) (Rebuilt (getD v 1 0) (getD v 2 0) (getD v 3 0) (getD v 4 0))
+    (cond (eqb (getD v 0 0) 2) (Rebuilt (getD v 1 0) (getD v 2 0) (getD v 3 0) (getD v 4 0) (getD v 5 0))
     (cond (eqb (getD v 0 0) 3) (Stored (getD v 1 0))
     (cond (eqb (getD v 0 0) 4) (Value (getD v 1 0) (getD v 2 0) (getD v 3 0))
     (cond (eqb (getD v 0 0) 5) Nothing (Told (getD v 1 0) (getD v 2 0)))))))
@@ -31,7 +31,7 @@ answer-again : (a : Answer) → answer-from (numbersOf a) ≡ a
 unfolding answer-from
 answer-again (Refused n p) = refl
 answer-again (Opened e u) = refl
-answer-again (Rebuilt a b c d) = refl
+answer-again (Rebuilt a b c d e) = refl
 answer-again (Stored p) = refl
 answer-again (Value p s l) = refl
 answer-again Nothing = refl

@@ -4,13 +4,13 @@ use mathlib.Core.Path.{_≡_, refl, sym, ap, _∙_}
 use mathlib.Core.Bool.{cond}
 use mathlib.Core.List.{List, [], _∷_, _++_, append-nil}
 use native.Mathlib.Omega.{arith}
-use native.Mathlib.Numerals.{add-one}
+use native.Mathlib.Numerals.{add-one, unary-clauses}
 use lib.Dec.{eqb}
 use borrow.Author.Tests.{eq-eqb, ne-eqb}
 use lib.ListN.{length, getD, take, drop, replicate, length-replicate}
 use lib.Seq.{drop-cons, drop-length}
-use Rattle.recovery.specs.World.{undecidedOf, coldRows}
-use Rattle.recovery.specs.Lent.{flat}
+use Rattle.recovery.specs.World.{undecidedOf, cold, coldRows}
+use Rattle.recovery.specs.Lent.{rowLength, numbers, flat}
 
 -- ---- counting
 
@@ -41,12 +41,12 @@ cleared d i a b =
     let e : i ≡ length d = omega arith in
     rw (e, drop-length) (append-nil _)
 
-pub cold-flat : (n : ℕ) → replicate (5 * n) 0 ≡ flat (coldRows n)
+pub cold-flat : (n : ℕ) → replicate (rowLength * n) 0 ≡ flat (coldRows n)
 unfolding flat coldRows
 cold-flat zero = refl
 cold-flat (suc n) =
-    let e : 5 * suc n ≡ suc (suc (suc (suc (suc (5 * n))))) = omega arith in
-    rw e (ap (λ l. 0 ∷ 0 ∷ 0 ∷ 0 ∷ 0 ∷ l) (cold-flat n))
+    let e : rowLength * suc n ≡ rowLength * n + rowLength = omega arith in
+    rw e (simp unary-clauses (ap (λ l. numbers cold ++ l) (cold-flat n)))
 
 -- the first n of a run of zeros, as the code lends them
 first-zeros : (n m : ℕ) → n ≤ m → take {A = ℕ} n (replicate m 0) ≡ replicate n 0

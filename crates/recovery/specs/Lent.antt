@@ -19,7 +19,7 @@ use Rattle.recovery.specs.World.{World, Result, sizes, rebuilt, opened}
 
 -- how many numbers of the lent run a row has
 abbrev pub rowLength : ℕ
-rowLength = 5
+rowLength = 6
 
 -- ---- rows as one run of numbers
 
@@ -30,6 +30,7 @@ rowFrom xs j = record {
   currentend = getD xs (rowLength * j + 2) 0;
   token = getD xs (rowLength * j + 3) 0;
   tokenend = getD xs (rowLength * j + 4) 0;
+  tokenaction = getD xs (rowLength * j + 5) 0;
 }
 
 unfoldable pub rowsOf : List ℕ → List Row
@@ -37,7 +38,7 @@ rowsOf xs = tabulate (λ f. rowFrom xs (pred f)) 0 (length xs / rowLength)
 
 -- a row's numbers, the rows laid out one after the other, and the run with the row at an index replaced
 abbrev pub numbers : Row → List ℕ
-numbers r = r .mark ∷ r .current ∷ r .currentend ∷ r .token ∷ r .tokenend ∷ []
+numbers r = r .mark ∷ r .current ∷ r .currentend ∷ r .token ∷ r .tokenend ∷ r .tokenaction ∷ []
 
 unfoldable pub flat : List Row → List ℕ
 flat [] = []

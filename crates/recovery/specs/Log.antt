@@ -131,6 +131,10 @@ abbrev pub startOf : Option Placed → ℕ
 startOf (some x) = x .image .start
 startOf none = 0
 
+abbrev pub actionOf : Option Placed → ℕ
+actionOf (some x) = x .image .action
+actionOf none = 0
+
 -- ---- the highest start of any image, 0 if there is none, whatever became of its action; the order of the pages does not count
 
 abbrev pub startStep : Entry → ℕ → ℕ

@@ -7,15 +7,15 @@ use lib.Dec.{eqb}
 use Rattle.recovery.specs.declared.Answer.{Answer}
 use Rattle.recovery.specs.declared.Answer.the-variants.{Refused, Opened, Rebuilt, Stored, Value, Nothing, Told}
 
--- five numbers: which of the seven it is, then its values and zeros; a refusal's values are its number and place
+-- as many numbers as a row has: which of the seven it is, then its values and zeros; a refusal's values are its number and place
 abbrev pub numbersOf : Answer → List ℕ
-numbersOf (Refused n p) = 0 ∷ n ∷ p ∷ 0 ∷ 0 ∷ []
-numbersOf (Opened e u) = 1 ∷ e ∷ u ∷ 0 ∷ 0 ∷ []
-numbersOf (Rebuilt a b c d) = 2 ∷ a ∷ b ∷ c ∷ d ∷ []
-numbersOf (Stored p) = 3 ∷ p ∷ 0 ∷ 0 ∷ 0 ∷ []
-numbersOf (Value p s l) = 4 ∷ p ∷ s ∷ l ∷ 0 ∷ []
-numbersOf Nothing = 5 ∷ 0 ∷ 0 ∷ 0 ∷ 0 ∷ []
-numbersOf (Told f p) = 6 ∷ f ∷ p ∷ 0 ∷ 0 ∷ []
+numbersOf (Refused n p) = 0 ∷ n ∷ p ∷ 0 ∷ 0 ∷ 0 ∷ []
+numbersOf (Opened e u) = 1 ∷ e ∷ u ∷ 0 ∷ 0 ∷ 0 ∷ []
+numbersOf (Rebuilt a b c d e) = 2 ∷ a ∷ b ∷ c ∷ d ∷ e ∷ []
+numbersOf (Stored p) = 3 ∷ p ∷ 0 ∷ 0 ∷ 0 ∷ 0 ∷ []
+numbersOf (Value p s l) = 4 ∷ p ∷ s ∷ l ∷ 0 ∷ 0 ∷ []
+numbersOf Nothing = 5 ∷ 0 ∷ 0 ∷ 0 ∷ 0 ∷ 0 ∷ []
+numbersOf (Told f p) = 6 ∷ f ∷ p ∷ 0 ∷ 0 ∷ 0 ∷ []
 
 -- the first of them tells a refusal
 unfoldable pub isRefused : Answer → Bool

@@ -9,4 +9,5 @@ raised r current token = record {
   currentend = max (r .currentend) current;
   token = r .token;
   tokenend = max (r .tokenend) token;
+  tokenaction = r .tokenaction;
 }

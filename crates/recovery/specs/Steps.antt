@@ -13,7 +13,7 @@ use Rattle.page.specs.Answers.{tested, onImage}
 use Rattle.recovery.specs.Places.{nth}
 use Rattle.recovery.specs.Log.{outcomeOf}
 use Rattle.recovery.specs.Sheet.{pageBytes, isOpening, decoded}
-use Rattle.recovery.specs.World.{World, down, rebuiltRow, fateIn, cold, isFile, rowHolds}
+use Rattle.recovery.specs.World.{World, down, rebuiltRow, fateIn, cold, isFile, rowHolds, namesAction}
 use Rattle.recovery.specs.Lent.{rowLength, rowsOf, putRow, pagesOf, sizesRight}
 use Rattle.recovery.specs.declared.Row.{Row}
 use Rattle.recovery.specs.declared.State.{State}
@@ -49,8 +49,19 @@ rowOf rows file = nth cold (rowsOf rows) file
 unfoldable pub withRowOf : List ℕ → ℕ → Row → List ℕ
 withRowOf rows file r = cond (isFile (length rows / rowLength) file) (putRow rows (pred file) r) rows
 
-abbrev pub rebuiltWith : ℕ → ℕ → ℕ → ℕ → Row
-rebuiltWith current currentend token tokenend = record { mark = 1; current = current; currentend = currentend; token = token; tokenend = tokenend }
+-- whether the row of a file is rebuilt and its token is an action's
+unfoldable pub namesActionIn : List ℕ → ℕ → ℕ → Bool
+namesActionIn rows file a = namesAction a (rowOf rows file)
+
+abbrev pub rebuiltWith : ℕ → ℕ → ℕ → ℕ → ℕ → Row
+rebuiltWith current currentend token tokenend tokenaction = record {
+  mark = 1;
+  current = current;
+  currentend = currentend;
+  token = token;
+  tokenend = tokenend;
+  tokenaction = tokenaction;
+}
 
 -- the row that the pages and the lent fates give
 unfoldable pub rowFromPages : List ℕ → List ℕ → ℕ → ℕ → ℕ → Row
@@ -75,8 +86,15 @@ isFound sought.Sought.Other = false
 unfoldable pub placeHoldsBy : ℕ → ℕ → Sought → Bool
 placeHoldsBy end place u = eqb place 0 || (leb place end && isFound u)
 
+abbrev pub actionFound : Sought → ℕ
+actionFound (sought.Sought.Image x) = x .action
+actionFound sought.Sought.Other = 0
+
+unfoldable pub tokenHoldsBy : ℕ → Row → Sought → Bool
+tokenHoldsBy end r u = placeHoldsBy end (r .token) u && eqb (r .tokenaction) (actionFound u)
+
 unfoldable pub rowHoldsBy : ℕ → Row → Sought → Sought → Bool
-rowHoldsBy end r u v = leb (r .mark) 1 && placeHoldsBy end (r .current) u && placeHoldsBy end (r .token) v
+rowHoldsBy end r u v = leb (r .mark) 1 && placeHoldsBy end (r .current) u && tokenHoldsBy end r v
 
 -- a file's row, rebuilt where it is cold, and the run that then holds it
 unfoldable pub warmRowOf : List ℕ → List ℕ → List ℕ → ℕ → ℕ → Row

@@ -6,7 +6,7 @@ use lib.ListN.{length, getD}
 use lib.Dec.{eqb, leb}
 use Rattle.page.specs.Layout.{mostPlaces, mostFiles}
 use Rattle.recovery.specs.Places.{nth, put, tabulate}
-use Rattle.recovery.specs.Log.{Entry, blank, torn, bad, opening, image, outcome, Fate, unknown, undecided, committed, aborted, fateOf, outcomeOf, effectiveOf, currentOf, tokenOf, placeOf, startOf}
+use Rattle.recovery.specs.Log.{Entry, blank, torn, bad, opening, image, outcome, Fate, unknown, undecided, committed, aborted, fateOf, outcomeOf, effectiveOf, currentOf, tokenOf, placeOf, startOf, actionOf}
 use Rattle.recovery.specs.declared.Row.{Row}
 use Rattle.recovery.specs.declared.Answer.{Answer}
 use Rattle.recovery.specs.declared.Answer.the-variants.{Refused, Opened, Rebuilt}
@@ -68,7 +68,7 @@ sizes pages fates files = leb 1 pages && leb pages mostPlaces && eqb fates pages
 -- ---- rows
 
 abbrev pub cold : Row
-cold = record { mark = 0; current = 0; currentend = 0; token = 0; tokenend = 0 }
+cold = record { mark = 0; current = 0; currentend = 0; token = 0; tokenend = 0; tokenaction = 0 }
 
 -- the row of a file, from a log and the fates
 abbrev pub rebuiltRow : List Entry → (ℕ → Fate) → ℕ → Row
@@ -78,6 +78,7 @@ rebuiltRow l φ f = record {
   currentend = startOf (currentOf φ (effectiveOf l f));
   token = placeOf (tokenOf φ (effectiveOf l f));
   tokenend = startOf (tokenOf φ (effectiveOf l f));
+  tokenaction = actionOf (tokenOf φ (effectiveOf l f));
 }
 
 abbrev pub rowAt : World → ℕ → Row
@@ -102,8 +103,24 @@ isImageOf f (outcome a c) = false
 abbrev pub placeHolds : World → ℕ → ℕ → Bool
 placeHolds w f place = eqb place 0 || (leb place (w .end) && isImageOf f (entryAt w place))
 
+-- and the token's action is that of its page, 0 where there is no token
+abbrev pub imageAction : Entry → ℕ
+imageAction blank = 0
+imageAction torn = 0
+imageAction bad = 0
+imageAction opening = 0
+imageAction (image i) = i .action
+imageAction (outcome a c) = 0
+
+abbrev pub tokenHolds : World → ℕ → Row → Bool
+tokenHolds w f r = placeHolds w f (r .token) && eqb (r .tokenaction) (imageAction (entryAt w (r .token)))
+
 unfoldable pub rowHolds : World → ℕ → Row → Bool
-rowHolds w f r = leb (r .mark) 1 && placeHolds w f (r .current) && placeHolds w f (r .token)
+rowHolds w f r = leb (r .mark) 1 && placeHolds w f (r .current) && tokenHolds w f r
+
+-- a rebuilt row that names an action as its token's
+abbrev pub namesAction : ℕ → Row → Bool
+namesAction a r = eqb (r .mark) 1 && eqb (r .tokenaction) a
 
 -- ---- rebuild: lines 1, 3, 7
 
@@ -115,9 +132,9 @@ lentRight w = sizes (length (w .sheet)) (length (w .fates)) (length (w .rows)) &
 abbrev pub isFile : ℕ → ℕ → Bool
 isFile files f = leb 1 f && leb f files
 
--- line 7, and the last four numbers of a row
+-- line 7, and the numbers of a row after its mark
 abbrev pub answerRow : World → ℕ → Row → Result
-answerRow w f r = cond (rowHolds w f r) (Rebuilt (r .current) (r .currentend) (r .token) (r .tokenend), w) (refuse 7 0 w)
+answerRow w f r = cond (rowHolds w f r) (Rebuilt (r .current) (r .currentend) (r .token) (r .tokenend) (r .tokenaction), w) (refuse 7 0 w)
 
 unfoldable pub rebuilt : World → ℕ → Result
 rebuilt w f =

@@ -27,6 +27,7 @@ pub use rolling::raised_row;
 pub use rows::file_count;
 pub use rows::has_file;
 pub use rows::is_file;
+pub use rows::names_action;
 pub use rows::row_of;
 pub use rows::set_row;
 pub use starts::highest_start;
@@ -35,13 +36,14 @@ ghost use Rattle.recovery.specs.Lent.{sizesRight};
 ghost use Rattle.recovery.specs.Steps.{lineOne, refusal};
 
 // A file's row (a cached index entry): its rebuilt mark, the place of the current version and how far it was read, the place of
-// the token and how far that one, or one that it overtook, was read. Place 0 is none.
+// the token, how far that one, or one that it overtook, was read, and its action. Place 0 is none, and so is action 0.
 pub struct Row {
     pub mark: u64,
     pub current: u64,
     pub currentend: u64,
     pub token: u64,
     pub tokenend: u64,
+    pub tokenaction: u64,
 }
 
 // The state that is kept by value: the end (the log's tail), the floor (a lower bound of starts) and the open count.
@@ -51,12 +53,12 @@ pub struct State {
     pub undecided: u64,
 }
 
-// What a call answers: a refusal's number and place; open's end and open count; the last four numbers of a row; the place of
+// What a call answers: a refusal's number and place; open's end and open count; the numbers of a row after its mark; the place of
 // the call's page; place, start and length of a value; none; a fate, and the place of the newest outcome.
 pub enum Answer {
     Refused(u64, u64),
     Opened(u64, u64),
-    Rebuilt(u64, u64, u64, u64),
+    Rebuilt(u64, u64, u64, u64, u64),
     Stored(u64),
     Value(u64, u64, u64),
     Nothing,
@@ -69,7 +71,7 @@ pub struct Done {
 }
 
 // How many numbers of the lent run a row has.
-pub const ROW_LENGTH: usize = 5;
+pub const ROW_LENGTH: usize = 6;
 
 // A sheet of at most so many pages is small: arrays for its pages are sooner cleared.
 pub const FEW_PAGES: usize = 1024;

@@ -1,21 +1,22 @@
 // An answer as numbers, as `specs/Numbers.antt` has them.
 use crate::Answer;
+use crate::ROW_LENGTH;
 ghost use mathlib.Core.Path.{_≡_};
 ghost use Rattle.recovery.specs.Numbers.{numbersOf};
 
-// Which of the seven it is, then its values and zeros.
-pub fn numbers_of(answer: Answer) -> [u64; 5]
+// Which of the seven it is, then its values and zeros: as many as a row has, since the longest answer is a row but for its mark.
+pub fn numbers_of(answer: Answer) -> [u64; ROW_LENGTH]
     ensures { λ r. ⌜ r ≡ numbersOf answer ⌝ }
 {
     match answer {
-        Answer::Refused(number, place) => [0, number, place, 0, 0],
-        Answer::Opened(end, undecided) => [1, end, undecided, 0, 0],
-        Answer::Rebuilt(current, currentend, token, tokenend) => {
-            [2, current, currentend, token, tokenend]
+        Answer::Refused(number, place) => [0, number, place, 0, 0, 0],
+        Answer::Opened(end, undecided) => [1, end, undecided, 0, 0, 0],
+        Answer::Rebuilt(current, currentend, token, tokenend, tokenaction) => {
+            [2, current, currentend, token, tokenend, tokenaction]
         }
-        Answer::Stored(place) => [3, place, 0, 0, 0],
-        Answer::Value(place, start, size) => [4, place, start, size, 0],
-        Answer::Nothing => [5, 0, 0, 0, 0],
-        Answer::Told(fate, place) => [6, fate, place, 0, 0],
+        Answer::Stored(place) => [3, place, 0, 0, 0, 0],
+        Answer::Value(place, start, size) => [4, place, start, size, 0, 0],
+        Answer::Nothing => [5, 0, 0, 0, 0, 0],
+        Answer::Told(fate, place) => [6, fate, place, 0, 0, 0],
     }
 }

@@ -17,11 +17,11 @@ use page::Sought;
 use page::Unpacked;
 ghost use mathlib.Core.Path.{_≡_};
 ghost use Rattle.recovery.specs.Lent.{leftBy, rebuildLeaves};
-ghost use Rattle.recovery.specs.Steps.{rebuiltWith, rowFromPages, placeHoldsBy, rowHoldsBy, rowHoldsIn, Warmed};
+ghost use Rattle.recovery.specs.Steps.{rebuiltWith, rowFromPages, placeHoldsBy, actionFound, tokenHoldsBy, rowHoldsBy, rowHoldsIn, Warmed};
 
-// A rebuilt row, of the places of a version and a token and where they start.
-fn rebuilt(current: u64, currentend: u64, token: u64, tokenend: u64) -> Row
-    ensures { λ r. ⌜ r ≡ rebuiltWith current currentend token tokenend ⌝ }
+// A rebuilt row, of the places of a version and a token, where they start and the token's action.
+fn rebuilt(current: u64, currentend: u64, token: u64, tokenend: u64, tokenaction: u64) -> Row
+    ensures { λ r. ⌜ r ≡ rebuiltWith current currentend token tokenend tokenaction ⌝ }
 {
     Row {
         mark: 1,
@@ -29,6 +29,7 @@ fn rebuilt(current: u64, currentend: u64, token: u64, tokenend: u64) -> Row
         currentend,
         token,
         tokenend,
+        tokenaction,
     }
 }
 
@@ -40,6 +41,7 @@ pub fn rebuilt_row(sheet: &[u8], fates: &[u8], end: u64, files: u64, file: u64) 
     let mut place = least(end, (sheet.len() / Page::SIZE) as u64) as usize;
     let mut token: u64 = 0;
     let mut tokenend: u64 = 0;
+    let mut tokenaction: u64 = 0;
     while 0 < place {
         let at = place as u64;
         place -= 1;
@@ -53,16 +55,17 @@ pub fn rebuilt_row(sheet: &[u8], fates: &[u8], end: u64, files: u64, file: u64) 
         };
         let fate = counted_fate(sheet, fates, image.action, files);
         if fate == 2 {
-            return rebuilt(at, image.start, token, tokenend);
+            return rebuilt(at, image.start, token, tokenend, tokenaction);
         }
         if fate == 1 {
             if token == 0 {
                 token = at;
                 tokenend = image.start;
+                tokenaction = image.action;
             }
         }
     }
-    rebuilt(0, 0, token, tokenend)
+    rebuilt(0, 0, token, tokenend, tokenaction)
 }
 
 // Line 7 for a place of a row, by what was found there: it is 0, or a place up to the end with a sealed image of the file.
@@ -81,13 +84,28 @@ fn place_holds_by(end: u64, place: u64, found: Sought) -> bool
     }
 }
 
+// The action of an image that was found, 0 of none.
+fn action_found(found: Sought) -> u64
+    ensures { λ r. ⌜ r ≡ actionFound found ⌝ }
+{
+    match found {
+        Sought::Image(image) => image.action,
+        Sought::Other => 0,
+    }
+}
+
+// Line 7 for the token: its place holds, and its action is that of its page.
+fn token_holds_by(end: u64, row: Row, found: Sought) -> bool
+    ensures { λ r. ⌜ r ≡ tokenHoldsBy end row found ⌝ }
+{
+    place_holds_by(end, row.token, found) & (row.tokenaction == action_found(found))
+}
+
 // Line 7, by what was found at both places of a row.
 pub fn row_holds_by(end: u64, row: Row, current: Sought, token: Sought) -> bool
     ensures { λ r. ⌜ r ≡ rowHoldsBy end row current token ⌝ }
 {
-    (row.mark <= 1)
-        & place_holds_by(end, row.current, current)
-        & place_holds_by(end, row.token, token)
+    (row.mark <= 1) & place_holds_by(end, row.current, current) & token_holds_by(end, row, token)
 }
 
 // Line 7.
@@ -113,7 +131,7 @@ pub fn warm_row(sheet: &[u8], fates: &[u8], rows: &mut [u64], end: u64, file: u6
     new
 }
 
-// The last four numbers of a file's row, which is rebuilt first where it is cold.
+// The numbers of a file's row after its mark; the row is rebuilt first where it is cold.
 pub fn rebuild(sheet: &[u8], fates: &[u8], rows: &mut [u64], state: State, file: u64) -> Done
     ensures { λ r. ⌜ leftBy r (now (sheet .entry)) (now (fates .entry)) (now (rows .exit)) ≡ rebuildLeaves (now (sheet .entry)) (now (fates .entry)) (now (rows .entry)) state file ⌝ }
 {
@@ -130,7 +148,13 @@ pub fn rebuild(sheet: &[u8], fates: &[u8], rows: &mut [u64], state: State, file:
         return refuse(7, state);
     }
     Done {
-        answer: Answer::Rebuilt(row.current, row.currentend, row.token, row.tokenend),
+        answer: Answer::Rebuilt(
+            row.current,
+            row.currentend,
+            row.token,
+            row.tokenend,
+            row.tokenaction,
+        ),
         state,
     }
 }

@@ -4,9 +4,20 @@ use crate::Row;
 ghost use mathlib.Core.Path.{_≡_};
 ghost use Prim.Native.Nat.{_+_, _*_, _/_, _≤_};
 ghost use lib.ListN.{length};
-ghost use Rattle.recovery.specs.World.{isFile};
+ghost use Rattle.recovery.specs.World.{isFile, namesAction};
 ghost use Rattle.recovery.specs.Lent.{rowLength, rowFrom, putRow};
-ghost use Rattle.recovery.specs.Steps.{rowOf, withRowOf};
+ghost use Rattle.recovery.specs.Steps.{rowOf, namesActionIn, withRowOf};
+
+// Where the numbers of a row lie, after its mark.
+const CURRENT: usize = 1;
+
+const CURRENT_END: usize = 2;
+
+const TOKEN: usize = 3;
+
+const TOKEN_END: usize = 4;
+
+const TOKEN_ACTION: usize = 5;
 
 // How many files a run of so many numbers has rows for.
 pub fn file_count(numbers: usize) -> u64
@@ -37,10 +48,11 @@ fn read_row(rows: &[u64], k: usize) -> Row
     let at = ROW_LENGTH * k;
     Row {
         mark: rows[at],
-        current: rows[at + 1],
-        currentend: rows[at + 2],
-        token: rows[at + 3],
-        tokenend: rows[at + 4],
+        current: rows[at + CURRENT],
+        currentend: rows[at + CURRENT_END],
+        token: rows[at + TOKEN],
+        tokenend: rows[at + TOKEN_END],
+        tokenaction: rows[at + TOKEN_ACTION],
     }
 }
 
@@ -50,10 +62,11 @@ fn write_row(rows: &mut [u64], k: usize, row: Row)
 {
     let at = ROW_LENGTH * k;
     rows[at] = row.mark;
-    rows[at + 1] = row.current;
-    rows[at + 2] = row.currentend;
-    rows[at + 3] = row.token;
-    rows[at + 4] = row.tokenend;
+    rows[at + CURRENT] = row.current;
+    rows[at + CURRENT_END] = row.currentend;
+    rows[at + TOKEN] = row.token;
+    rows[at + TOKEN_END] = row.tokenend;
+    rows[at + TOKEN_ACTION] = row.tokenaction;
 }
 
 // The row of a file, cold for no file.
@@ -67,9 +80,29 @@ pub fn row_of(rows: &[u64], file: u64) -> Row
             currentend: 0,
             token: 0,
             tokenend: 0,
+            tokenaction: 0,
         };
     }
     read_row(rows, file as usize - 1)
+}
+
+// Whether the row after k others is rebuilt and its token is an action's, by the two numbers where they lie.
+fn names_at(rows: &[u64], k: usize, action: u64) -> bool
+    requires { ⌜ rowLength * k + rowLength ≤ length (now rows) ⌝ }
+    ensures { λ r. ⌜ r ≡ namesAction action (rowFrom (now (rows .entry)) k) ⌝ }
+{
+    let at = ROW_LENGTH * k;
+    (rows[at] == 1) & (rows[at + TOKEN_ACTION] == action)
+}
+
+// The same of a file's row; not so for no file.
+pub fn names_action(rows: &[u64], file: u64, action: u64) -> bool
+    ensures { λ r. ⌜ r ≡ namesActionIn (now (rows .entry)) file action ⌝ }
+{
+    if !has_file(rows.len(), file) {
+        return false;
+    }
+    names_at(rows, file as usize - 1, action)
 }
 
 // Puts a file's row into the run; for no file nothing changes.

@@ -7,10 +7,11 @@ use mathlib.Core.Option.{Option, some, none}
 use lib.ListN.{length}
 use lib.Dec.{eqb}
 use borrow.Author.Tests.{eqb-true, eqb-false, eq-eqb, ne-eqb}
+use Rattle.recovery.specs.Log as log
 use Rattle.recovery.specs.Log.{Image, Entry, torn, opening, image, outcome, undecided, Placed, fateOf, outcomeOf, imagesOf, verdict, placeOf, startOf}
 use Rattle.recovery.specs.World.{fatesOf, undecidedOf}
 use Rattle.inspection.specs.Lawful.{versions, current, token}
-use Rattle.promises.specs.Model.{Object, object, Status, pending, Model, newest, placed, since, changed, stores, askedBefore, decidedAs, ended, endedBy, modelOpened}
+use Rattle.promises.specs.Model.{Object, object, Status, pending, Model, actionOf, newest, placed, since, changed, stores, askedBefore, decidedAs, ended, endedBy, modelOpened}
 use Rattle.promises.specs.FromLog.{statusOf, versionOf, versionIn, history}
 use Rattle.promises.proofs.logs.Logs.{ImageFits, Lawful}
 use Rattle.promises.proofs.logs.Appends.{opening-versions, opening-token, image-versions, image-token, owns, longer, outcome-versions, outcome-token}
@@ -54,6 +55,10 @@ since-is (some x) = refl
 placed-is : (z : Option Placed) → placed (versionIn z) ≡ placeOf z
 placed-is none = refl
 placed-is (some x) = refl
+
+acted-is : (z : Option Placed) → actionOf (versionIn z) ≡ log.actionOf z
+acted-is none = refl
+acted-is (some x) = refl
 
 version-cond : (b : Bool) (x y : Option Placed) → versionIn (cond b x y) ≡ cond b (versionIn x) (versionIn y)
 version-cond true x y = refl
@@ -157,6 +162,9 @@ module _ (l : List Entry) (m : Model) (s : Says l m) where
 
   pub newest-placed : (f : ℕ) → placed (newest (m .object f .history)) ≡ placeOf (current l f)
   newest-placed f = ap (λ h. placed (newest h)) (s .history f) ∙ ap placed (newest-is (versions l f)) ∙ placed-is (current l f)
+
+  pub token-acted : (f : ℕ) → actionOf (m .object f .token) ≡ log.actionOf (token l f)
+  token-acted f = ap actionOf (s .token f) ∙ acted-is (token l f)
 
   pub token-placed : (f : ℕ) → placed (m .object f .token) ≡ placeOf (token l f)
   token-placed f = ap placed (s .token f) ∙ placed-is (token l f)

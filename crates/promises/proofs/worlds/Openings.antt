@@ -18,7 +18,7 @@ use Rattle.inspection.proofs.LowestUnlawful.{lowest-none}
 use Rattle.promises.proofs.logs.Logs.{Lawful, lawful-test}
 use Rattle.promises.specs.Model.{Model, newest, since, modelOpened}
 use Rattle.promises.proofs.worlds.LogSays.{Says, since-is, newest-since, opened-says}
-use Rattle.promises.proofs.worlds.Sim.{rowFor, Sim}
+use Rattle.promises.proofs.worlds.Sim.{rowWith, rowFor, Sim}
 
 -- a sheet of n pages holds a log: these pages, and blank ones above
 pub record Holds (s : List Entry) (n : ℕ) (l : List Entry) : Type 0 where
@@ -89,7 +89,7 @@ holds-lawful s n l h = rw (holds-end s n l h, h .log) (lowest-none l (lawful-tes
 -- an opening of a sheet that holds a log is not refused, and stands for the model that is opened
 module _ (s : List Entry) (l : List Entry) (m : Model) (h : Holds s (m .pages) l) (y : Says l m) (fits : sizes (m .pages) (m .pages) (m .files) ≡ true) (floor : ℕ) where
   cold-row : (f : ℕ) → rebuiltRow l (fateOf l) f ≡ rowFor l (modelOpened m floor .object f) f
-  cold-row f = λ i. record { mark = 1; current = placeOf (current l f); currentend = c i; token = placeOf (token l f); tokenend = t i }
+  cold-row f = λ i. rowWith l f (c i) (t i)
     where
       c : startOf (current l f) ≡ max (since (newest (m .object f .history))) 0
       c = omega (arith, newest-since l m y f)

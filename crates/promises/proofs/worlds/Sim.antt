@@ -1,6 +1,6 @@
 -- A world stands for a log and the state of the object model: its tests answer what the model says, and a row set or a page appended
 -- keeps it so.
-use mathlib.Core.Path.{_≡_, refl, ap, sym, _∙_}
+use mathlib.Core.Path.{_≡_, refl, ap, sym, _∙_, subst}
 use mathlib.Core.List.{List, _∷_}
 use mathlib.Core.Bool.{Bool, true, false, cond, _&&_, false≢true, true≢false}
 use mathlib.Core.Option.{Option, some, none}
@@ -13,8 +13,8 @@ use borrow.Author.Tests.{eqb-true, eqb-false, eq-eqb, ne-eqb, le-leb}
 use Rattle.encoding.proofs.Logic.{bool-ext, and-true, clash}
 use Rattle.page.specs.Layout.{valueSize}
 use Rattle.recovery.specs.Places.{nth, put}
-use Rattle.recovery.specs.Log.{Entry, blank, opening, image, outcome, Fate, unknown, undecided, committed, aborted, Placed, fateOf, effectiveOf, placeOf}
-use Rattle.recovery.specs.World.{World, Result, refuse, entryAt, down, logOf, fateNumber, fateIn, fateAt, sizes, cold, rebuiltRow, rowAt, withRow, warmRow, placeHolds, rowHolds, lentRight, isFile, isBlank, fatesOf}
+use Rattle.recovery.specs.Log.{Entry, blank, opening, image, outcome, Fate, unknown, undecided, committed, aborted, Placed, fateOf, effectiveOf, placeOf, actionOf}
+use Rattle.recovery.specs.World.{World, Result, refuse, entryAt, down, logOf, fateNumber, fateIn, fateAt, sizes, cold, rebuiltRow, rowAt, withRow, warmRow, rowHolds, lentRight, isFile, isBlank, fatesOf}
 use Rattle.recovery.specs.declared.Row.{Row}
 use Rattle.recovery.specs.declared.Answer.{Answer}
 use Rattle.recovery.specs.declared.Answer.the-variants.{Refused, Stored}
@@ -23,6 +23,7 @@ use Rattle.recovery.proofs.Lookups.{is-file}
 use Rattle.inspection.specs.Lawful.{current, token}
 use Rattle.calls.specs.Calls as store
 use Rattle.calls.specs.Calls.{Call, begin, write, read, test, decide, rebuild, isKnown, hasAction, append}
+use Rattle.recovery.proofs.Refused.{place-holds, action-holds}
 use Rattle.recovery.proofs.Spots.{entryIn, Spot, spots, entry-down, Lies, current-of-lies, token-of-lies}
 use Rattle.promises.specs.Model.{Object, Status, Model, Reply, stores, refuses, hasRoom}
 use Rattle.promises.proofs.logs.Logs.{Fits, Lawful, known-place}
@@ -34,9 +35,19 @@ use Rattle.promises.proofs.worlds.LogSays.{currentEnd, tokenEnd, withOb
 abbrev pub warmOf : Row → List Entry → ℕ → Row
 warmOf r l f = cond (eqb (r .mark) 0) (rebuiltRow l (fateOf l) f) r
 
--- the row that the store has for a file, once it is rebuilt
+-- the row that the store has for a file, once it is rebuilt: with these ends, and with those of its object
+abbrev pub rowWith : List Entry → ℕ → ℕ → ℕ → Row
+rowWith l f currentend tokenend = record {
+  mark = 1;
+  current = placeOf (current l f);
+  currentend = currentend;
+  token = placeOf (token l f);
+  tokenend = tokenend;
+  tokenaction = actionOf (token l f);
+}
+
 abbrev pub rowFor : List Entry → Object → ℕ → Row
-rowFor l x f = record { mark = 1; current = placeOf (current l f); currentend = currentEnd x; token = placeOf (token l f); tokenend = tokenEnd x }
+rowFor l x f = rowWith l f (currentEnd x) (tokenEnd x)
 
 pub record Sim (w : World) (l : List Entry) (m : Model) : Type 0 where
   pub says : Says l m
@@ -150,19 +161,14 @@ module _ (w : World) (l : List Entry) (m : Model) (s : Sim w l m) where
   pub lies-at : (f : ℕ) (x : Placed) → Spot l f x → entryAt w (x .place) ≡ image (x .image)
   lies-at f x h = entry-eq (x .place) (h .high) ∙ h .here
 
-  place-holds : (f : ℕ) (z : Option Placed) → Lies l f z → placeHolds w f (placeOf z) ≡ true
-  place-holds f none h = refl
-  place-holds f (some x) h = rw (
-    ne-eqb (x .place) 0 (λ e. omega (arith, h .low)),
-    s .ends,
-    le-leb (x .place) (length l) (h .high),
-    lies-at f x h,
-    eq-eqb (x .image .file) f (h .mine),
-  )
+  lies-in : (f : ℕ) (z : Option Placed) → Lies l f z → Lies (logOf w) f z
+  lies-in f z h = subst (λ (l : List Entry). Lies l f z) (sym (s .log)) h
 
   pub row-holds : (f : ℕ) → rowHolds w f (rowFor l (m .object f) f) ≡ true
   unfolding rowHolds
-  row-holds f = rw (place-holds f (current l f) (current-lies l f), place-holds f (token l f) (token-lies l f))
+  row-holds f =
+      let t : Lies (logOf w) f (token l f) = lies-in f (token l f) (token-lies l f) in
+      rw (place-holds w f (current l f) (lies-in f (current l f) (current-lies l f)), place-holds w f (token l f) t, action-holds w f (token l f) t)
 
   -- one row set, and its object
   pub sim-set : (f : ℕ) (h : ℕ → Object) (r : Row) → isFile (m .files) f ≡ true → r ≡ rowFor l (h f) f → ((g : ℕ) → (f ≡ g → ⊥) → h g ≡ m .object g)

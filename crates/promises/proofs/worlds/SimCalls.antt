@@ -8,16 +8,17 @@ use lib.Dec.{eqb, leb}
 use borrow.Author.Tests.{leb-true}
 use Rattle.encoding.proofs.Logic.{clash}
 use Rattle.page.specs.Layout.{valueSize}
-use Rattle.recovery.specs.Log.{Entry, Fate, unknown, undecided, committed, aborted, verdict, fateOf, outcomeOf, placeOf}
+use Rattle.recovery.specs.Log.{Entry, Fate, unknown, undecided, committed, aborted, verdict, fateOf, outcomeOf, placeOf, actionOf}
 use Rattle.recovery.specs.World.{World, Result, fateAt, outcomeAt, fateNumber, withRow, isFile, rebuilt}
 use Rattle.recovery.specs.declared.Answer.the-variants.{Stored, Rebuilt, Told}
 use Rattle.inspection.specs.Lawful.{current, token}
 use Rattle.calls.specs.Calls.{Call, begin, write, read, test, decide, rebuild, forFile, forAction, forUndecided, unlessDecided, on, call}
+use Rattle.promises.specs.Model as model
 use Rattle.promises.specs.Model.{Model, Reply, newest, placed, ofFile, ofPending, testing, deciding, modelCall}
 use Rattle.promises.specs.FromLog.{statusOf}
 use Rattle.promises.proofs.logs.Logs.{not-undecided}
 use Rattle.promises.proofs.logs.Outcomes.{nowhere}
-use Rattle.promises.proofs.worlds.LogSays.{currentEnd, tokenEnd, newest-placed, token-placed}
+use Rattle.promises.proofs.worlds.LogSays.{currentEnd, tokenEnd, newest-placed, token-placed, token-acted}
 use Rattle.promises.proofs.worlds.Sim.{rowFor, Sim, stay, Agrees, agrees-cond, answers, refused, fate-eq, lent-right, has-action, warm-eq, row-holds, sim-warm}
 use Rattle.promises.proofs.worlds.SimWrites.{sim-begin, sim-write}
 use Rattle.promises.proofs.worlds.SimReads.{sim-read}
@@ -70,9 +71,9 @@ module _ (w : World) (l : List Entry) (m : Model) (s : Sim w l m) where
   warmed : (f : ℕ) → isFile (m .files) f ≡ true → Sim (withRow w f (rowFor l (m .object f) f)) l m
   warmed f h = sim-warm w l m s f h
 
-  rebuilt-is : (f : ℕ) → Rebuilt (placeOf (current l f)) (currentEnd (m .object f)) (placeOf (token l f)) (tokenEnd (m .object f))
-      ≡ Rebuilt (placed (newest (m .object f .history))) (currentEnd (m .object f)) (placed (m .object f .token)) (tokenEnd (m .object f))
-  rebuilt-is f = λ i. Rebuilt (sym (newest-placed l m (s .says) f) i) (currentEnd (m .object f)) (sym (token-placed l m (s .says) f) i) (tokenEnd (m .object f))
+  rebuilt-is : (f : ℕ) → Rebuilt (placeOf (current l f)) (currentEnd (m .object f)) (placeOf (token l f)) (tokenEnd (m .object f)) (actionOf (token l f))
+      ≡ Rebuilt (placed (newest (m .object f .history))) (currentEnd (m .object f)) (placed (m .object f .token)) (tokenEnd (m .object f)) (model.actionOf (m .object f .token))
+  rebuilt-is f = λ i. Rebuilt (sym (newest-placed l m (s .says) f) i) (currentEnd (m .object f)) (sym (token-placed l m (s .says) f) i) (tokenEnd (m .object f)) (sym (token-acted l m (s .says) f) i)
 
   sim-on : (k : Call) → Agrees (m .files) k l (on w k) (modelCall m k)
   unfolding rebuilt

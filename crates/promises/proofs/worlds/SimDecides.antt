@@ -8,15 +8,16 @@ use native.Mathlib.Omega.{arith}
 use lib.ListN.{length}
 use lib.Dec.{eqb, leb}
 use borrow.Author.Tests.{eqb-true, leb-true, eq-eqb, le-leb}
+use Rattle.encoding.proofs.Logic.{and-false}
 use Rattle.recovery.specs.Places.{nth, put}
-use Rattle.recovery.specs.Log.{Entry, outcome, undecided, Placed, verdict, fateOf, placeOf, startOf}
+use Rattle.recovery.specs.Log.{Entry, outcome, undecided, Placed, verdict, fateOf, placeOf, startOf, actionOf}
 use Rattle.recovery.specs.World.{World, entryAt, fateNumber, cold, rebuiltRow, rowAt, isFile}
 use Rattle.recovery.specs.declared.Row.{Row}
 use Rattle.recovery.proofs.Lookups.{is-file}
 use Rattle.recovery.proofs.LogFates.{undecided-known}
 use Rattle.inspection.specs.Lawful.{current, token}
 use Rattle.calls.specs.Calls as store
-use Rattle.calls.specs.Calls.{decide, append, imageOf, decided, isTokenOf, settled, eachRow, onDecide}
+use Rattle.calls.specs.Calls.{decide, append, decided, isTokenAt, settled, eachRow, onDecide}
 use Rattle.calls.proofs.DecideRows.{row-each, row-each-long}
 use Rattle.recovery.proofs.Spots.{Lies}
 use Rattle.promises.specs.Model.{Object, Model, changed, stores, stored, refuses, hasRoom, decidedAs}
@@ -31,9 +32,14 @@ nth-each k rs zero h l = absurd (omega arith)
 nth-each k rs (suc j) h l = let z : 0 + j ≡ j = omega arith in rw z at (row-each k 0 rs j l)
 
 module _ (w : World) (l : List Entry) (m : Model) (s : Sim w l m) where
-  own-eq : (f a : ℕ) (z : Option Placed) → Lies l f z → (leb (placeOf z) (w .end) && isTokenOf f a (imageOf (entryAt w (placeOf z)))) ≡ owns a z
-  own-eq f a none h = rw (le-leb 0 (w .end) (omega arith))
-  own-eq f a (some x) h = rw (s .ends, le-leb (x .place) (length l) (h .high), lies-at w l m s f x h, eq-eqb (x .image .file) f (h .mine))
+  -- a row's token is the action's if both the row and the page say so
+  own-eq : (f a : ℕ) (z : Option Placed) → Lies l f z → (eqb (actionOf z) a && isTokenAt w a f (placeOf z)) ≡ owns a z
+  own-eq f a none h = rw (le-leb 0 (w .end) (omega arith)) (and-false (eqb 0 a) false refl)
+  own-eq f a (some x) h = rw (s .ends, le-leb (x .place) (length l) (h .high), lies-at w l m s f x h, eq-eqb (x .image .file) f (h .mine)) (twice (eqb (x .image .action) a))
+    where
+      twice : (b : Bool) → (b && b) ≡ b
+      twice true = refl
+      twice false = refl
 
   module _ (a : ℕ) (c : Bool) (o : fateOf l a ≡ undecided) where
     abbrev objects : ℕ → Object
@@ -47,6 +53,7 @@ module _ (w : World) (l : List Entry) (m : Model) (s : Sim w l m) where
       currentend = cond b (cond c x y) y;
       token = placeOf (cond b none t);
       tokenend = cond b 0 x;
+      tokenaction = actionOf (cond b none t);
     }
 
     row-is : (f : ℕ) → rowFor (outcome a c ∷ l) (objects f) f ≡ after (owns a (token l f)) c (token l f) (current l f) (tokenEnd (m .object f)) (currentEnd (m .object f))
@@ -65,13 +72,14 @@ module _ (w : World) (l : List Entry) (m : Model) (s : Sim w l m) where
           currentend = startOf (cond b (cond c t k) k);
           token = placeOf (cond b none t);
           tokenend = startOf (cond b none t);
+          tokenaction = actionOf (cond b none t);
         } ≡ after b c t k (startOf t) (startOf k)
     cold-case true true t k = refl
     cold-case true false t k = refl
     cold-case false c t k = refl
 
     warm-case : (b c : Bool) (t k : Option Placed) (x y : ℕ) (z : Row) →
-        let r : Row = record { mark = 1; current = placeOf k; currentend = y; token = placeOf t; tokenend = x } in
+        let r : Row = record { mark = 1; current = placeOf k; currentend = y; token = placeOf t; tokenend = x; tokenaction = actionOf t } in
         cond (eqb ((cond b (decided c r) r) .mark) 0) z (cond b (decided c r) r) ≡ after b c t k x y
     warm-case true true t k x y z = refl
     warm-case true false t k x y z = refl

@@ -24,7 +24,7 @@ use Rattle.promises.proofs.logs.Chains.{Ordered, versions-ordered, chai
 use Rattle.promises.proofs.logs.Versions.{latestOf, version}
 use Rattle.promises.proofs.logs.Histories.{latest-is}
 use Rattle.promises.proofs.worlds.LogSays.{currentEnd, tokenEnd, changed-not, newest-since}
-use Rattle.promises.proofs.worlds.Sim.{rowFor, Sim, Agrees, agrees-cond, answers, refused, current-lies, token-lies, lies-at, row-holds, sim-set}
+use Rattle.promises.proofs.worlds.Sim.{rowWith, rowFor, Sim, Agrees, agrees-cond, answers, refused, current-lies, token-lies, lies-at, row-holds, sim-set}
 
 -- what a walk comes to that finds a version, or none
 abbrev walked : Option Placed → Walk
@@ -96,7 +96,7 @@ module _ (w : World) (l : List Entry) (m : Model) (s : Sim w l m) where
     asked = cond (leb (since (newest (x .history))) t) (max (x .asked) t) (x .asked)
 
     row-read : readCurrent t (within t (current l f)) (rowFor l x f) ≡ rowFor l (object (x .history) asked (x .token) (x .tokenasked)) f
-    row-read = ap (λ n. record { mark = 1; current = placeOf (current l f); currentend = n; token = placeOf (token l f); tokenend = tokenEnd x })
+    row-read = ap (λ n. rowWith l f n (tokenEnd x))
         (go (leb (since (newest (x .history))) t) (within-is t (current l f) ∙ ap (λ n. leb n t) (sym (newest-since l m (s .says) f))))
       where
         go : (b : Bool) → within t (current l f) ≡ b → cond (within t (current l f)) (max (currentEnd x) t) (currentEnd x) ≡ max (since (newest (x .history))) (cond b (max (x .asked) t) (x .asked))
@@ -130,7 +130,7 @@ module _ (w : World) (l : List Entry) (m : Model) (s : Sim w l m) where
         (λ q. sim-versions))
       where
         token-read : readToken t (rowFor l x f) ≡ rowFor l (object (x .history) (x .asked) (x .token) (max (x .tokenasked) t)) f
-        token-read = ap (λ n. record { mark = 1; current = placeOf (current l f); currentend = currentEnd x; token = placeOf (token l f); tokenend = n }) (omega arith)
+        token-read = ap (λ n. rowWith l f (currentEnd x) n) (omega arith)
 
     pub sim-read : Agrees (m .files) (read f t a) l (onRead w f t a (rowFor l x f)) (reading m f t a x (x .token))
     sim-read = subst (λ z. Agrees (m .files) (read f t a) l (onRead w f t a (rowFor l x f)) (reading m f t a x z)) (sym (s .says .token f))

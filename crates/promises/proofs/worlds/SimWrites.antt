@@ -11,14 +11,14 @@ use borrow.Author.Tests.{eqb-true, eqb-false, ltb-true, ltb-false, leb-true, eq-
 use Rattle.encoding.proofs.Logic.{and-true}
 use Rattle.page.specs.Layout.{valueSize}
 use Rattle.recovery.specs.Places.{nth, put}
-use Rattle.recovery.specs.Log.{Entry, opening, image, undecided, Placed, fateOf, placeOf}
+use Rattle.recovery.specs.Log.{Entry, opening, image, undecided, Placed, fateOf, placeOf, actionOf}
 use Rattle.recovery.specs.World.{World, refuse, entryAt, cold, isFile}
 use Rattle.recovery.specs.declared.Row.{Row}
 use Rattle.recovery.proofs.Places.{nth-put-same, nth-put-other, length-put}
 use Rattle.recovery.proofs.Lookups.{is-file}
 use Rattle.inspection.specs.Lawful.{current, token, isFreeFor}
 use Rattle.calls.specs.Calls as store
-use Rattle.calls.specs.Calls.{begin, write, append, onBegin, imageOf, actionOf, onWrite}
+use Rattle.calls.specs.Calls.{begin, write, append, onBegin, onWrite}
 use Rattle.recovery.proofs.Spots.{Lies}
 use Rattle.promises.specs.Model as model
 use Rattle.promises.specs.Model.{Object, pending, Model, newest, since, refuses, changed, stores, stored, hasRoom, askedBefore, writing, modelCall}
@@ -26,7 +26,7 @@ use Rattle.promises.specs.FromLog.{versionIn}
 use Rattle.promises.proofs.logs.Logs.{ImageFits}
 use Rattle.promises.proofs.logs.Appends.{opening-versions, opening-token, image-versions, image-token}
 use Rattle.promises.proofs.logs.Fates.{opening-fates}
-use Rattle.promises.proofs.worlds.LogSays.{currentEnd, written, newest-since, opening-says, given, image-says}
+use Rattle.promises.proofs.worlds.LogSays.{currentEnd, written, newest-since, token-acted, opening-says, given, image-says}
 use Rattle.promises.proofs.worlds.Sim.{warmOf, rowFor, Sim, Agrees, agrees-cond, refused, token-lies, room-eq, blank-ok, lies-at, row-holds, sim-append, appended}
 
 max-below : (a b s : ℕ) → ltb (max a b) s ≡ (ltb a s && ltb b s)
@@ -61,7 +61,7 @@ module _ (w : World) (l : List Entry) (m : Model) (s : Sim w l m) where
     x = m .object f
 
     abbrev row : Row
-    row = store.written (rowFor l x f) (suc (w .end)) start
+    row = store.written (rowFor l x f) (suc (w .end)) start a
 
     abbrev objects : ℕ → Object
     objects = changed (m .object) f (given m f start a v)
@@ -83,7 +83,7 @@ module _ (w : World) (l : List Entry) (m : Model) (s : Sim w l m) where
       image-token (written l f start a v) l f i,
       eq-eqb f f refl,
       s .ends,
-    ) (λ j. record { mark = 1; current = placeOf (current l f); currentend = currentEnd x; token = suc (length l); tokenend = end-is j })
+    ) (λ j. record { mark = 1; current = placeOf (current l f); currentend = currentEnd x; token = suc (length l); tokenend = end-is j; tokenaction = a })
     rows-in i g q false e = rw (
       nth-put-other cold (w .rows) f g row (λ j. eqb-false f g e (sym j)),
       image-versions (written l f start a v) l g i,
@@ -112,17 +112,13 @@ module _ (w : World) (l : List Entry) (m : Model) (s : Sim w l m) where
     above q = ltb-true (currentEnd x) start (max-below (since (newest (x .history))) (x .asked) start ∙ and-true (ltb (since (newest (x .history))) start && ltb (x .asked) start) (ltb (m .floor) start) q .0)
 
     -- line 8
-    free-is : (z : Option Placed) → Lies l f z → (eqb (placeOf z) 0 || eqb (actionOf (imageOf (entryAt w (placeOf z)))) a) ≡ model.isFreeFor a (versionIn z)
+    free-is : (z : Option Placed) → Lies l f z → (eqb (placeOf z) 0 || eqb (actionOf z) a) ≡ model.isFreeFor a (versionIn z)
     free-is none i = refl
-    free-is (some y) i = rw (ne-eqb (y .place) 0 (λ e. omega (arith, i .low)), lies-at w l m s f y i)
+    free-is (some y) i = rw (ne-eqb (y .place) 0 (λ e. omega (arith, i .low)))
 
     free-log : (z : Option Placed) → model.isFreeFor a (versionIn z) ≡ true → isFreeFor a z ≡ true
     free-log none e = refl
     free-log (some y) e = e
-
-    action-is : (z : Option Placed) → Lies l f z → actionOf (imageOf (entryAt w (placeOf z))) ≡ model.actionOf (versionIn z)
-    action-is none i = refl
-    action-is (some y) i = rw (lies-at w l m s f y i)
 
     timely : isFreeFor a (token l f) ≡ true
         → Agrees (m .files) (write f start a v) l
@@ -139,6 +135,6 @@ module _ (w : World) (l : List Entry) (m : Model) (s : Sim w l m) where
     pub sim-write : Agrees (m .files) (write f start a v) l (onWrite w f start a v (rowFor l x f)) (writing m f start a v x (x .token))
     sim-write =
         let k : x .token ≡ versionIn (token l f) = s .says .token f in
-        rw (row-holds w l m s f) (agrees-cond (store.isFreeFor w a (rowFor l x f)) (model.isFreeFor a (x .token)) (free-is (token l f) (token-lies l f) ∙ ap (model.isFreeFor a) (sym k))
+        rw (row-holds w l m s f) (agrees-cond (store.isFreeFor a (rowFor l x f)) (model.isFreeFor a (x .token)) (free-is (token l f) (token-lies l f) ∙ ap (model.isFreeFor a) (sym k))
         (λ e. timely (free-log (token l f) (ap (model.isFreeFor a) (sym k) ∙ e)))
-        (λ e. refused 8 (actionOf (imageOf (entryAt w (placeOf (token l f))))) (model.actionOf (x .token)) (action-is (token l f) (token-lies l f) ∙ ap model.actionOf (sym k)) s))
+        (λ e. refused 8 (actionOf (token l f)) (model.actionOf (x .token)) (sym (token-acted l m (s .says) f)) s))

@@ -14,7 +14,7 @@ returns c =
     let r = c .before .args .row in
     let time = c .before .args .time in
     c .raised-row .ensures
-    ∙ ap (λ (n : ℕ). record { mark = r .mark; current = r .current; currentend = max (r .currentend) time; token = r .token; tokenend = n }) (max-zero (r .tokenend))
+    ∙ ap (λ (n : ℕ). record { mark = r .mark; current = r .current; currentend = max (r .currentend) time; token = r .token; tokenend = n; tokenaction = r .tokenaction }) (max-zero (r .tokenend))
 
 pub current-read-spec : {M : Type 1} → statement M
 current-read-spec = tie.close (tie.spec raised-row-requires returns)

@@ -14,7 +14,7 @@ returns c =
     let r = c .before .args .row in
     let time = c .before .args .time in
     c .raised-row .ensures
-    ∙ ap (λ (n : ℕ). record { mark = r .mark; current = r .current; currentend = n; token = r .token; tokenend = max (r .tokenend) time }) (max-zero (r .currentend))
+    ∙ ap (λ (n : ℕ). record { mark = r .mark; current = r .current; currentend = n; token = r .token; tokenend = max (r .tokenend) time; tokenaction = r .tokenaction }) (max-zero (r .currentend))
 
 pub token-read-spec : {M : Type 1} → statement M
 token-read-spec = tie.close (tie.spec raised-row-requires returns)

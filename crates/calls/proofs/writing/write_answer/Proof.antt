@@ -1,5 +1,6 @@
 -- `calls::writing::write_answer`: lines 7 and 8, and the rest. Assumes nothing.
 use denote.Ref.{now}
+use borrow.Author.Tests.{not-true, not-false}
 use Rattle.encoding.proofs.Logic.{refused, passed}
 use Rattle.calls.proofs.WriteAnswers.{write-7, write-8, write-store}
 use borrow.Author.Needs.{needs}
@@ -20,14 +21,14 @@ returns c =
     let a = c .before .before .before .before .before .args in
     write-7 (now (a .sheet)) (a .files) (a .state) (a .file) (a .start) (a .action) (a .row) _ _ (c .before .before .before .image-at .ensures) (c .before .before .image-at2 .ensures) (refused (c .before .row-holds-by .ensures) (c .if1 .taken))
 
-token-action-requires : tie.Need-token-action-requires
-token-action-requires c κs = search needs
+is-free-for-requires : tie.Need-is-free-for-requires
+is-free-for-requires c κs = search needs
 
 returns-2 : tie.Need-returns-2
 returns-2 c =
     let b = c .before .before in
     let a = b .before .before .before .before .before .args in
-    write-8 (now (a .sheet)) (a .files) (a .state) (a .file) (a .start) (a .action) (a .row) _ _ (b .before .before .before .image-at .ensures) (b .before .before .image-at2 .ensures) (passed (b .before .row-holds-by .ensures) (b .if1 .left)) _ (c .before .token-action .ensures) (c .if2 .taken)
+    write-8 (now (a .sheet)) (a .files) (a .state) (a .file) (a .start) (a .action) (a .row) _ _ (b .before .before .before .image-at .ensures) (b .before .before .image-at2 .ensures) (passed (b .before .row-holds-by .ensures) (b .if1 .left)) _ (c .before .is-free-for .ensures) (not-true _ (c .if2 .taken))
 
 store-answer-requires : tie.Need-store-answer-requires
 store-answer-requires c κs = search needs
@@ -36,7 +37,7 @@ returns-3 : tie.Need-returns-3
 returns-3 c =
     let b = c .before .before .before in
     let a = b .before .before .before .before .before .args in
-    write-store (now (a .sheet)) (a .files) (a .state) (a .file) (a .start) (a .action) (a .row) _ _ (b .before .before .before .image-at .ensures) (b .before .before .image-at2 .ensures) (passed (b .before .row-holds-by .ensures) (b .if1 .left)) _ (c .before .before .token-action .ensures) (c .before .if2 .left) _ (c .store-answer .ensures)
+    write-store (now (a .sheet)) (a .files) (a .state) (a .file) (a .start) (a .action) (a .row) _ _ (b .before .before .before .image-at .ensures) (b .before .before .image-at2 .ensures) (passed (b .before .row-holds-by .ensures) (b .if1 .left)) _ (c .before .before .is-free-for .ensures) (not-false _ (c .before .if2 .left)) _ (c .store-answer .ensures)
 
 pub write-answer-spec : {M : Type 1} → statement M
 write-answer-spec =
@@ -46,7 +47,7 @@ write-answer-spec =
     image-at-requires-2
     row-holds-by-requires
     returns
-    token-action-requires
+    is-free-for-requires
     returns-2
     store-answer-requires
     returns-3)

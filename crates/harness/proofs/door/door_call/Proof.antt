@@ -1,7 +1,7 @@
 -- `harness::door::door_call`: what a call leaves, in numbers. Assumes nothing.
 use Rattle.harness.specs.Door.{made}
 use mathlib.Core.Path.{_∙_}
-use Rattle.harness.proofs.EightNumbers.{given-none, given-numbers}
+use Rattle.harness.proofs.ToldNumbers.{given-none, given-numbers}
 use denote.Ref.{now}
 use borrow.Author.Needs.{needs}
 use Rattle.harness.proofs.door.door_call.Statement.{statement}

@@ -1,5 +1,5 @@
 -- `harness::door::door_open`: what open leaves, in numbers. Assumes nothing.
-use Rattle.harness.proofs.EightNumbers.{given-none, given-numbers}
+use Rattle.harness.proofs.ToldNumbers.{given-none, given-numbers}
 use denote.Ref.{now}
 use borrow.Author.Needs.{needs}
 use Rattle.harness.proofs.door.door_open.Statement.{statement}

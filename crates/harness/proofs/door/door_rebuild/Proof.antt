@@ -2,7 +2,7 @@
 use Rattle.recovery.specs.Lent.{rebuildLeaves}
 use mathlib.Core.Path.{ap, _∙_}
 use Rattle.recovery.specs.declared.State.{State}
-use Rattle.harness.proofs.EightNumbers.{given-none, given-numbers}
+use Rattle.harness.proofs.ToldNumbers.{given-none, given-numbers}
 use denote.Ref.{now}
 use borrow.Author.Needs.{needs}
 use Rattle.harness.proofs.door.door_rebuild.Statement.{statement}

@@ -1,5 +1,5 @@
--- `harness::door::tell`: eight stores. Assumes nothing.
-use Rattle.harness.proofs.EightNumbers.{eight-are}
+-- `harness::door::tell`: a store for each number. Assumes nothing.
+use Rattle.harness.proofs.ToldNumbers.{told-are}
 use native.Mathlib.Omega.{arith}
 use lib.ListN.{length-set}
 use denote.Ref.{now}
@@ -40,6 +40,9 @@ array-read-out-5 c = search needs
 slice-write-out-5 : tie.Need-slice-write-out-5
 slice-write-out-5 c = simp length-set (omega arith)
 
+array-read-out-6 : tie.Need-array-read-out-6
+array-read-out-6 c = search needs
+
 slice-write-out-6 : tie.Need-slice-write-out-6
 slice-write-out-6 c = simp length-set (omega arith)
 
@@ -49,11 +52,14 @@ slice-write-out-7 c = simp length-set (omega arith)
 slice-write-out-8 : tie.Need-slice-write-out-8
 slice-write-out-8 c = simp length-set (omega arith)
 
+slice-write-out-9 : tie.Need-slice-write-out-9
+slice-write-out-9 c = simp length-set (omega arith)
+
 same-length : tie.Need-same-length
 same-length c = simp length-set
 
 returns : tie.Need-returns
-returns c = eight-are (now (c .before .before .before .args .out)) _ (c .before .before .before .args .done .answer) (c .before .before .before .args .done .state) (c .before .before .before .pre) (c .numbers-of .ensures)
+returns c = told-are (now (c .before .before .before .args .out)) _ (c .before .before .before .args .done .answer) (c .before .before .before .args .done .state) (c .before .before .before .pre) (c .numbers-of .ensures)
 
 pub tell-spec : {M : Type 1} → statement M
 tell-spec =
@@ -70,8 +76,10 @@ tell-spec =
     slice-write-out-4
     array-read-out-5
     slice-write-out-5
+    array-read-out-6
     slice-write-out-6
     slice-write-out-7
     slice-write-out-8
+    slice-write-out-9
     same-length
     returns)

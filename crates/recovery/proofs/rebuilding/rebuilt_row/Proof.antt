@@ -22,13 +22,13 @@ use Rattle.recovery.proofs.rebuilding.rebuilt_row.Statement.{statement}
 use Rattle.recovery.proofs.rebuilding.rebuilt_row.Tie as tie
 
 abbrev Inv-loop : tie.InvT-loop
-Inv-loop sheet fates end files file place₀ token₀ tokenend₀ place token tokenend =
+Inv-loop sheet fates end files file place₀ token₀ tokenend₀ tokenaction₀ place token tokenend tokenaction =
     (place ≤ length sheet / 64)
-    × (overlay token tokenend (rowTo files sheet fates file place) ≡ rowTo files sheet fates file end)
-    × (token ≡ 0 → tokenend ≡ 0)
+    × (overlay token tokenend tokenaction (rowTo files sheet fates file place) ≡ rowTo files sheet fates file end)
+    × (token ≡ 0 → (tokenend ≡ 0) × (tokenaction ≡ 0))
 
 abbrev μ-loop : tie.MeasureT-loop
-μ-loop sheet fates end files file place₀ token₀ tokenend₀ place token tokenend = place
+μ-loop sheet fates end files file place₀ token₀ tokenend₀ tokenaction₀ place token tokenend tokenaction = place
 
 -- the cheap look and the page test, at the page that a turn looks at
 named-at : (c : tie.After-names Inv-loop μ-loop) → c .names .result ≡ named (pageBytes (now (c .before .before .before .before .before .before .before .args .sheet)) (c .before .before .before .loop .place)) (c .before .before .before .before .before .before .before .args .file)
@@ -50,7 +50,7 @@ least-requires c κs = search needs
 loop-holds : tie.Need-loop-holds Inv-loop μ-loop
 loop-holds c =
     let a = c .before .before .before .args in
-    (omega (arith, c .least .ensures), over-none _ ∙ ap (rowTo (a .files) (now (a .sheet)) (now (a .fates)) (a .file)) (c .least .ensures) ∙ row-from (a .files) (now (a .sheet)) (now (a .fates)) (a .file) (a .end), λ z. refl)
+    (omega (arith, c .least .ensures), over-none _ ∙ ap (rowTo (a .files) (now (a .sheet)) (now (a .fates)) (a .file)) (c .least .ensures) ∙ row-from (a .files) (now (a .sheet)) (now (a .fates)) (a .file) (a .end), λ z. (refl, refl))
 
 sub-place : tie.Need-sub-place Inv-loop μ-loop
 sub-place c = search needs
@@ -80,7 +80,7 @@ loop-again : tie.Need-loop-again Inv-loop μ-loop
 loop-again c =
     let l = c .before .before .before .before in
     let a = c .before .before .before .before .before .before .before .before .args in
-    (omega arith, pass (a .files) (now (a .sheet)) (now (a .fates)) (a .file) (l .loop .place) (c .before .before .before .loop-test .taken) (in-sheet (c .before .before .before)) (l .loop .token) (l .loop .tokenend) (unnamed (pageBytes (now (a .sheet)) (l .loop .place)) (l .loop .place) (a .files) (a .file) (refused (named-at (c .before)) (c .if1 .taken))) (l .loop .inv .1), l .loop .inv .2)
+    (omega arith, pass (a .files) (now (a .sheet)) (now (a .fates)) (a .file) (l .loop .place) (c .before .before .before .loop-test .taken) (in-sheet (c .before .before .before)) (overlay (l .loop .token) (l .loop .tokenend) (l .loop .tokenaction)) (unnamed (pageBytes (now (a .sheet)) (l .loop .place)) (l .loop .place) (a .files) (a .file) (refused (named-at (c .before)) (c .if1 .taken))) (l .loop .inv .1), l .loop .inv .2)
 
 sub-test : tie.Need-sub-test Inv-loop μ-loop
 sub-test c = search needs
@@ -105,7 +105,7 @@ unfolding imageOfFile
 loop-again-2 c =
     let l = c .before .before .before .before .before .before .before in
     let a = c .before .before .before .before .before .before .before .before .before .before .before .args in
-    (omega arith, pass (a .files) (now (a .sheet)) (now (a .fates)) (a .file) (l .loop .place) (c .before .before .before .before .before .before .loop-test .taken) (in-sheet (c .before .before .before .before .before .before)) (l .loop .token) (l .loop .tokenend) (off-image (c .before .test .result) (λ (p : Page). cond (eqb (p .file) (a .file)) (sought.Sought.Image p) sought.Sought.Other) sought.Sought.Other (c .match .keys2) ∙ ap (imageOfFile (a .file)) (tested-at (c .before))) (l .loop .inv .1), l .loop .inv .2)
+    (omega arith, pass (a .files) (now (a .sheet)) (now (a .fates)) (a .file) (l .loop .place) (c .before .before .before .before .before .before .loop-test .taken) (in-sheet (c .before .before .before .before .before .before)) (overlay (l .loop .token) (l .loop .tokenend) (l .loop .tokenaction)) (off-image (c .before .test .result) (λ (p : Page). cond (eqb (p .file) (a .file)) (sought.Sought.Image p) sought.Sought.Other) sought.Sought.Other (c .match .keys2) ∙ ap (imageOfFile (a .file)) (tested-at (c .before))) (l .loop .inv .1), l .loop .inv .2)
 
 counted-fate-requires : tie.Need-counted-fate-requires Inv-loop μ-loop
 counted-fate-requires c κs = search needs
@@ -118,7 +118,7 @@ returns c =
     let l = c .before .before .before .before .before .before .before .before .before .before .before .before in
     let a = c .before .before .before .before .before .before .before .before .before .before .before .before .before .before .before .before .args in
     c .rebuilt .ensures ∙ stop (a .files) (now (a .sheet)) (now (a .fates)) (a .file) (l .loop .place) (c .before .before .before .before .before .before .before .before .before .before .before .loop-test .taken) (in-sheet (c .before .before .before .before .before .before .before .before .before .before .before)) _ _ (image-at (c .before .before .before .before)) (c .before .before .counted-fate .ensures)
-    (l .loop .token) (l .loop .tokenend) (λ r m. over-committed _ _ _ _ _ r m (c .before .if2 .taken) (l .loop .inv .2)) (l .loop .inv .1)
+    (overlay (l .loop .token) (l .loop .tokenend) (l .loop .tokenaction)) (λ r m. over-committed _ _ _ _ _ _ _ r m (c .before .if2 .taken) (l .loop .inv .2)) (l .loop .inv .1)
 
 loop-less-3 : tie.Need-loop-less-3 Inv-loop μ-loop
 loop-less-3 c = search needs
@@ -129,7 +129,7 @@ loop-again-3 c =
     let a = c .before .before .before .before .before .before .before .before .before .before .before .before .before .before .before .before .before .args in (
       omega arith,
       turn (a .files) (now (a .sheet)) (now (a .fates)) (a .file) (l .loop .place) (c .before .before .before .before .before .before .before .before .before .before .before .before .loop-test .taken) (in-sheet (c .before .before .before .before .before .before .before .before .before .before .before .before)) _ _ (image-at (c .before .before .before .before .before)) (c .before .before .before .counted-fate .ensures)
-          (l .loop .token) (l .loop .tokenend) _ _ (λ r. over-token _ _ _ _ _ r (c .before .if3 .taken) (c .if4 .taken) (c .before .before .before .before .before .before .before .before .before .before .before .before .loop-test .taken)) (l .loop .inv .1),
+          (overlay (l .loop .token) (l .loop .tokenend) (l .loop .tokenaction)) (overlay _ _ _) (λ r. over-token _ _ _ _ _ _ _ r (c .before .if3 .taken) (c .if4 .taken) (c .before .before .before .before .before .before .before .before .before .before .before .before .loop-test .taken)) (l .loop .inv .1),
       λ z. absurd (not-suc-le-zero (rw z at (c .before .before .before .before .before .before .before .before .before .before .before .before .loop-test .taken))),
     )
 
@@ -142,7 +142,7 @@ loop-again-4 c =
     let a = c .before .before .before .before .before .before .before .before .before .before .before .before .before .before .before .before .before .args in (
       omega arith,
       turn (a .files) (now (a .sheet)) (now (a .fates)) (a .file) (l .loop .place) (c .before .before .before .before .before .before .before .before .before .before .before .before .loop-test .taken) (in-sheet (c .before .before .before .before .before .before .before .before .before .before .before .before)) _ _ (image-at (c .before .before .before .before .before)) (c .before .before .before .counted-fate .ensures)
-          (l .loop .token) (l .loop .tokenend) _ _ (λ r. over-kept _ _ _ _ _ r (c .before .if3 .taken) (c .if4 .left)) (l .loop .inv .1),
+          (overlay (l .loop .token) (l .loop .tokenend) (l .loop .tokenaction)) (overlay _ _ _) (λ r. over-kept _ _ _ _ _ _ _ r (c .before .if3 .taken) (c .if4 .left)) (l .loop .inv .1),
       l .loop .inv .2,
     )
 
@@ -155,7 +155,7 @@ loop-again-5 c =
     let a = c .before .before .before .before .before .before .before .before .before .before .before .before .before .before .before .before .args in (
       omega arith,
       turn (a .files) (now (a .sheet)) (now (a .fates)) (a .file) (l .loop .place) (c .before .before .before .before .before .before .before .before .before .before .before .loop-test .taken) (in-sheet (c .before .before .before .before .before .before .before .before .before .before .before)) _ _ (image-at (c .before .before .before .before)) (c .before .before .counted-fate .ensures)
-          (l .loop .token) (l .loop .tokenend) _ _ (λ r. over-passed _ _ _ _ _ r (c .before .if2 .left) (c .if3 .left)) (l .loop .inv .1),
+          (overlay (l .loop .token) (l .loop .tokenend) (l .loop .tokenaction)) (overlay _ _ _) (λ r. over-passed _ _ _ _ _ _ _ r (c .before .if2 .left) (c .if3 .left)) (l .loop .inv .1),
       l .loop .inv .2,
     )
 
@@ -166,7 +166,7 @@ returns-2 : tie.Need-returns-2 Inv-loop μ-loop
 returns-2 c =
     let l = c .before .before in
     let a = c .before .before .before .before .before .before .args in
-    c .rebuilt2 .ensures ∙ over-end (a .files) (now (a .sheet)) (now (a .fates)) (a .file) (l .loop .place) (l .loop .token) (l .loop .tokenend) (c .before .loop-test .left) (l .loop .inv .2) ∙ l .loop .inv .1
+    c .rebuilt2 .ensures ∙ over-end (a .files) (now (a .sheet)) (now (a .fates)) (a .file) (l .loop .place) (l .loop .token) (l .loop .tokenend) (l .loop .tokenaction) (c .before .loop-test .left) (l .loop .inv .2) ∙ l .loop .inv .1
 
 pub rebuilt-row-spec : {M : Type 1} → statement M
 rebuilt-row-spec =

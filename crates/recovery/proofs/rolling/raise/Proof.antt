@@ -80,13 +80,13 @@ module _ {M : Type 1} (𝓤 : URA M) (H : Heap 𝓤) (A : Atoms 𝓤) (W : Given
 
   -- the row with these ends
   abbrev h′ : ℕ → ℕ → Row
-  h′ m k = record { mark = h .mark; current = h .current; currentend = m; token = h .token; tokenend = k }
+  h′ m k = record { mark = h .mark; current = h .current; currentend = m; token = h .token; tokenend = k; tokenaction = h .tokenaction }
 
   abbrev at : List Val × (List Val × (List Val × Unit {0}))
   at = (vptr b o ∷ [], (vint w64 n ∷ [], (vint w64 t ∷ [], tt)))
 
   abbrev mach : ℕ → ℕ → Val
-  mach m k = vstruct (vcons (vint w64 (h .mark)) (vcons (vint w64 (h .current)) (vcons (vint w64 m) (vcons (vint w64 (h .token)) (vcons (vint w64 k) vnil)))))
+  mach m k = vstruct (vcons (vint w64 (h .mark)) (vcons (vint w64 (h .current)) (vcons (vint w64 m) (vcons (vint w64 (h .token)) (vcons (vint w64 k) (vcons (vint w64 (h .tokenaction)) vnil))))))
 
   abbrev Was : Type 0
   Was = Is T.the-row h (LL.vals T.the-type T′.the-laws h)

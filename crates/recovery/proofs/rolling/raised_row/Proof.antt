@@ -61,7 +61,7 @@ Raise 𝓤 H A at-mem run = tripleOf 𝓤 H A raise.signature (raise.spec 𝓤 H
 
 module _ {M : Type 1} (𝓤 : URA M) (H : Heap 𝓤) (A : Atoms 𝓤) (W : Given 𝓤 H A) (at-mem : Memory → SProp 𝓤) (run : Routine → Fun 𝓤) (h : Row) (n t : ℕ) (n-fits : n < 2 ^ 64) (t-fits : t < 2 ^ 64) where
   abbrev mach : Val
-  mach = vstruct (vcons (vint w64 (h .mark)) (vcons (vint w64 (h .current)) (vcons (vint w64 (h .currentend)) (vcons (vint w64 (h .token)) (vcons (vint w64 (h .tokenend)) vnil)))))
+  mach = vstruct (vcons (vint w64 (h .mark)) (vcons (vint w64 (h .current)) (vcons (vint w64 (h .currentend)) (vcons (vint w64 (h .token)) (vcons (vint w64 (h .tokenend)) (vcons (vint w64 (h .tokenaction)) vnil))))))
 
   abbrev a : Row × (ℕ × (ℕ × Unit {0}))
   a = (h, (n, (t, tt)))

@@ -1,5 +1,6 @@
 -- `recovery::rows::row_of`: a file's row, or a cold one. Assumes nothing.
 use Rattle.recovery.proofs.Lookups.{is-file, row-none, row-some, row-room}
+use Rattle.recovery.specs.Lent.{rowLength}
 use Rattle.encoding.proofs.Logic.{refused, passed}
 use denote.Ref.{now}
 use Prim.Native.Nat.{_/_}
@@ -21,7 +22,7 @@ returns c =
 sub-read-row : tie.Need-sub-read-row
 sub-read-row c =
     let a = c .before .before .before .args in
-    let q = is-file (length (now (a .rows)) / 5) (a .file) (passed (c .before .has-file .ensures) (c .if1 .left)) in
+    let q = is-file (length (now (a .rows)) / rowLength) (a .file) (passed (c .before .has-file .ensures) (c .if1 .left)) in
     omega arith
 
 read-row-requires : tie.Need-read-row-requires

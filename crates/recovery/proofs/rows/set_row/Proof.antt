@@ -1,5 +1,6 @@
 -- `recovery::rows::set_row`: a file's row, or nothing. Assumes nothing.
 use Rattle.recovery.proofs.Lookups.{is-file, set-none, set-some, row-room}
+use Rattle.recovery.specs.Lent.{rowLength}
 use Rattle.encoding.proofs.Logic.{refused, passed}
 use denote.Ref.{now}
 use Prim.Native.Nat.{_/_}
@@ -21,7 +22,7 @@ returns c =
 sub-write-row : tie.Need-sub-write-row
 sub-write-row c =
     let a = c .before .before .before .before .args in
-    let q = is-file (length (now (a .rows)) / 5) (a .file) (passed (c .before .before .has-file .ensures) (c .before .if1 .left)) in
+    let q = is-file (length (now (a .rows)) / rowLength) (a .file) (passed (c .before .before .has-file .ensures) (c .before .if1 .left)) in
     omega arith
 
 write-row-requires : tie.Need-write-row-requires

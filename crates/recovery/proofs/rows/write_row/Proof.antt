@@ -1,4 +1,4 @@
--- `recovery::rows::write_row`: five stores. Assumes nothing.
+-- `recovery::rows::write_row`: a store for each number. Assumes nothing.
 use Rattle.recovery.proofs.FlatRows.{put-stores}
 use lib.ListN.{length-set}
 use native.Mathlib.Omega.{arith}
@@ -51,6 +51,15 @@ mul-rows-5 c = search needs
 slice-write-rows-5 : tie.Need-slice-write-rows-5
 slice-write-rows-5 c = simp length-set (omega arith)
 
+add-rows-5 : tie.Need-add-rows-5
+add-rows-5 c = search needs
+
+mul-rows-6 : tie.Need-mul-rows-6
+mul-rows-6 c = search needs
+
+slice-write-rows-6 : tie.Need-slice-write-rows-6
+slice-write-rows-6 c = simp length-set (omega arith)
+
 same-length : tie.Need-same-length
 same-length c = search needs
 
@@ -76,5 +85,8 @@ write-row-spec =
     add-rows-4
     mul-rows-5
     slice-write-rows-5
+    add-rows-5
+    mul-rows-6
+    slice-write-rows-6
     same-length
     returns)
