@@ -43,6 +43,10 @@ static const char *const row_kinds[ROWS] = {"a token and its action", "a token a
                                             "no page in a row that names the action", "a row that is settled beside one that is passed over"};
 static int seen_row[REBUILD + 1][ROWS];
 
+/* The calls that come to a row. */
+enum { ROW_CALLS = 5 };
+static const enum kind row_calls[ROW_CALLS] = {READ, WRITE, REBUILD, COMMIT, ABORT};
+
 /* ---- the plain calls: each gives the numbers of its answer */
 
 static uint64_t action_line(uint64_t action) {
@@ -545,12 +549,11 @@ static uint64_t wrong_action(uint64_t right) {
 
 /* A row that names another action than its token's, or names one and has no token, and a call that goes by that. */
 static void misname(struct call *q) {
-    static const enum kind kinds[] = {READ, WRITE, REBUILD, COMMIT, ABORT};
     uint64_t file = file_with_token();
     if (file == 0)
         return;
     uint64_t *row = row_in(&kept, file);
-    *q = (struct call){kinds[below(5)], file, kept.floor + row[CURRENT_END] + 1 + below(3), row[TOKEN_ACTION], 0, NULL};
+    *q = (struct call){row_calls[below(ROW_CALLS)], file, kept.floor + row[CURRENT_END] + 1 + below(3), row[TOKEN_ACTION], 0, NULL};
     if (q->kind == READ && below(2))
         q->action = 0;
     if (below(8) == 0)
@@ -703,10 +706,9 @@ static int all_seen(void) {
 
 /* So has each kind of row that a call can come to. */
 static int all_rows_seen(void) {
-    static const enum kind kinds[] = {READ, WRITE, REBUILD, COMMIT, ABORT};
     int all = 1;
-    for (int i = 0; i < 5 * ROWS; i++) {
-        enum kind kind = kinds[i / ROWS];
+    for (int i = 0; i < ROW_CALLS * ROWS; i++) {
+        enum kind kind = row_calls[i / ROWS];
         int is_met = i % ROWS < NAMINGS || kind == COMMIT || kind == ABORT;
         if (is_met && seen_row[kind][i % ROWS] < 100)
             all = (printf("call %d met %d times: %s\n", kind, seen_row[kind][i % ROWS], row_kinds[i % ROWS]), 0);
