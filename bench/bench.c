@@ -14,8 +14,9 @@ static const uint8_t value[32] = "opens at eight, shuts at six";
 static const uint8_t none[32];
 
 /* How a sheet is filled: actions are an opening, six images and an outcome each, and may have a small one below them, an opening and its
-   outcome. Images are all under one opening, and their starts grow with the place, or fall. */
-enum fill { BLANK, OPENINGS, IMAGES, FALLING_IMAGES, TORN, ACTIONS, SMALL_ACTION, LINKS, TOKENS };
+   outcome. Images are all under one opening, and their starts grow with the place, or fall. Tokens are one a file, all of one action or all but
+   the last of another. */
+enum fill { BLANK, OPENINGS, IMAGES, FALLING_IMAGES, TORN, ACTIONS, SMALL_ACTION, LINKS, TOKENS, OTHERS_TOKENS };
 
 struct sheet {
     uint8_t *bytes, *fates;
@@ -51,7 +52,7 @@ static uint64_t run_pack(struct sheet s) { return bench_pack(s.bytes, PAGE * s.p
 static inline __attribute__((always_inline)) uint64_t called(struct sheet s, uint64_t files, uint64_t end, uint64_t undecided,
                                                              struct call c, int which) {
     uint64_t told[TOLD];
-    make_call((struct lent){s.bytes, PAGE * s.pages, s.fates, s.pages, s.numbers, 5 * files, end, 0, undecided}, c, told);
+    make_call((struct lent){s.bytes, PAGE * s.pages, s.fates, s.pages, s.numbers, ROW_LENGTH * files, end, 0, undecided}, c, told);
     return told[which];
 }
 static uint64_t run_open(struct sheet s) { return called(s, FILES, 0, 0, (struct call){.kind = OPEN}, END); }
@@ -85,9 +86,9 @@ static uint64_t act(struct sheet s, uint64_t files) {
     uint64_t end = 0, done = 0;
     memset(s.bytes, 0, PAGE * s.pages);
     memset(s.fates, 0, s.pages);
-    memset(s.numbers, 0, 5 * FILES * sizeof *s.numbers);
+    memset(s.numbers, 0, ROW_LENGTH * FILES * sizeof *s.numbers);
     for (uint64_t f = 0; f < files; f++)
-        s.numbers[5 * f] = 1; /* rebuilt: these files have no version */
+        s.numbers[ROW_LENGTH * f + MARK] = 1; /* rebuilt: these files have no version */
     for (; end + 4 <= s.pages; done++) {
         uint64_t action = called(s, files, end, 0, (struct call){.kind = BEGIN}, FIRST);
         for (uint64_t k = 1; k <= 2; k++)
@@ -124,16 +125,28 @@ static uint64_t run_past(struct sheet s) {
 }
 static uint64_t run_past_sqlite(struct sheet s) { return sqlite_read(READS, s.pages - back); }
 static uint64_t run_act_sqlite(struct sheet s) { return sqlite_act(s.pages / 4, 8, value, USED); }
+/* A rebuilt row with a token and no version. */
+static void set_token(uint64_t *row, uint64_t place, uint64_t action) {
+    row[MARK] = 1, row[CURRENT] = row[CURRENT_END] = 0;
+    row[TOKEN] = place, row[TOKEN_END] = 1, row[TOKEN_ACTION] = action;
+}
 /* A commit that settles a token of every file, and the outcome, fate and rows put back. */
 static uint64_t run_commit(struct sheet s) {
-    for (uint64_t f = 0; f < FILES; f++) {
-        uint64_t *row = s.numbers + 5 * f;
-        row[0] = 1, row[1] = row[2] = 0, row[3] = f + 2, row[4] = 1;
-    }
+    for (uint64_t f = 0; f < FILES; f++)
+        set_token(s.numbers + ROW_LENGTH * f, f + 2, 1);
     memset(s.bytes + PAGE * (FILES + 1), 0, PAGE);
     s.fates[0] = 1;
     uint64_t which = called(s, FILES, FILES + 1, 1, (struct call){.kind = COMMIT, .action = 1}, WHICH);
-    return which == STORED && s.numbers[1] == 2 && s.numbers[5 * FILES - 4] == FILES + 1;
+    return which == STORED && s.numbers[CURRENT] == 2 && s.numbers[ROW_LENGTH * (FILES - 1) + CURRENT] == FILES + 1;
+}
+/* A commit of action 2, which has the last file's token alone, and the outcome, fate and row put back. */
+static uint64_t run_commit_past(struct sheet s) {
+    uint64_t *last = s.numbers + ROW_LENGTH * (FILES - 1);
+    set_token(last, FILES + 2, 2);
+    memset(s.bytes + PAGE * (FILES + 2), 0, PAGE);
+    s.fates[1] = 1;
+    uint64_t which = called(s, FILES, FILES + 2, 2, (struct call){.kind = COMMIT, .action = 2}, WHICH);
+    return which == STORED && last[CURRENT] == FILES + 2 && s.numbers[TOKEN] == 3;
 }
 
 struct row {
@@ -183,26 +196,39 @@ static void fill_actions(struct sheet s, uint64_t small) {
     }
 }
 
+/* So many openings, and above them a token of each file: the first action's, but the last file's is the last one's. */
+static void fill_tokens(struct sheet s, uint64_t openings) {
+    for (uint64_t p = 1; p <= openings + FILES; p++) {
+        uint8_t *page = s.bytes + PAGE * (p - 1);
+        uint64_t file = p - openings, action = file == FILES ? openings : 1;
+        if (p <= openings) {
+            plain_pack(page, 1, 0, 0, p, 0, 0, none, p);
+            s.fates[p - 1] = 1;
+        } else {
+            plain_pack(page, 2, USED, file, action, 0, 1, value, p);
+            set_token(s.numbers + ROW_LENGTH * (file - 1), p, action);
+        }
+    }
+}
+
 static struct sheet filled(enum fill fill, uint64_t pages) {
-    struct sheet s = {calloc(pages, PAGE), calloc(pages, 1), calloc(5 * FILES, sizeof *s.numbers), pages};
+    struct sheet s = {calloc(pages, PAGE), calloc(pages, 1), calloc(ROW_LENGTH * FILES, sizeof *s.numbers), pages};
     if (!s.bytes || !s.fates || !s.numbers)
         exit(1);
-    int is_of_actions = fill == ACTIONS || fill == SMALL_ACTION;
+    int is_of_actions = fill == ACTIONS || fill == SMALL_ACTION, is_of_tokens = fill == TOKENS || fill == OTHERS_TOKENS;
     if (is_of_actions) {
         fill_actions(s, fill == SMALL_ACTION ? 2 : 0);
         run_open(s); /* sets the fates that rebuild, read and test go by */
     }
+    if (is_of_tokens)
+        fill_tokens(s, fill == TOKENS ? 1 : 2);
     s.fates[0] = fill == LINKS ? 2 : s.fates[0];
-    for (uint64_t p = 1; fill != BLANK && !is_of_actions && p <= pages; p++) {
+    for (uint64_t p = 1; fill != BLANK && !is_of_actions && !is_of_tokens && p <= pages; p++) {
         uint8_t *page = s.bytes + PAGE * (p - 1);
-        if (fill == TOKENS && p > FILES + 1)
-            break;
         if (fill == OPENINGS || p == 1)
             plain_pack(page, 1, 0, 0, p, 0, 0, none, p);
         else if (fill == LINKS)
             plain_pack(page, 2, USED, 1, 1, p > 2 ? p - 1 : 0, p, value, p);
-        else if (fill == TOKENS)
-            plain_pack(page, 2, USED, p - 1, 1, 0, 1, value, p);
         else
             plain_pack(page, 2, USED, 1 + p % (FILES - 1), 1, p / 2, fill == FALLING_IMAGES ? pages + 2 - p : p, value, p);
         if (fill == TORN)
@@ -237,7 +263,7 @@ static void show_progress(const char *title, int round, int rounds) {
 
 static void show_row(const struct row *row, double first) {
     double ratio = row->best / first;
-    printf("  %-38s %10.2f %8.3f", row->what, row->best, ratio);
+    printf("  %-48s %10.2f %8.3f", row->what, row->best, ratio);
     if (row->reach > 0)
         printf(" %8.2f%s", row->reach, ratio <= row->reach ? "" : " missed");
     printf("\n");
@@ -254,7 +280,7 @@ static void table(const char *title, struct row *rows, int count, uint64_t pages
         for (int i = 0; i < count; i++)
             time_row(&rows[i], turns);
     }
-    printf("%-40s %10s %8s %8s\n", title, "ns each", "ratio", "reach");
+    printf("%-50s %10s %8s %8s\n", title, "ns each", "ratio", "reach");
     for (int i = 0; i < count; i++) {
         show_row(&rows[i], rows[0].best);
         free(rows[i].sheet.bytes);
@@ -307,10 +333,11 @@ static void time_calls(void) {
     struct row calls[] = {
         {"page test", run_test, IMAGES, -2, 0, 0, {0}, 0},
         {"begin, 2 writes, commit; 8 files", run_act_few, BLANK, 256, 16, 0, {0}, 256},
-        {"begin, 2 writes, commit; 256 files", run_act_many, BLANK, 256, 0, 0, {0}, 256},
+        {"begin, 2 writes, commit; 256 files", run_act_many, BLANK, 256, 23, 0, {0}, 256},
         {"read of the current version", run_current, ACTIONS, -2, 3, 0, {0}, 0},
         {"read by 1,022 links, a link", run_links, LINKS, 5, 2, 0, {0}, 1022},
         {"commit that settles 256 rows, a row", run_commit, TOKENS, 1, 0, 0, {0}, FILES},
+        {"commit past 255 tokens of another action, a row", run_commit_past, OTHERS_TOKENS, 1, 0, 0, {0}, FILES},
         {"commit asked again after the commit", run_again, ACTIONS, -2, 0, 0, {0}, 0},
     };
     TABLE("the calls, 1,024 pages", calls, 1024, 100, 8);

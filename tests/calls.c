@@ -28,7 +28,26 @@ static const char *const met[MET] = {"the same decision again", "the opposite de
                                      "no token, but a token end above the start"};
 static int seen_met[MET];
 
-/* ---- the plain calls: each gives the five numbers of its answer */
+/* A rebuilt row that a read, write or rebuild comes to, its mark and places being right, or a row that a commit or abort comes to: it is
+   right, or one thing of it is wrong; for a decision that is a row of the action or one that names it. The first are those in which the
+   token's action alone is wrong. */
+enum naming { RIGHT, NAMES_NONE, NAMES_UNDECIDED, NAMES_DECIDED, NAMES_NO_ACTION, NAMES_ABOVE, NAMES_HUGE, NAMES_WITHOUT, NAMINGS,
+              COLD_NAMING = NAMINGS, MARK_ABOVE_1, ANOTHERS_IMAGE, NO_IMAGE, ANOTHER_FILE, IMAGE_ABOVE, NO_PAGE, BESIDE, ROWS };
+static const char *const row_kinds[ROWS] = {"a token and its action", "a token and action 0", "a token and another undecided action",
+                                            "a token and a decided action", "a token and a place that is no action",
+                                            "a token and a number above the end", "a token and a number from 2^32 on",
+                                            "an action without a token", "a cold row that names the action",
+                                            "a mark above 1 in a row that names the action", "another's image in a row that names the action",
+                                            "no image in a row that names the action", "another file's image in a row that names the action",
+                                            "an image above the end in a row that names the action",
+                                            "no page in a row that names the action", "a row that is settled beside one that is passed over"};
+static int seen_row[REBUILD + 1][ROWS];
+
+/* The calls that come to a row. */
+enum { ROW_CALLS = 5 };
+static const enum kind row_calls[ROW_CALLS] = {READ, WRITE, REBUILD, COMMIT, ABORT};
+
+/* ---- the plain calls: each gives the numbers of its answer */
 
 static uint64_t action_line(uint64_t action) {
     if (action < 1 || action > kept.end || action > pages || kept.fates[action - 1] < 1 || kept.fates[action - 1] > 3)
@@ -45,7 +64,7 @@ static int stored(uint64_t a[TOLD], uint64_t need, int kind, int small, uint64_t
         return no(a, 12, 0), 0;
     kept.end++;
     plain_pack(page_at(kept.end), kind, small, file, kind == 1 ? kept.end : action, link, start, value, kept.end);
-    answer(a, STORED, kept.end, 0, 0, 0);
+    answer(a, STORED, kept.end, 0, 0);
     return 1;
 }
 
@@ -58,17 +77,18 @@ static void plain_begin(uint64_t a[TOLD]) {
     kept.undecided++;
 }
 
-/* Whether a file's row is rebuilt and its token is the action's. */
+/* Whether a file's row is rebuilt, names the action, and has a token that is the action's. */
 static int holds_token(uint64_t file, uint64_t action, uint64_t end) {
-    const uint64_t *row = kept.rows + 5 * (file - 1);
-    return row[0] == 1 && row[3] >= 1 && row[3] <= end && is_image(row[3], file) && action_of(row[3]) == action;
+    const uint64_t *row = row_in(&kept, file);
+    return row[MARK] == 1 && row[TOKEN_ACTION] == action && row[TOKEN] >= 1 && row[TOKEN] <= end && is_image(row[TOKEN], file)
+           && action_of(row[TOKEN]) == action;
 }
 
 /* Where the action is decided already: the fate says which decision it was, the sheet where it lies. */
 static void plain_decide(uint64_t a[TOLD], uint64_t action, int verdict) {
     uint64_t line = action_line(action), end = kept.end;
     if (line == 6 && kept.fates[action - 1] == verdict + 1)
-        return answer(a, STORED, outcome_of(action, end), 0, 0, 0);
+        return answer(a, STORED, outcome_of(action, end), 0, 0);
     if (line)
         return no(a, line, 0);
     if (!stored(a, 1, 3, verdict, 0, action, 0, 0, none))
@@ -76,23 +96,13 @@ static void plain_decide(uint64_t a[TOLD], uint64_t action, int verdict) {
     kept.fates[action - 1] = (uint8_t)(verdict + 1);
     kept.undecided -= kept.undecided > 0;
     for (uint64_t f = 1; f <= FILES; f++) {
-        uint64_t *row = kept.rows + 5 * (f - 1);
+        uint64_t *row = row_in(&kept, f);
         if (!holds_token(f, action, end))
             continue;
         if (verdict == 1)
-            row[1] = row[3], row[2] = row[4];
-        row[3] = row[4] = 0;
+            row[CURRENT] = row[TOKEN], row[CURRENT_END] = row[TOKEN_END];
+        row[TOKEN] = row[TOKEN_END] = row[TOKEN_ACTION] = 0;
     }
-}
-
-/* A cold row is rebuilt; then line 7. */
-static int warm(uint64_t a[TOLD], uint64_t file, uint64_t *row) {
-    if (row[0] == 0)
-        row_of(file, kept.fates, kept.end, row);
-    for (int i = 1; i < 5; i += 2)
-        if (row[0] > 1 || (row[i] != 0 && (row[i] > kept.end || !is_image(row[i], file))))
-            return no(a, 7, 0), 0;
-    return 1;
 }
 
 static void raise(uint64_t *end, uint64_t time) { *end = *end < time ? time : *end; }
@@ -106,23 +116,24 @@ static void plain_write(uint64_t a[TOLD], const struct call *q) {
         return no(a, 4, 0);
     if (line)
         return no(a, line, 0);
-    uint64_t *row = kept.rows + 5 * (q->file - 1);
-    if (!warm(a, q->file, row))
+    uint64_t *row = row_in(&kept, q->file);
+    if (!warm(a, &kept, q->file))
         return;
-    if (row[3] && action_of(row[3]) != q->action)
-        return no(a, 8, action_of(row[3]));
-    if (q->time <= row[2] || q->time <= kept.floor)
+    if (row[TOKEN] && action_of(row[TOKEN]) != q->action)
+        return no(a, 8, action_of(row[TOKEN]));
+    if (q->time <= row[CURRENT_END] || q->time <= kept.floor)
         return no(a, 10, 0);
     uint8_t value[32] = {0};
     memcpy(value, q->value, q->length);
-    if (!stored(a, kept.undecided + 1, 2, (int)q->length, q->file, q->action, row[1], q->time, value))
+    if (!stored(a, kept.undecided + 1, 2, (int)q->length, q->file, q->action, row[CURRENT], q->time, value))
         return;
-    row[4] = row[3] ? row[4] : 0;
-    raise(row + 4, q->time);
-    row[3] = place;
+    row[TOKEN_END] = row[TOKEN] ? row[TOKEN_END] : 0;
+    raise(row + TOKEN_END, q->time);
+    row[TOKEN] = place;
+    row[TOKEN_ACTION] = q->action;
 }
 
-static void told_value(uint64_t a[TOLD], uint64_t place) { answer(a, VALUE, place, start_of(place), page_at(place)[1], 0); }
+static void told_value(uint64_t a[TOLD], uint64_t place) { answer(a, VALUE, place, start_of(place), page_at(place)[1]); }
 
 static void plain_read(uint64_t a[TOLD], const struct call *q) {
     uint64_t line = q->action ? action_line(q->action) : 0, place;
@@ -130,27 +141,27 @@ static void plain_read(uint64_t a[TOLD], const struct call *q) {
         return no(a, 3, 0);
     if (line)
         return no(a, line, 0);
-    uint64_t *row = kept.rows + 5 * (q->file - 1);
-    if (!warm(a, q->file, row))
+    uint64_t *row = row_in(&kept, q->file);
+    if (!warm(a, &kept, q->file))
         return;
-    if (row[3] && start_of(row[3]) <= q->time) {
-        if (action_of(row[3]) != q->action)
-            return no(a, 9, action_of(row[3]));
-        raise(row + 4, q->time);
-        return told_value(a, row[3]);
+    if (row[TOKEN] && start_of(row[TOKEN]) <= q->time) {
+        if (action_of(row[TOKEN]) != q->action)
+            return no(a, 9, action_of(row[TOKEN]));
+        raise(row + TOKEN_END, q->time);
+        return told_value(a, row[TOKEN]);
     }
-    for (place = row[1]; place && start_of(place) > q->time;) {
+    for (place = row[CURRENT]; place && start_of(place) > q->time;) {
         uint64_t link = link_of(place);
         if (link && !is_image(link, q->file))
             return no(a, 13, place);
         place = link;
     }
-    if (place == row[1])
-        raise(row + 2, q->time);
+    if (place == row[CURRENT])
+        raise(row + CURRENT_END, q->time);
     if (place)
         told_value(a, place);
     else
-        answer(a, NOTHING, 0, 0, 0, 0);
+        answer(a, NOTHING, 0, 0, 0);
 }
 
 static void plain_call(uint64_t a[TOLD], const struct call *q) {
@@ -166,7 +177,9 @@ static void plain_call(uint64_t a[TOLD], const struct call *q) {
     case TEST:
         if (action_line(q->action) == 5)
             return no(a, 5, 0);
-        return answer(a, FATE, kept.fates[q->action - 1], outcome_of(q->action, kept.end), 0, 0);
+        return answer(a, FATE, kept.fates[q->action - 1], outcome_of(q->action, kept.end), 0);
+    case REBUILD:
+        return plain_rebuild(a, &kept, q->file);
     default:
         plain_decide(a, q->action, q->kind == COMMIT ? 1 : 2);
     }
@@ -194,37 +207,35 @@ static void meet_again(uint64_t action) {
     seen_met[PAGE_ABOVE] += kept.end < pages && !is_blank(kept.end + 1);
     for (uint64_t f = 1; f <= FILES; f++) {
         seen_met[TOKEN_LEFT] += holds_token(f, action, kept.end);
-        seen_met[COLD_ROW] += kept.rows[5 * (f - 1)] == 0;
+        seen_met[COLD_ROW] += row_in(&kept, f)[MARK] == 0;
     }
 }
 
 /* What is met where the action has the token already. */
-static void meet_own(const uint64_t row[5], uint64_t start, int is_cold, int is_late) {
-    uint64_t before = start_of(row[3]);
+static void meet_own(const uint64_t row[ROW_LENGTH], uint64_t start, int is_cold, int is_late) {
+    uint64_t before = start_of(row[TOKEN]);
     int has_room = pages - kept.end > kept.undecided;
     seen_met[OWN_10] += !is_late;
     seen_met[OWN_11] += is_late && !has_room;
     if (!is_late || !has_room)
         return;
     seen_met[start < before ? OWN_LOWER : start == before ? OWN_SAME : OWN_HIGHER]++;
-    seen_met[row[4] > start ? OWN_END_KEPT : OWN_END_RAISED]++;
+    seen_met[row[TOKEN_END] > start ? OWN_END_KEPT : OWN_END_RAISED]++;
     seen_met[OWN_COLD] += is_cold;
-    seen_met[OWN_BELOW_CURRENT] += row[3] < row[1];
+    seen_met[OWN_BELOW_CURRENT] += row[TOKEN] < row[CURRENT];
 }
 
 /* What is met where a write comes to line 8. */
 static void meet_write(const struct call *q) {
-    uint64_t row[5], a[TOLD];
-    if (q->file < 1 || q->file > FILES || q->length > 32 || action_line(q->action))
+    struct kept copy = kept;
+    uint64_t a[TOLD], *row = row_in(&copy, q->file);
+    int is_cold = row[MARK] == 0;
+    if (!warm(a, &copy, q->file))
         return;
-    memcpy(row, kept.rows + 5 * (q->file - 1), sizeof row);
-    int is_cold = row[0] == 0;
-    if (!warm(a, q->file, row))
-        return;
-    int is_late = q->time > row[2] && q->time > kept.floor;
-    if (row[3] == 0) {
-        seen_met[STRAY_END] += is_late && row[4] > q->time;
-    } else if (action_of(row[3]) == q->action) {
+    int is_late = q->time > row[CURRENT_END] && q->time > kept.floor;
+    if (row[TOKEN] == 0) {
+        seen_met[STRAY_END] += is_late && row[TOKEN_END] > q->time;
+    } else if (action_of(row[TOKEN]) == q->action) {
         meet_own(row, q->time, is_cold, is_late);
     } else {
         seen_met[OTHERS_TOKEN]++;
@@ -232,20 +243,88 @@ static void meet_write(const struct call *q) {
     }
 }
 
-static void meet(const struct call *q) {
-    if (kept.end > pages || kept.undecided > kept.end || action_line(q->action) == 5)
+/* What the token's action is in a row whose other numbers are right; NAMINGS where there is no token, and no action. */
+static enum naming naming_of(const uint64_t row[ROW_LENGTH]) {
+    uint64_t named = row[TOKEN_ACTION];
+    if (row[TOKEN] == 0)
+        return named ? NAMES_WITHOUT : NAMINGS;
+    if (named == action_of(row[TOKEN]))
+        return RIGHT;
+    if (named == 0 || named > kept.end)
+        return named == 0 ? NAMES_NONE : named >> 32 ? NAMES_HUGE : NAMES_ABOVE;
+    uint8_t fate = kept.fates[named - 1];
+    return fate == 1 ? NAMES_UNDECIDED : fate == 2 || fate == 3 ? NAMES_DECIDED : NAMES_NO_ACTION;
+}
+
+/* What a file's row is for the decision of an action: ROWS if it neither names it nor holds its token, or if more than one thing is wrong. */
+static int row_kind(uint64_t file, uint64_t action) {
+    const uint64_t *row = row_in(&kept, file);
+    uint64_t place = row[TOKEN];
+    int names = row[TOKEN_ACTION] == action, is_own = place && place <= pages && is_image(place, file) && action_of(place) == action;
+    if (is_own && place <= kept.end && row[MARK] == 1)
+        return (int)naming_of(row);
+    if (!names || (row[MARK] != 1 && (!is_own || place > kept.end)))
+        return ROWS;
+    if (row[MARK] != 1)
+        return row[MARK] ? MARK_ABOVE_1 : COLD_NAMING;
+    if (place == 0 || place > pages)
+        return place ? NO_PAGE : NAMES_WITHOUT;
+    if (place > kept.end)
+        return is_own ? IMAGE_ABOVE : ROWS;
+    if (!is_image(place, file_of(place)))
+        return NO_IMAGE;
+    return file_of(place) == file ? ANOTHERS_IMAGE : action_of(place) == action ? ANOTHER_FILE : ROWS;
+}
+
+/* What is met where a commit or abort stores its outcome. */
+static void meet_rows(const struct call *q) {
+    int count[2] = {0};
+    if (kept.end == pages || !is_blank(kept.end + 1))
         return;
-    uint8_t fate = kept.fates[q->action - 1];
-    if (q->kind == TEST)
-        seen_met[FALSELY_OPEN] += fate == 1 && outcome_of(q->action, kept.end);
+    for (uint64_t f = 1; f <= FILES; f++) {
+        int kind = row_kind(f, q->action);
+        if (kind == ROWS)
+            continue;
+        seen_row[q->kind][kind]++;
+        count[kind == RIGHT]++;
+    }
+    seen_row[q->kind][BESIDE] += count[0] && count[1];
+}
+
+/* What is met where a read, write or rebuild may come to line 7. */
+static void meet_row(const struct call *q) {
+    uint64_t line = q->kind == REBUILD || (q->kind == READ && q->action == 0) ? 0 : action_line(q->action);
+    if (q->file < 1 || q->file > FILES || (q->kind == WRITE && q->length > 32) || line)
+        return;
+    const uint64_t *row = row_in(&kept, q->file);
+    if (row[MARK] == 1 && places_hold(row, q->file, kept.end) && naming_of(row) < NAMINGS)
+        seen_row[q->kind][naming_of(row)]++;
     if (q->kind == WRITE)
         meet_write(q);
-    if ((q->kind != COMMIT && q->kind != ABORT) || fate == 1)
-        return;
+}
+
+/* What is met where an action is decided, or decided again. */
+static void meet_decision(const struct call *q) {
+    uint8_t fate = kept.fates[q->action - 1];
+    if (fate == 1)
+        return meet_rows(q);
     int is_same = fate == (q->kind == COMMIT ? 2 : 3);
     seen_met[is_same ? SAME : OPPOSITE]++;
     if (is_same)
         meet_again(q->action);
+}
+
+static void meet(const struct call *q) {
+    if (kept.end > pages || kept.undecided > kept.end)
+        return;
+    if (q->kind == READ || q->kind == WRITE || q->kind == REBUILD)
+        return meet_row(q);
+    if (q->kind == BEGIN || action_line(q->action) == 5)
+        return;
+    if (q->kind == TEST)
+        seen_met[FALSELY_OPEN] += kept.fates[q->action - 1] == 1 && outcome_of(q->action, kept.end);
+    else
+        meet_decision(q);
 }
 
 /* ---- random runs */
@@ -311,7 +390,7 @@ static void decide_again(struct call *q, uint64_t action) {
 
 /* The action of a file's token if its row has one, else another. */
 static uint64_t token_action(uint64_t file, uint64_t other) {
-    uint64_t token = kept.rows[5 * ((file + FILES - 1) % FILES) + 3];
+    uint64_t token = row_in(&kept, 1 + (file + FILES - 1) % FILES)[TOKEN];
     return token && token <= pages ? action_of(token) : other;
 }
 
@@ -328,7 +407,7 @@ static struct ask random_ask(void) {
     if (q->kind == READ && below(3))
         q->action = 0;
     if (q->kind == WRITE && below(5))
-        q->time = kept.floor + kept.rows[5 * ((q->file + FILES - 1) % FILES) + 2] + 1 + below(3);
+        q->time = kept.floor + row_in(&kept, 1 + (q->file + FILES - 1) % FILES)[CURRENT_END] + 1 + below(3);
     if ((q->kind == WRITE || q->kind == READ) && below(3) == 0)
         q->action = token_action(q->file, q->action);
     if (below(60) == 0)
@@ -337,6 +416,8 @@ static struct ask random_ask(void) {
         q->kind = COMMIT;
     if (below(20) == 0)
         decide_again(q, known_action());
+    if (below(20) == 0)
+        q->kind = REBUILD;
     for (size_t i = 0; i < q->length; i++)
         a.value[i] = (uint8_t)below(256);
     return a;
@@ -344,7 +425,7 @@ static struct ask random_ask(void) {
 
 /* The version before a current one. */
 static uint64_t older(void) {
-    uint64_t place = kept.rows[5 * below(FILES) + 1];
+    uint64_t place = row_in(&kept, 1 + below(FILES))[CURRENT];
     return place && place <= pages ? link_of(place) : 0;
 }
 
@@ -365,7 +446,7 @@ static void damage(void) {
         kept.rows[below(NUMBERS)] = below(pages + 2);
         break;
     case 1:
-        kept.rows[5 * below(FILES)] = below(4);
+        row_in(&kept, 1 + below(FILES))[MARK] = below(4);
         break;
     case 2:
         kept.fates[below(pages)] = (uint8_t)below(6);
@@ -420,16 +501,106 @@ static void mislead(struct call *q) {
 
 /* A row whose token is gone but for its end, or lies below the current image, and a write of its file. */
 static void twist(struct call *q) {
-    uint64_t file = 1 + below(FILES), *row = kept.rows + 5 * (file - 1), place = row[3];
+    uint64_t file = 1 + below(FILES), *row = row_in(&kept, file), place = row[TOKEN];
     if (place == 0 || place > pages || !is_image(place, file))
         return;
-    *q = (struct call){WRITE, file, kept.floor + row[2] + 1 + below(3), action_of(place), 0, NULL};
-    row[3] = 0;
+    *q = (struct call){WRITE, file, kept.floor + row[CURRENT_END] + 1 + below(3), action_of(place), 0, NULL};
+    row[TOKEN] = row[TOKEN_ACTION] = 0;
     if (below(2))
-        return raise(row + 4, q->time + below(3));
-    row[1] = place;
-    for (uint64_t p = place - 1; p > 0 && row[3] == 0; p--)
-        row[3] = is_image(p, file) && action_of(p) == q->action ? p : 0;
+        return raise(row + TOKEN_END, q->time + below(3));
+    row[CURRENT] = place;
+    for (uint64_t p = place - 1; p > 0 && row[TOKEN] == 0; p--)
+        row[TOKEN] = is_image(p, file) && action_of(p) == q->action ? p : 0;
+    row[TOKEN_ACTION] = row[TOKEN] ? q->action : 0;
+}
+
+/* A file whose row is rebuilt and right, and has a token, from some file on; 0 if there is none. */
+static uint64_t file_with_token(void) {
+    uint64_t from = below(FILES);
+    for (uint64_t i = 0; i < FILES && kept.end <= pages; i++) {
+        uint64_t file = 1 + (from + i) % FILES;
+        const uint64_t *row = row_in(&kept, file);
+        if (row[MARK] == 1 && row[TOKEN] && row_holds(row, file, kept.end))
+            return file;
+    }
+    return 0;
+}
+
+/* Mostly not a token's action. */
+static uint64_t wrong_action(uint64_t right) {
+    switch (below(9)) {
+    case 0:
+    case 1:
+    case 2:
+        return random_action();
+    case 3:
+        return known_action();
+    case 4:
+    case 5:
+        return below(kept.end + 1);
+    case 6:
+        return kept.end + 1 + below(3);
+    case 7:
+        return below(2) ? UINT64_MAX : right + ((uint64_t)1 << (32 + below(32)));
+    default:
+        return 0;
+    }
+}
+
+/* A row that names another action than its token's, or names one and has no token, and a call that goes by that. */
+static void misname(struct call *q) {
+    uint64_t file = file_with_token();
+    if (file == 0)
+        return;
+    uint64_t *row = row_in(&kept, file);
+    *q = (struct call){row_calls[below(ROW_CALLS)], file, kept.floor + row[CURRENT_END] + 1 + below(3), row[TOKEN_ACTION], 0, NULL};
+    if (q->kind == READ && below(2))
+        q->action = 0;
+    if (below(8) == 0)
+        row[TOKEN] = row[TOKEN_END] = 0;
+    else
+        row[TOKEN_ACTION] = wrong_action(row[TOKEN_ACTION]);
+}
+
+/* An image above the end, with a blank page between, in a row. */
+static uint64_t put_above(uint64_t row[ROW_LENGTH], uint64_t file) {
+    uint64_t place = kept.end + 2;
+    if (place > pages || !is_blank(place))
+        return 0;
+    plain_pack(page_at(place), 2, 0, file, row[TOKEN_ACTION], 0, 1, none, place);
+    row[TOKEN] = place;
+    return place;
+}
+
+/* A row that names its token's action, and is wrong in its mark or token, and a decision of that action. Answers the place of an image
+   that was put above the end, 0 if none was. */
+static uint64_t mislay(struct call *q) {
+    uint64_t file = file_with_token();
+    if (file == 0)
+        return 0;
+    uint64_t *row = row_in(&kept, file), token = row[TOKEN];
+    int kind = COLD_NAMING + (int)below(BESIDE - COLD_NAMING + 1);
+    *q = (struct call){below(2) ? COMMIT : ABORT, file, 0, row[TOKEN_ACTION], 0, NULL};
+    if (kind == BESIDE)
+        kind = ANOTHER_FILE; /* it is seldom found */
+    if (kind == IMAGE_ABOVE)
+        return put_above(row, file);
+    if (kind == COLD_NAMING || kind == MARK_ABOVE_1)
+        row[MARK] = kind == COLD_NAMING ? 0 : below(2) ? 2 : UINT64_MAX;
+    if (kind == NO_PAGE)
+        row[TOKEN] = below(2) ? pages + 1 : UINT64_MAX;
+    for (uint64_t i = 0; i < 2 * kept.end && row_kind(file, q->action) != kind; i++)
+        row[TOKEN] = 1 + below(kept.end);
+    if (row_kind(file, q->action) != kind)
+        row[TOKEN] = token;
+    return 0;
+}
+
+/* Rows that line 7 refuses are made cold, so that they do not hide what else there is to meet. */
+static void mend_rows(void) {
+    for (uint64_t f = 1; f <= FILES && kept.end <= pages; f++)
+        if (!row_holds(row_in(&kept, f), f, kept.end))
+            row_in(&kept, f)[MARK] = 0;
 }
 
 /* The call that was made is cut: what stood before it comes back from some byte of its page on. */
@@ -439,26 +610,39 @@ static int cut_is_right(uint64_t place) {
     return n == 0 ? is_blank(place) : n == PAGE ? plain_fits(page_at(place), place, FILES) : is_torn(place);
 }
 
+/* What no call has left so: nothing, anything that is lent, or rows alone, on lawful sheets. */
+enum damaged { NONE, ANYTHING, ROWS_ALONE };
+
+/* Damage before a call, and mostly a call that meets it. Answers the place of a page that was put above the end, 0 if none was. */
+static uint64_t spoil(enum damaged what, struct call *q) {
+    if (what == ANYTHING && below(20) == 0) {
+        damage();
+        if (below(2))
+            q->kind = READ, q->time = below(3), q->action = 0;
+    }
+    if (what == ANYTHING && below(20) == 0)
+        mislead(q);
+    if (what == ANYTHING && below(10) == 0)
+        twist(q);
+    if (what == ROWS_ALONE && below(6) == 0)
+        misname(q);
+    return what == ROWS_ALONE && below(6) == 0 ? mislay(q) : 0;
+}
+
 /* An opening, and calls, some of them cut, with openings between them; up to a refused opening. */
-static int calls_alike(int wild) {
-    int refused;
+static int calls_alike(enum damaged what) {
+    int refused, wild = what == ANYTHING;
     if (!opened_alike(below(4), wild, &refused))
         return 0;
     for (int i = 0; i < CALLS && !refused; i++) {
         struct ask q = random_ask();
-        uint64_t a[TOLD];
-        if (wild && below(20) == 0) {
-            damage();
-            if (below(2))
-                q.call.kind = READ, q.call.time = below(3), q.call.action = 0;
-        }
-        if (wild && below(20) == 0)
-            mislead(&q.call);
-        if (wild && below(10) == 0)
-            twist(&q.call);
-        uint64_t end = kept.end;
+        uint64_t a[TOLD], put = spoil(what, &q.call), end = kept.end;
         if (!asked_alike(&q, a))
             return 0;
+        if (put)
+            memset(page_at(put), 0, PAGE);
+        if (what == ROWS_ALONE && below(3) == 0)
+            mend_rows();
         int is_cut = kept.end > end && below(15) == 0;
         if (is_cut && !cut_is_right(kept.end))
             return 0;
@@ -475,17 +659,18 @@ static void blank_sheet(uint64_t count) {
     kept.floor = below(4);
 }
 
-static int runs_alike(int wild) {
+/* Rows alone are damaged where there is room for every call. */
+static int runs_alike(enum damaged what) {
     for (int run = 0; run < RUNS; run++) {
-        blank_sheet(below(4) ? SMALL - below(8) : 1 + below(SMALL));
-        if (!calls_alike(wild))
+        blank_sheet(what == ROWS_ALONE ? 2 * CALLS : below(4) ? SMALL - below(8) : 1 + below(SMALL));
+        if (!calls_alike(what))
             return 0;
     }
     return 1;
 }
 
 /* Sheets of more than 1,024 pages: filled by the plain calls, and then both ways. */
-static int large_alike(int wild) {
+static int large_alike(enum damaged what) {
     for (int run = 0; run < LARGE_RUNS; run++) {
         blank_sheet(1025 + below(MOST - 1024));
         uint64_t used = pages - below(2 * CALLS), a[TOLD];
@@ -495,7 +680,7 @@ static int large_alike(int wild) {
             q.call.time = q.call.time == UINT64_MAX ? 1 : q.call.time; /* it would bar the file */
             plain_call(a, &q.call);
         }
-        if (kept.end + 8 < used || !calls_alike(wild))
+        if (kept.end + 8 < used || !calls_alike(what))
             return 0;
     }
     return 1;
@@ -507,7 +692,7 @@ static int all_seen(void) {
     for (int n = 1; n <= 13; n++)
         if (n != 2 && seen_refusal[n] < 20)
             return printf("refusal %d came %d times\n", n, seen_refusal[n]), 0;
-    for (int n = STORED; n <= FATE; n++)
+    for (int n = REBUILT; n <= FATE; n++)
         if (seen_answer[n] < 500)
             return printf("answer %d came %d times\n", n, seen_answer[n]), 0;
     for (int n = 0; n <= PAGE + 1; n++)
@@ -519,14 +704,29 @@ static int all_seen(void) {
     return 1;
 }
 
+/* So has each kind of row that a call can come to. */
+static int all_rows_seen(void) {
+    int all = 1;
+    for (int i = 0; i < ROW_CALLS * ROWS; i++) {
+        enum kind kind = row_calls[i / ROWS];
+        int is_met = i % ROWS < NAMINGS || kind == COMMIT || kind == ABORT;
+        if (is_met && seen_row[kind][i % ROWS] < 100)
+            all = (printf("call %d met %d times: %s\n", kind, seen_row[kind][i % ROWS], row_kinds[i % ROWS]), 0);
+    }
+    return all;
+}
+
 int main(int count, char **words) {
     seed = count > 1 ? strtoull(words[1], NULL, 10) | 1 : 20261115;
     printf("seed %llu\n", (unsigned long long)seed);
-    told("runs of calls with cuts", runs_alike(0));
-    told("runs on damaged sheets, fates, rows and states", runs_alike(1));
-    told("runs with cuts on more than 1,024 pages", large_alike(0));
-    told("runs with damage on more than 1,024 pages", large_alike(1));
+    told("runs of calls with cuts", runs_alike(NONE));
+    told("runs on damaged sheets, fates, rows and states", runs_alike(ANYTHING));
+    told("runs on damaged rows alone", runs_alike(ROWS_ALONE));
+    told("runs with cuts on more than 1,024 pages", large_alike(NONE));
+    told("runs with damage on more than 1,024 pages", large_alike(ANYTHING));
+    told("runs on damaged rows alone on more than 1,024 pages", large_alike(ROWS_ALONE));
     told("every answer, refusal and cut seen, and all that a decided action or a write can meet", all_seen());
+    told("every kind of row seen that a read, write, rebuild, commit or abort can come to", all_rows_seen());
     printf("%d passed, %d failed\n", passed, failed);
     return failed != 0;
 }

@@ -193,7 +193,7 @@ static void expect_pages(void) {
 
 static void calls(void) {
     static uint8_t fates[PAGES];
-    static uint64_t rows[5 * FILES];
+    static uint64_t rows[ROW_LENGTH * FILES];
     struct call list[] = {{BEGIN, 0, 0, 0, 0, NULL},
                           {WRITE, 3, LATE, 1, 32, (const uint8_t *)text},
                           {READ, 3, LATE, 1, 0, NULL},
@@ -205,7 +205,7 @@ static void calls(void) {
                           {WRITE, 3, LATE + 1, 5, 2, (const uint8_t *)short_text},
                           {TEST, 0, 0, 5, 0, NULL},
                           {ABORT, 0, 0, 5, 0, NULL}};
-    struct lent l = {sheet, sizeof sheet, fates, PAGES, rows, 5 * FILES, 0, 0, 0};
+    struct lent l = {sheet, sizeof sheet, fates, PAGES, rows, ROW_LENGTH * FILES, 0, 0, 0};
     for (size_t i = 0; i < sizeof list / sizeof *list; i++) {
         uint64_t told[TOLD];
         make_call(l, list[i], told);

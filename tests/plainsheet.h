@@ -7,7 +7,7 @@
 #include "tell.h"
 
 /* Most sheets have up to SMALL pages; some have above 1,024, up to MOST: there open and inspect keep more. */
-enum { SMALL = 30, MOST = 1400, FILES = 4, NUMBERS = 5 * FILES };
+enum { SMALL = 30, MOST = 1400, FILES = 4, NUMBERS = ROW_LENGTH * FILES };
 
 static uint8_t sheet[MOST * PAGE];
 static uint64_t pages;
@@ -68,11 +68,11 @@ __attribute__((unused)) static uint64_t highest_start(uint64_t upto, uint64_t fi
 
 /* A file's row by the fates that are lent, or by the pages up to the end if none are. A fate is looked for once where images of one action
    follow each other. */
-static void row_of(uint64_t file, const uint8_t *fates, uint64_t end, uint64_t row[5]) {
+static void row_of(uint64_t file, const uint8_t *fates, uint64_t end, uint64_t row[ROW_LENGTH]) {
     uint64_t action = 0;
     uint8_t fate = 0;
-    memset(row, 0, 5 * sizeof *row);
-    row[0] = 1;
+    memset(row, 0, ROW_LENGTH * sizeof *row);
+    row[MARK] = 1;
     for (uint64_t p = end; p > 0; p--) {
         if (!is_image(p, file))
             continue;
@@ -81,15 +81,29 @@ static void row_of(uint64_t file, const uint8_t *fates, uint64_t end, uint64_t r
             fate = fates ? fates[action - 1] : fate_of(action, end);
         }
         if (fate == 2) {
-            row[1] = p;
-            row[2] = start_of(p);
+            row[CURRENT] = p;
+            row[CURRENT_END] = start_of(p);
             return;
         }
-        if (fate == 1 && row[3] == 0) {
-            row[3] = p;
-            row[4] = start_of(p);
+        if (fate == 1 && row[TOKEN] == 0) {
+            row[TOKEN] = p;
+            row[TOKEN_END] = start_of(p);
+            row[TOKEN_ACTION] = action;
         }
     }
+}
+
+/* A place of a row is 0, or one up to the end with a sealed image of the file. */
+static int place_holds(uint64_t place, uint64_t file, uint64_t end) { return place == 0 || (place <= end && is_image(place, file)); }
+
+/* Line 7 but for the token's action. */
+static int places_hold(const uint64_t row[ROW_LENGTH], uint64_t file, uint64_t end) {
+    return row[MARK] <= 1 && place_holds(row[CURRENT], file, end) && place_holds(row[TOKEN], file, end);
+}
+
+/* Line 7. Without a token there is no action. */
+static int row_holds(const uint64_t row[ROW_LENGTH], uint64_t file, uint64_t end) {
+    return places_hold(row, file, end) && row[TOKEN_ACTION] == (row[TOKEN] ? action_of(row[TOKEN]) : 0);
 }
 
 /* What is kept from call to call. */
@@ -102,11 +116,13 @@ static struct lent lent(uint8_t *bytes, struct kept *k) {
     return (struct lent){bytes, PAGE * pages, k->fates, pages, k->rows, NUMBERS, k->end, k->floor, k->undecided};
 }
 
-/* The five numbers of an answer. */
-static void answer(uint64_t a[TOLD], uint64_t which, uint64_t first, uint64_t second, uint64_t third, uint64_t fourth) {
-    a[WHICH] = which, a[FIRST] = first, a[SECOND] = second, a[THIRD] = third, a[FOURTH] = fourth;
+static uint64_t *row_in(struct kept *k, uint64_t file) { return k->rows + ROW_LENGTH * (file - 1); }
+
+/* An answer of at most three values, and zeros after them. */
+static void answer(uint64_t a[TOLD], uint64_t which, uint64_t first, uint64_t second, uint64_t third) {
+    a[WHICH] = which, a[FIRST] = first, a[SECOND] = second, a[THIRD] = third, a[FOURTH] = a[FIFTH] = 0;
 }
-static void no(uint64_t a[TOLD], uint64_t number, uint64_t place) { answer(a, REFUSED, number, place, 0, 0); }
+static void no(uint64_t a[TOLD], uint64_t number, uint64_t place) { answer(a, REFUSED, number, place, 0); }
 
 /* Refused: the highest bad page, three zeros as the state, and fates and rows as they were. */
 static void plain_open(uint64_t a[TOLD], struct kept *k) {
@@ -124,10 +140,30 @@ static void plain_open(uint64_t a[TOLD], struct kept *k) {
     }
     memset(k->rows, 0, sizeof k->rows);
     k->end = end;
-    answer(a, OPENED, end, k->undecided, 0, 0);
+    answer(a, OPENED, end, k->undecided, 0);
 }
 
-/* A call of the proved code on a copy of the sheet, beside what the plain one answered and left: the eight numbers, and all that is
+/* A cold row is rebuilt; then line 7. */
+static int warm(uint64_t a[TOLD], struct kept *k, uint64_t file) {
+    uint64_t *row = row_in(k, file);
+    if (row[MARK] == 0)
+        row_of(file, k->fates, k->end, row);
+    return row_holds(row, file, k->end) || (no(a, 7, 0), 0);
+}
+
+/* It answers the row's numbers after the mark. */
+static void plain_rebuild(uint64_t a[TOLD], struct kept *k, uint64_t file) {
+    if (k->end > pages || k->undecided > k->end)
+        return no(a, 1, 0);
+    if (file < 1 || file > FILES)
+        return no(a, 3, 0);
+    if (!warm(a, k, file))
+        return;
+    a[WHICH] = REBUILT;
+    memcpy(a + FIRST, row_in(k, file) + CURRENT, (ROW_LENGTH - 1) * sizeof *a);
+}
+
+/* A call of the proved code on a copy of the sheet, beside what the plain one answered and left: the nine numbers, and all that is
    lent. `before` and `was` are what both were given; the sheet and `left` are what the plain one left. */
 static int called_alike(struct call c, const uint8_t *before, struct kept was, uint64_t a[TOLD], const struct kept *left) {
     static uint8_t after[MOST * PAGE];

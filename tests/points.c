@@ -1,17 +1,32 @@
 /* Points of documents 01 and 02 that the command program cannot show, at the calls themselves: a cold row that stays cold under refusals 1
    to 6 and is rebuilt under the later ones, damaged rows, a page above the end that is not blank, a link that leads nowhere, as many
    links as a sheet can have, an outcome that is lost on two pages, a decision that is asked again, also with fates and sheets that no call
-   has left so, the highest start of any bytes, and a file that its action writes again. Prints a line for each and 'N passed, M
-   failed'. */
+   has left so, the highest start of any bytes, a file that its action writes again, and the token's action in a row, right and wrong.
+   Prints a line for each and 'N passed, M failed'. */
 #include "door.h"
 #include "plain.h"
 #include "tell.h"
 
 /* Ten pages for two files: actions 1 and 4 wrote file 1 and are committed, action 7 is undecided and holds its token. */
-enum { PAGES = 10, NUMBERS = 10, LAST = 8 };
+enum { PAGES = 10, NUMBERS = 2 * ROW_LENGTH, LAST = 8 };
 static uint8_t sheet[PAGES * PAGE], fates[PAGES];
 static uint64_t rows[NUMBERS], end, undecided;
 static const uint8_t none[32];
+
+static uint64_t *row_in(uint64_t file) { return rows + ROW_LENGTH * (file - 1); }
+
+static void set_row(uint64_t file, uint64_t mark, uint64_t current, uint64_t current_end, uint64_t token, uint64_t token_end,
+                    uint64_t token_action) {
+    uint64_t *row = row_in(file);
+    row[MARK] = mark, row[CURRENT] = current, row[CURRENT_END] = current_end;
+    row[TOKEN] = token, row[TOKEN_END] = token_end, row[TOKEN_ACTION] = token_action;
+}
+static int row_is(uint64_t file, uint64_t mark, uint64_t current, uint64_t current_end, uint64_t token, uint64_t token_end,
+                  uint64_t token_action) {
+    const uint64_t *row = row_in(file);
+    return row[MARK] == mark && row[CURRENT] == current && row[CURRENT_END] == current_end && row[TOKEN] == token
+           && row[TOKEN_END] == token_end && row[TOKEN_ACTION] == token_action;
+}
 
 static void put(int kind, int small, uint64_t file, uint64_t action, uint64_t link, uint64_t start, uint64_t place) {
     plain_pack(sheet + PAGE * (place - 1), kind, small, file, action, link, start, none, place);
@@ -32,7 +47,7 @@ static void set_up(void) {
     end = LAST, undecided = 1;
     /* cold, with numbers of no meaning */
     for (int i = 0; i < NUMBERS; i++)
-        rows[i] = i % 5 ? 77 + (uint64_t)i : 0;
+        rows[i] = i % ROW_LENGTH ? 77 + (uint64_t)i : 0;
 }
 
 /* One more undecided action, 9: files with a token of action 7 are not for it to write. */
@@ -60,7 +75,7 @@ static void expect(const char *what, enum kind kind, uint64_t file, uint64_t tim
     uint64_t at, before[NUMBERS];
     memcpy(before, rows, sizeof rows);
     uint64_t got = refusal((struct call){kind, file, time, action, length, value}, &at);
-    uint64_t mark = file >= 1 && file <= 2 ? rows[5 * (file - 1)] : 0;
+    uint64_t mark = file >= 1 && file <= 2 ? row_in(file)[MARK] : 0;
     told(what, got == number && at == place && (rebuilt ? mark == 1 : !memcmp(before, rows, sizeof rows)));
 }
 
@@ -75,27 +90,28 @@ static void cold_rows(void) {
     expect("refusal 6 leaves a cold row cold", WRITE, 1, 40, 4, 0, 6, 0, 0);
     set_up_another();
     expect("refusal 8 leaves the row rebuilt", WRITE, 1, 40, 9, 0, 8, 7, 1);
-    told("its numbers are those of the pages", rows[1] == 5 && rows[2] == 20 && rows[3] == 8 && rows[4] == 30);
+    told("its numbers are those of the pages", row_is(1, 1, 5, 20, 8, 30, 7));
     set_up();
     expect("refusal 9 leaves the row rebuilt", READ, 1, 30, 0, 0, 9, 7, 1);
     set_up();
     expect("refusal 10 leaves the row rebuilt", WRITE, 2, 0, 7, 0, 10, 0, 1);
-    told("another file's row is as it was", rows[0] == 0 && rows[1] == 78);
+    told("another file's row is as it was", row_is(1, 0, 78, 79, 80, 81, 82));
 }
 
 static void damaged_rows(void) {
     set_up();
-    rows[0] = 2;
+    row_in(1)[MARK] = 2;
     expect("a mark of 2 is refused 7", READ, 1, 5, 0, 0, 7, 0, 0);
     set_up();
-    rows[5] = 1, rows[6] = 5, rows[7] = 20, rows[8] = 0, rows[9] = 0;
+    set_row(2, 1, 5, 20, 0, 0, 0);
     expect("another file's image is refused 7", READ, 2, 5, 0, 0, 7, 0, 0);
-    rows[6] = 1;
+    row_in(2)[CURRENT] = 1;
     expect("a place without an image is refused 7", WRITE, 2, 50, 7, 0, 7, 0, 0);
-    rows[6] = 0, rows[8] = LAST + 1;
+    put(2, 0, 2, 7, 0, 40, 10);
+    set_row(2, 1, 0, 0, 10, 40, 7);
     expect("a place above the end is refused 7", WRITE, 2, 50, 7, 0, 7, 0, 0);
     set_up();
-    rows[5] = 2, rows[8] = 8;
+    set_row(2, 2, 86, 87, 8, 89, 7);
     uint64_t kept[NUMBERS];
     memcpy(kept, rows, sizeof rows);
     uint64_t place, number = refusal((struct call){.kind = COMMIT, .action = 7}, &place);
@@ -114,7 +130,7 @@ static void pages_in_the_way(void) {
     set_up();
     put(2, 0, 1, 4, 3, 20, 5);
     expect("a link to no image is refused 13, with the page that holds it", READ, 1, 15, 0, 0, 13, 5, 1);
-    told("and no end was raised", rows[2] == 20 && rows[4] == 30);
+    told("and no end was raised", row_is(1, 1, 5, 20, 8, 30, 7));
 }
 
 /* A sheet with as many links as its pages allow: an opening, then images of file 1, each linked to the page below it and starting at
@@ -140,8 +156,8 @@ static int chain_answers(uint64_t pages, uint64_t time, uint64_t which, uint64_t
     uint64_t number[NUMBERS] = {0}, told[TOLD];
     struct lent l = {chain, pages * PAGE, chain_fates, pages, number, NUMBERS, pages, 0, 0};
     make_call(l, (struct call){.kind = READ, .file = 1, .time = time}, told);
-    return told[WHICH] == which && told[FIRST] == first && told[SECOND] == second && number[0] == 1 && number[1] == pages &&
-           number[2] == (time < pages ? pages : time);
+    return told[WHICH] == which && told[FIRST] == first && told[SECOND] == second && number[MARK] == 1
+           && number[CURRENT] == pages && number[CURRENT_END] == (time < pages ? pages : time) && number[TOKEN_ACTION] == 0;
 }
 
 /* Reads before the first image, at every so many of them, and past the last. */
@@ -193,16 +209,20 @@ static void outcomes(void) {
     told("cut after none or all, it is not", !outcome_is_lost(0) && !outcome_is_lost(PAGE));
 }
 
-/* Whether a call of an action has this answer, and leaves every byte and number that is lent, and the state, as they were. */
-static int only_answers(enum kind kind, uint64_t action, uint64_t which, uint64_t first, uint64_t second) {
+/* Whether a call has this answer, and leaves every byte and number that is lent, and the state, as they were. */
+static int changes_nothing(struct call c, uint64_t which, uint64_t first, uint64_t second) {
     uint8_t sheet_was[sizeof sheet], fates_was[sizeof fates];
-    uint64_t rows_was[NUMBERS], got[TOLD], must[TOLD] = {which, first, second, 0, 0, end, 0, undecided};
+    uint64_t rows_was[NUMBERS], got[TOLD];
+    uint64_t must[TOLD] = {[WHICH] = which, [FIRST] = first, [SECOND] = second, [END] = end, [UNDECIDED] = undecided};
     memcpy(sheet_was, sheet, sizeof sheet);
     memcpy(fates_was, fates, sizeof fates);
     memcpy(rows_was, rows, sizeof rows);
-    make_call(lent(), (struct call){.kind = kind, .action = action}, got);
+    make_call(lent(), c, got);
     return !memcmp(got, must, sizeof got) && !memcmp(sheet_was, sheet, sizeof sheet) && !memcmp(fates_was, fates, sizeof fates)
            && !memcmp(rows_was, rows, sizeof rows);
+}
+static int only_answers(enum kind kind, uint64_t action, uint64_t which, uint64_t first, uint64_t second) {
+    return changes_nothing((struct call){.kind = kind, .action = action}, which, first, second);
 }
 static int again(enum kind kind, uint64_t action, uint64_t place) { return only_answers(kind, action, STORED, place, 0); }
 static int is_6(enum kind kind, uint64_t action) { return only_answers(kind, action, REFUSED, 6, 0); }
@@ -212,7 +232,7 @@ static int tells(uint64_t action, uint64_t fate, uint64_t place) { return only_a
 static int decide_first(enum kind kind) {
     uint64_t got[TOLD];
     set_up();
-    rows[0] = 1, rows[1] = 5, rows[2] = 20, rows[3] = 8, rows[4] = 30;
+    set_row(1, 1, 5, 20, 8, 30, 7);
     make_call(lent(), (struct call){.kind = kind, .action = 7}, got);
     end = got[END], undecided = got[UNDECIDED];
     return got[WHICH] == STORED && got[FIRST] == 9 && end == 9 && undecided == 0;
@@ -244,7 +264,7 @@ static void false_fates(void) {
     fates[6] = 1;
     told("a fate of 1 over a commit record: test tells both", tells(7, 1, 9));
     set_up();
-    rows[0] = 1, rows[1] = 5, rows[2] = 20, rows[3] = 8, rows[4] = 30;
+    set_row(1, 1, 5, 20, 8, 30, 7);
     fates[6] = 2;
     told("a fate of 2 without an outcome: place 0, and the token stays in its row", again(COMMIT, 7, 0) && tells(7, 2, 0));
     set_up();
@@ -377,8 +397,8 @@ static int writes_again(uint64_t start, uint64_t token_end) {
     make_call(lent(), (struct call){.kind = WRITE, .file = 1, .time = start, .action = 7}, got);
     const uint8_t *page = sheet + PAGE * LAST;
     return got[WHICH] == STORED && got[FIRST] == 9 && got[END] == 9 && got[UNDECIDED] == 1 && plain_fits(page, 9, 2)
-           && plain_get(page, 8, 12) == 7 && plain_get(page, 12, 16) == 5 && plain_get(page, 16, 24) == start && rows[0] == 1
-           && rows[1] == 5 && rows[2] == 20 && rows[3] == 9 && rows[4] == token_end;
+           && plain_get(page, 8, 12) == 7 && plain_get(page, 12, 16) == 5 && plain_get(page, 16, 24) == start
+           && row_is(1, 1, 5, 20, 9, token_end, 7);
 }
 
 /* The row of file 1 rebuilt, its token read up to a time. */
@@ -397,29 +417,29 @@ static void written_again(void) {
     set_up();
     told("past it: the end is the new start", writes_again(31, 31));
     set_up_read(40);
-    told("after an own read at 40 the end is 40", rows[4] == 40 && writes_again(25, 40));
+    told("after an own read at 40 the end is 40", row_is(1, 1, 5, 20, 8, 40, 7) && writes_again(25, 40));
     end = 9;
     make_call(lent(), (struct call){.kind = COMMIT, .action = 7}, got);
-    told("and the current end once committed", got[FIRST] == 10 && rows[1] == 9 && rows[2] == 40 && rows[3] == 0 && rows[4] == 0);
+    told("and the current end once committed", got[FIRST] == 10 && row_is(1, 1, 9, 40, 0, 0, 0));
     set_up_read(40);
     told("but a start above that is the end", writes_again(41, 41));
     set_up();
     expect("at the current end it is refused 10", WRITE, 1, 20, 7, 0, 10, 0, 1);
-    told("and the token stays", rows[3] == 8 && rows[4] == 30);
+    told("and the token stays", row_is(1, 1, 5, 20, 8, 30, 7));
     undecided = 2;
     expect("with too few pages, 11", WRITE, 1, 40, 7, 0, 11, 0, 1);
     undecided = 1;
     sheet[PAGE * LAST + 5] = 1;
     expect("with a page above the end that is not blank, 12", WRITE, 1, 40, 7, 0, 12, 0, 1);
-    told("and the token stays then too", rows[3] == 8 && rows[4] == 30);
+    told("and the token stays then too", row_is(1, 1, 5, 20, 8, 30, 7));
     set_up_another();
     expect("another action is refused 8 before 10 and 11", WRITE, 1, 0, 9, 0, 8, 7, 1);
     fates[6] = 2;
     expect("also where the token's action is decided", WRITE, 1, 40, 9, 0, 8, 7, 1);
     set_up();
-    memcpy(rows + 5, (uint64_t[]){1, 0, 0, 0, 99}, 5 * sizeof *rows);
+    set_row(2, 1, 0, 0, 0, 99, 0);
     make_call(lent(), (struct call){.kind = WRITE, .file = 2, .time = 40, .action = 7}, got);
-    told("an end that stands without a token is not kept", got[WHICH] == STORED && rows[8] == 9 && rows[9] == 40);
+    told("an end that stands without a token is not kept", got[WHICH] == STORED && row_is(2, 1, 0, 0, 9, 40, 7));
 }
 
 /* Ten pages: action 1 wrote file 1 at 10 and is committed; action 4 wrote it at 30, at 20 and at a start, and may be committed. */
@@ -463,13 +483,20 @@ static void lawful_sheets(void) {
     told("not from one that was overtaken", next(5, 31) == 10 && next(6, 26) == 10 && next(2, 26) == 10 && next(7, 25) == 10);
 }
 
-/* What a rebuild of file 1 answers, the sheet just opened. */
-static int rebuilds(uint64_t current, uint64_t current_end, uint64_t token, uint64_t token_end) {
+/* Whether a rebuild of file 1 answers these numbers after the mark, and leaves them in its row. */
+static int answers(uint64_t current, uint64_t current_end, uint64_t token, uint64_t token_end, uint64_t token_action) {
+    uint64_t got[TOLD];
+    make_call(lent(), (struct call){.kind = REBUILD, .file = 1}, got);
+    return got[WHICH] == REBUILT && got[FIRST] == current && got[SECOND] == current_end && got[THIRD] == token && got[FOURTH] == token_end
+           && got[FIFTH] == token_action && row_is(1, 1, current, current_end, token, token_end, token_action);
+}
+
+/* The same, the sheet just opened. */
+static int rebuilds(uint64_t current, uint64_t current_end, uint64_t token, uint64_t token_end, uint64_t token_action) {
     uint64_t got[TOLD];
     make_call(lent(), (struct call){.kind = OPEN}, got);
     end = got[END], undecided = got[UNDECIDED];
-    make_call(lent(), (struct call){.kind = REBUILD, .file = 1}, got);
-    return got[WHICH] == REBUILT && got[FIRST] == current && got[SECOND] == current_end && got[THIRD] == token && got[FOURTH] == token_end;
+    return got[WHICH] == OPENED && answers(current, current_end, token, token_end, token_action);
 }
 
 /* Whether a read of file 1 at a time, inside an action or outside any, gives the image at a place. */
@@ -481,14 +508,14 @@ static int reads(uint64_t time, uint64_t action, uint64_t place) {
 
 static void newest_counts(void) {
     set_up_three(25, 0);
-    told("of three images the newest is the token, with its own start as the end", rebuilds(2, 10, 7, 25));
+    told("of three images the newest is the token, with its own start as the end", rebuilds(2, 10, 7, 25, 4));
     told("inside it is found, and before it the version", reads(25, 4, 7) && reads(24, 4, 2));
     told("outside the version is found up to its start", reads(24, 0, 2) && !reads(25, 0, 2));
     set_up_three(25, 1);
-    told("once committed it is the version", rebuilds(7, 25, 0, 0) && reads(25, 0, 7) && reads(99, 0, 7));
+    told("once committed it is the version", rebuilds(7, 25, 0, 0, 0) && reads(25, 0, 7) && reads(99, 0, 7));
     told("and those that it overtook are not found", reads(24, 0, 2) && reads(10, 0, 2));
     put(2, 0, 1, 4, 5, 35, 7);
-    told("a read goes by the links: if one leads to an overtaken image, that is found", rebuilds(7, 35, 0, 0) && reads(34, 0, 5));
+    told("a read goes by the links: if one leads to an overtaken image, that is found", rebuilds(7, 35, 0, 0, 0) && reads(34, 0, 5));
 }
 
 /* An image of file 1 under action 1, cut after some bytes, and the sheet opened again: whether it is lawful. */
@@ -542,6 +569,311 @@ static void cut_images(void) {
          right == (PAGE + 1) * (PAGE + 1));
 }
 
+/* ---- the token's action in the row */
+
+/* Ten pages for two files: action 1 wrote file 1 and is committed; actions 4 and 5 are undecided, and both wrote file 1, 4 file 2 too. The
+   rows are rebuilt, with 4's tokens. The open count is 1, so that there is room for one write. */
+static void set_up_tokens(void) {
+    memset(sheet, 0, sizeof sheet);
+    memset(fates, 0, sizeof fates);
+    put(1, 0, 0, 1, 0, 0, 1);
+    put(2, 0, 1, 1, 0, 10, 2);
+    put(3, 1, 0, 1, 0, 0, 3);
+    put(1, 0, 0, 4, 0, 0, 4);
+    put(1, 0, 0, 5, 0, 0, 5);
+    put(2, 0, 1, 5, 2, 20, 6);
+    put(2, 0, 1, 4, 2, 30, 7);
+    put(2, 0, 2, 4, 0, 40, 8);
+    fates[0] = 2, fates[3] = fates[4] = 1;
+    end = LAST, undecided = 1;
+    set_row(1, 1, 2, 10, 7, 30, 4);
+    set_row(2, 1, 0, 0, 8, 40, 4);
+}
+
+/* Whether a file's row is refused 7 by rebuild, by reads outside any action, and by reads and writes inside 4 and 5 if they are undecided. */
+static int is_refused(uint64_t file) {
+    static const uint64_t actions[] = {0, 4, 5}, times[] = {0, 9, 10, 29, 30, 50, UINT64_MAX};
+    int all = changes_nothing((struct call){.kind = REBUILD, .file = file}, REFUSED, 7, 0);
+    for (int i = 0; i < 3 * 7; i++) {
+        struct call c = {READ, file, times[i / 3], actions[i % 3], 0, none};
+        if (c.action && fates[c.action - 1] != 1)
+            continue;
+        all = all && changes_nothing(c, REFUSED, 7, 0);
+        c.kind = WRITE;
+        all = all && (c.action == 0 || changes_nothing(c, REFUSED, 7, 0));
+    }
+    return all;
+}
+
+/* The same with another action in file 1's row. */
+static int is_refused_with(uint64_t action) {
+    set_up_tokens();
+    row_in(1)[TOKEN_ACTION] = action;
+    return is_refused(1);
+}
+
+static int is_refused_without_token(uint64_t action) {
+    set_up_tokens();
+    set_row(1, 1, 2, 10, 0, 0, action);
+    set_row(2, 1, 0, 0, 0, 0, action);
+    return is_refused(1) && is_refused(2);
+}
+
+static void wrong_actions(void) {
+    told("action 0 beside a token is refused 7 by rebuild, read and write", is_refused_with(0));
+    told("another undecided action too", is_refused_with(5));
+    told("a decided one", is_refused_with(1));
+    told("an image or an outcome, the token itself", is_refused_with(2) && is_refused_with(8) && is_refused_with(3) && is_refused_with(7));
+    told("a place above the end, and no page's", is_refused_with(9) && is_refused_with(10) && is_refused_with(11));
+    told("2^32 above the action, and 2^64 - 1", is_refused_with((1ULL << 32) + 4) && is_refused_with(UINT64_MAX));
+    told("any action without a token", is_refused_without_token(4) && is_refused_without_token(5) && is_refused_without_token(1)
+                                           && is_refused_without_token(7) && is_refused_without_token(1ULL << 32));
+    set_up_tokens();
+    row_in(1)[TOKEN_ACTION] = 0;
+    undecided = LAST;
+    sheet[PAGE * LAST + 5] = 1;
+    told("also where 11 or 12 would come", is_refused(1));
+    set_up_tokens();
+    set_row(1, 0, 2, 10, 7, 30, 5);
+    told("not in a cold row, which is rebuilt", answers(2, 10, 7, 30, 4));
+    set_up_tokens();
+    told("the token's action is right", answers(2, 10, 7, 30, 4) && reads(30, 4, 7) && reads(29, 0, 2));
+    set_row(2, 1, 0, 0, 0, 0, 0);
+    told("and 0 without a token", changes_nothing((struct call){.kind = REBUILD, .file = 2}, REBUILT, 0, 0));
+    set_row(1, 1, 2, 11, 7, 31, 4);
+    told("a row that is rebuilt is answered as it is, after its mark", answers(2, 11, 7, 31, 4));
+    set_up_tokens();
+    put(2, 0, 1, 5, 2, 30, 7);
+    told("an action that was right is wrong where the page is another's", is_refused(1) && (row_in(1)[TOKEN_ACTION] = 5, reads(30, 5, 7)));
+}
+
+/* Whether an action's decision is stored at page 9. */
+static int decides(enum kind kind, uint64_t action) {
+    uint64_t got[TOLD];
+    make_call(lent(), (struct call){.kind = kind, .action = action}, got);
+    int is_stored = got[WHICH] == STORED && got[FIRST] == 9 && got[END] == 9 && got[UNDECIDED] == 0;
+    end = got[END], undecided = got[UNDECIDED];
+    return is_stored && fates[action - 1] == (kind == COMMIT ? 2 : 3);
+}
+
+static void settled_rows(void) {
+    set_up_tokens();
+    told("a commit settles its rows, and clears token, end and action", decides(COMMIT, 4) && row_is(1, 1, 7, 30, 0, 0, 0)
+                                                                            && row_is(2, 1, 8, 40, 0, 0, 0));
+    told("they can be read then", reads(30, 0, 7) && reads(29, 0, 2));
+    set_up_tokens();
+    told("an abort clears these too", decides(ABORT, 4) && row_is(1, 1, 2, 10, 0, 0, 0) && row_is(2, 1, 0, 0, 0, 0, 0));
+    told("they can be read then too", reads(30, 0, 2));
+    set_up_tokens();
+    told("rows of another action stay at a commit", decides(COMMIT, 5) && row_is(1, 1, 2, 10, 7, 30, 4) && row_is(2, 1, 0, 0, 8, 40, 4));
+    set_up_tokens();
+    told("and at an abort", decides(ABORT, 5) && row_is(1, 1, 2, 10, 7, 30, 4) && row_is(2, 1, 0, 0, 8, 40, 4));
+    set_up_tokens();
+    set_row(1, 1, 2, 10, 6, 25, 5);
+    told("beside one that is settled", decides(COMMIT, 5) && row_is(1, 1, 6, 25, 0, 0, 0) && row_is(2, 1, 0, 0, 8, 40, 4));
+    set_up_tokens();
+    set_row(2, 1, 0, 0, 0, 0, 0);
+    told("a row without a token keeps action 0", decides(COMMIT, 4) && row_is(1, 1, 7, 30, 0, 0, 0) && row_is(2, 1, 0, 0, 0, 0, 0));
+}
+
+/* Rows of file 1 that a decision of action 4 passes over. */
+static const struct {
+    const char *what;
+    uint64_t row[ROW_LENGTH];
+} passed_over[] = {
+    {"a row of the action that names none is passed over, the other is settled", {1, 2, 10, 7, 30, 0}},
+    {"one that names another undecided action", {1, 2, 10, 7, 30, 5}},
+    {"a decided action", {1, 2, 10, 7, 30, 1}},
+    {"an outcome", {1, 2, 10, 7, 30, 3}},
+    {"an image", {1, 2, 10, 7, 30, 6}},
+    {"the token itself", {1, 2, 10, 7, 30, 7}},
+    {"a place above the end, that of the outcome", {1, 2, 10, 7, 30, 9}},
+    {"no page's place", {1, 2, 10, 7, 30, 11}},
+    {"2^32 above the action", {1, 2, 10, 7, 30, (1ULL << 32) + 4}},
+    {"2^64 - 1", {1, 2, 10, 7, 30, UINT64_MAX}},
+    {"a row that names the action and has no token is passed over", {1, 2, 10, 0, 0, 4}},
+    {"one that has no token but an end", {1, 2, 10, 0, 30, 4}},
+    {"another undecided action's image", {1, 2, 10, 6, 20, 4}},
+    {"a committed action's image", {1, 0, 0, 2, 10, 4}},
+    {"the action's opening", {1, 2, 10, 4, 30, 4}},
+    {"another action's outcome", {1, 2, 10, 3, 30, 4}},
+    {"another file's image under the action", {1, 2, 10, 8, 40, 4}},
+    {"the place of the outcome that is stored", {1, 2, 10, 9, 30, 4}},
+    {"an image of the file under the action, but above the end", {1, 2, 10, PAGES, 30, 4}},
+    {"no page", {1, 2, 10, PAGES + 1, 30, 4}},
+    {"2^32 above the token", {1, 2, 10, (1ULL << 32) + 7, 30, 4}},
+    {"2^64 - 1 as the token", {1, 2, 10, UINT64_MAX, 30, 4}},
+    {"a cold row", {0, 2, 10, 7, 30, 4}},
+    {"a mark of 2", {2, 2, 10, 7, 30, 4}},
+    {"a mark of 2^32 + 1", {(1ULL << 32) + 1, 2, 10, 7, 30, 4}},
+};
+
+/* Whether that row stays, and file 2's is settled beside it. */
+static int passes_over(enum kind kind, const uint64_t row[ROW_LENGTH]) {
+    memcpy(row_in(1), row, ROW_LENGTH * sizeof *row);
+    return decides(kind, 4) && !memcmp(row_in(1), row, ROW_LENGTH * sizeof *row)
+           && (kind == COMMIT ? row_is(2, 1, 8, 40, 0, 0, 0) : row_is(2, 1, 0, 0, 0, 0, 0));
+}
+
+/* Both decisions, each on a sheet set up anew, with an image above the end where the row has its place. */
+static void passed_over_rows(void) {
+    for (size_t i = 0; i < sizeof passed_over / sizeof *passed_over; i++) {
+        const uint64_t *row = passed_over[i].row;
+        int both = 1;
+        for (enum kind kind = COMMIT; kind <= ABORT; kind++) {
+            set_up_tokens();
+            if (row[TOKEN] == PAGES)
+                put(2, 0, 1, 4, 2, 30, PAGES);
+            both = both && passes_over(kind, row);
+        }
+        told(passed_over[i].what, both);
+    }
+}
+
+/* The same with a byte of a page changed, and the row right. */
+static int passes_over_with(enum kind kind, uint64_t place, int byte, int to) {
+    static const uint64_t right[ROW_LENGTH] = {1, 2, 10, 7, 30, 4};
+    set_up_tokens();
+    sheet[PAGE * (place - 1) + (uint64_t)byte] = (uint8_t)to;
+    return passes_over(kind, right);
+}
+
+static void passed_over_pages(void) {
+    told("a torn image", passes_over_with(COMMIT, 7, 63, 0) && passes_over_with(ABORT, 7, 63, 0));
+    told("a spoilt one", passes_over_with(COMMIT, 7, 30, 1) && passes_over_with(ABORT, 7, 30, 1));
+    set_up_tokens();
+    sheet[PAGE * 3 + 30] = 1;
+    told("all where the action's opening is bad", decides(COMMIT, 4) && row_is(1, 1, 2, 10, 7, 30, 4) && row_is(2, 1, 0, 0, 8, 40, 4));
+    set_up_tokens();
+    row_in(1)[TOKEN_ACTION] = 0;
+    told("a row that a commit passed over is refused 7 afterwards", decides(COMMIT, 4) && is_refused(1));
+    told("until the sheet is opened", rebuilds(7, 30, 0, 0, 0) && reads(30, 0, 7));
+    set_up_tokens();
+    row_in(1)[TOKEN_ACTION] = 5;
+    told("one that an abort passed over too", decides(ABORT, 4) && is_refused(1));
+    told("until the sheet is opened", rebuilds(2, 10, 6, 20, 5) && reads(30, 5, 6));
+}
+
+/* Whether action 7 writes file 2 at page 9 and its row then names it. */
+static int names_writer(void) {
+    uint64_t got[TOLD];
+    make_call(lent(), (struct call){.kind = WRITE, .file = 2, .time = 40, .action = 7}, got);
+    return got[WHICH] == STORED && got[FIRST] == 9 && row_is(2, 1, 0, 0, 9, 40, 7);
+}
+
+static void written_actions(void) {
+    set_up();
+    set_row(2, 1, 0, 0, 0, 0, 0);
+    told("a write puts its action in the row", names_writer());
+    set_up();
+    told("in a cold one too", names_writer());
+    set_up_another();
+    set_row(1, 1, 5, 20, 8, 30, 7);
+    expect("another's write leaves it", WRITE, 1, 40, 9, 0, 8, 7, 0);
+    told("so does a read inside, which raises the end, and one outside", reads(50, 7, 8) && row_is(1, 1, 5, 20, 8, 50, 7) && reads(25, 0, 5)
+                                                                            && row_is(1, 1, 5, 25, 8, 50, 7));
+}
+
+/* Two files, a list of calls, and the actions that their rows name after each. */
+static uint8_t talk_sheet[16 * PAGE], talk_fates[16];
+static const struct {
+    struct call call;
+    uint64_t which, named[2];
+} talk[] = {
+    {{REBUILD, 1, 0, 0, 0, none}, REBUILT, {0, 0}},  {{REBUILD, 2, 0, 0, 0, none}, REBUILT, {0, 0}},
+    {{BEGIN, 0, 0, 0, 0, none}, STORED, {0, 0}},     {{WRITE, 1, 10, 1, 0, none}, STORED, {1, 0}},
+    {{BEGIN, 0, 0, 0, 0, none}, STORED, {1, 0}},     {{WRITE, 2, 10, 3, 0, none}, STORED, {1, 3}},
+    {{WRITE, 1, 20, 1, 0, none}, STORED, {1, 3}},    {{WRITE, 1, 15, 1, 0, none}, STORED, {1, 3}},
+    {{WRITE, 1, 15, 3, 0, none}, REFUSED, {1, 3}},   {{READ, 1, 15, 1, 0, none}, VALUE, {1, 3}},
+    {{READ, 2, 9, 1, 0, none}, NOTHING, {1, 3}},     {{COMMIT, 0, 0, 1, 0, none}, STORED, {0, 3}},
+    {{COMMIT, 0, 0, 1, 0, none}, STORED, {0, 3}},    {{READ, 1, 15, 0, 0, none}, VALUE, {0, 3}},
+    {{WRITE, 1, 30, 3, 0, none}, STORED, {3, 3}},    {{ABORT, 0, 0, 3, 0, none}, STORED, {0, 0}},
+    {{BEGIN, 0, 0, 0, 0, none}, STORED, {0, 0}},     {{WRITE, 2, 10, 10, 0, none}, STORED, {0, 10}},
+    {{WRITE, 1, 31, 10, 0, none}, STORED, {10, 10}}, {{COMMIT, 0, 0, 10, 0, none}, STORED, {0, 0}},
+    {{READ, 2, 10, 0, 0, none}, VALUE, {0, 0}},
+};
+/* Whether the rows are those that an opening and rebuilds would make, but for how far was read. */
+static int rows_are_rebuilt(struct lent l) {
+    uint8_t other_fates[sizeof talk_fates];
+    uint64_t other[NUMBERS], got[TOLD];
+    int all = 1;
+    struct lent again = l;
+    again.fates = other_fates, again.rows = other;
+    make_call(again, (struct call){.kind = OPEN}, got);
+    for (uint64_t f = 1; f <= 2; f++) {
+        const uint64_t *row = l.rows + ROW_LENGTH * (f - 1), *must = other + ROW_LENGTH * (f - 1);
+        make_call(again, (struct call){.kind = REBUILD, .file = f}, got);
+        all = all && got[WHICH] == REBUILT && row[CURRENT] == must[CURRENT] && row[TOKEN] == must[TOKEN]
+              && row[TOKEN_ACTION] == must[TOKEN_ACTION];
+    }
+    return all;
+}
+
+static void talked(void) {
+    uint64_t number[NUMBERS] = {0}, got[TOLD];
+    int named = 1, rebuilt = 1;
+    struct lent l = {talk_sheet, sizeof talk_sheet, talk_fates, sizeof talk_fates, number, NUMBERS, 0, 0, 0};
+    for (size_t i = 0; i < sizeof talk / sizeof *talk; i++) {
+        make_call(l, talk[i].call, got);
+        l.end = got[END], l.undecided = got[UNDECIDED];
+        named = named && got[WHICH] == talk[i].which && number[TOKEN_ACTION] == talk[i].named[0]
+                && number[ROW_LENGTH + TOKEN_ACTION] == talk[i].named[1];
+        rebuilt = rebuilt && rows_are_rebuilt(l);
+    }
+    told("two actions over two files: after every call each row names its token's action, or 0", named);
+    told("and is what an opening and a rebuild would make, but for its ends", rebuilt);
+}
+
+/* ---- how many numbers are lent */
+
+/* Whether a call on rows of so many numbers is refused 1. */
+static int is_1(enum kind kind, size_t numbers) {
+    uint64_t many[9 * ROW_LENGTH] = {0}, got[TOLD];
+    set_up();
+    struct lent l = lent();
+    l.rows = many, l.numbers = numbers;
+    make_call(l, (struct call){kind, 1, 40, 7, 0, none}, got);
+    return got[WHICH] == REFUSED && got[FIRST] == 1 && got[SECOND] == 0;
+}
+
+static void row_lengths(void) {
+    int five = 1, six = 1, others = 1;
+    for (enum kind kind = BEGIN; kind <= REBUILD; kind++)
+        for (size_t files = 1; files <= 8; files++) {
+            size_t fewer = (ROW_LENGTH - 1) * files, numbers = ROW_LENGTH * files;
+            five = five && is_1(kind, fewer) == (fewer % ROW_LENGTH > 0);
+            six = six && !is_1(kind, numbers);
+            others = others && is_1(kind, numbers - 1) && is_1(kind, numbers + 1);
+        }
+    told("rows of five numbers for 1 to 8 files are refused 1 by every call, but for 6 files, where they are 5 rows", five);
+    told("rows of six are not", six);
+    told("one number more or less is", others && is_1(OPEN, 0) && is_1(REBUILD, 0));
+}
+
+/* A write, an opening and a rebuild that would each change something, told in a run of another length. */
+static int does_nothing(size_t count) {
+    uint8_t sheet_was[sizeof sheet], fates_was[sizeof fates];
+    uint64_t rows_was[NUMBERS], got[TOLD + 2], were[TOLD + 2];
+    set_up();
+    memset(got, 77, sizeof got);
+    memcpy(were, got, sizeof got);
+    memcpy(sheet_was, sheet, sizeof sheet);
+    memcpy(fates_was, fates, sizeof fates);
+    memcpy(rows_was, rows, sizeof rows);
+    door_call(sheet, sizeof sheet, fates, PAGES, rows, NUMBERS, end, 0, undecided, WRITE, 1, 40, 7, none, 0, got, count);
+    door_open(sheet, sizeof sheet, fates, PAGES, rows, NUMBERS, 0, got, count);
+    door_rebuild(sheet, sizeof sheet, fates, PAGES, rows, NUMBERS, end, 0, undecided, 1, got, count);
+    return !memcmp(got, were, sizeof got) && !memcmp(sheet_was, sheet, sizeof sheet) && !memcmp(fates_was, fates, sizeof fates)
+           && !memcmp(rows_was, rows, sizeof rows);
+}
+
+static void told_lengths(void) {
+    int all = 1;
+    for (size_t count = 0; count <= TOLD + 2; count++)
+        all = all && does_nothing(count) == (count != TOLD);
+    told("with a run of another length than nine the tests' door does nothing", all);
+}
+
 int main(void) {
     cold_rows();
     damaged_rows();
@@ -558,6 +890,14 @@ int main(void) {
     lawful_sheets();
     newest_counts();
     cut_images();
+    wrong_actions();
+    settled_rows();
+    passed_over_rows();
+    passed_over_pages();
+    written_actions();
+    talked();
+    row_lengths();
+    told_lengths();
     printf("%d passed, %d failed\n", passed, failed);
     return failed != 0;
 }

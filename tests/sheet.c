@@ -13,10 +13,10 @@ static int page_fits(uint64_t place) {
         return 0;
     if (is_kind(place, 3))
         return 1;
-    uint64_t row[5];
+    uint64_t row[ROW_LENGTH];
     row_of(file_of(place), NULL, place - 1, row);
-    int is_free = row[3] == 0 || action_of(row[3]) == action_of(place);
-    return is_free && link_of(place) == row[1] && start_of(place) > row[2];
+    int is_free = row[TOKEN] == 0 || action_of(row[TOKEN]) == action_of(place);
+    return is_free && link_of(place) == row[CURRENT] && start_of(place) > row[CURRENT_END];
 }
 
 static uint64_t inspected(void) {
@@ -36,19 +36,19 @@ static uint64_t later(uint64_t start) { return start + 1 + (below(16) ? below(30
 static void add_page(uint64_t place, int wild) {
     static const uint8_t none[PAGE];
     uint8_t *page = page_at(place), value[32] = {1, 2, 3};
-    uint64_t row[5], kind = place == 1 ? 1 : 1 + below(4), file = 1 + below(FILES), action = 1 + below(place);
+    uint64_t row[ROW_LENGTH], kind = place == 1 ? 1 : 1 + below(4), file = 1 + below(FILES), action = 1 + below(place);
     for (uint64_t k = 0; k < 20 && place > 1 && fate_of(action, place - 1) != 1; k++)
         action = 1 + (k < 10 ? below(place - 1) : (action + place - 3) % (place - 1));
     row_of(file, NULL, place - 1, row);
-    if (row[3] && (kind == 2 || kind == 3) && below(2))
-        action = action_of(row[3]);
+    if (row[TOKEN] && (kind == 2 || kind == 3) && below(2))
+        action = action_of(row[TOKEN]);
     if (kind == 1)
         plain_pack(page, 1, 0, 0, place, 0, 0, none, place);
     else if (kind == 4)
         plain_pack(page, 3, 1 + (int)below(2), 0, action, 0, 0, none, place);
     else
-        plain_pack(page, 2, 3, file, action, below(20) || !wild ? row[1] : below(place), below(20) || !wild ? later(row[2]) : row[2],
-                   value, place);
+        plain_pack(page, 2, 3, file, action, below(20) || !wild ? row[CURRENT] : below(place),
+                   below(20) || !wild ? later(row[CURRENT_END]) : row[CURRENT_END], value, place);
     if (!page_fits(place) && !(wild && below(4) == 0))
         plain_pack(page, 1, 0, 0, place, 0, 0, none, place);
     if (below(12) == 0)
@@ -101,18 +101,16 @@ static int opens_alike(uint64_t (*count)(void), int sheets, int wild) {
     return wild ? refused_seen > sheets / 20 && refused_seen < sheets - sheets / 20 : refused_seen == 0; /* not all alike */
 }
 
-static void plain_rebuild(uint64_t a[TOLD], struct kept *k, uint64_t file) {
-    if (k->end > pages || k->undecided > k->end)
-        return no(a, 1, 0);
-    if (file < 1 || file > FILES)
-        return no(a, 3, 0);
-    uint64_t *row = k->rows + 5 * (file - 1);
-    if (row[0] == 0)
-        row_of(file, k->fates, k->end, row);
-    for (int i = 1; i < 5; i += 2)
-        if (row[0] > 1 || (row[i] != 0 && (row[i] > k->end || !is_image(row[i], file))))
-            return no(a, 7, 0);
-    answer(a, REBUILT, row[1], row[2], row[3], row[4]);
+/* Any numbers in a row, or those that it should have, mostly with the token's action or another one changed. */
+static void random_row(uint64_t row[ROW_LENGTH], uint64_t file, const struct kept *k) {
+    for (int i = 0; i < ROW_LENGTH; i++)
+        row[i] = below(2) ? 0 : below(pages + 2);
+    row[MARK] = below(10) ? below(2) : below(4);
+    if (below(2) || k->end > pages)
+        return;
+    row_of(file, k->fates, k->end, row);
+    if (below(3))
+        row[below(4) ? TOKEN_ACTION : below(ROW_LENGTH)] = below(4) ? below(pages + 2) : 0;
 }
 
 /* Rows that are cold, rebuilt or damaged, under fates and a state that may be anything. */
@@ -121,15 +119,27 @@ static struct kept random_kept(void) {
     k.undecided = below(4) ? 0 : below(k.end + 2);
     for (uint64_t a = 1; a <= pages; a++)
         k.fates[a - 1] = (uint8_t)(below(8) ? fate_of(a, k.end < pages ? k.end : pages) : below(6));
-    for (int i = 0; i < NUMBERS; i++)
-        k.rows[i] = below(2) ? 0 : below(pages + 2);
-    for (int i = 0; i < FILES; i++)
-        k.rows[5 * i] = below(10) ? below(2) : below(4);
+    for (uint64_t f = 1; f <= FILES; f++)
+        random_row(row_in(&k, f), f, &k);
     return k;
 }
 
-static int rebuilds_alike(uint64_t (*count)(void), int sheets) {
-    int seen[8] = {0};
+/* What a rebuild of a file may come to: a row that is cold, or rebuilt with a token and without; one that is refused, if the token's action
+   alone is wrong; and refusals. */
+enum { WAS_COLD, WITH_TOKEN, WITHOUT_TOKEN, ACTION_0, OTHER_ACTION, STRAY_ACTION, REFUSED_7, REFUSED_3, REFUSED_1, COMINGS };
+static int coming(struct kept *was, uint64_t file, const uint64_t a[TOLD]) {
+    if (a[WHICH] == REFUSED && a[FIRST] != 7)
+        return a[FIRST] == 3 ? REFUSED_3 : REFUSED_1;
+    const uint64_t *row = row_in(was, file);
+    if (a[WHICH] == REBUILT)
+        return row[MARK] == 0 ? WAS_COLD : row[TOKEN] ? WITH_TOKEN : WITHOUT_TOKEN;
+    if (!places_hold(row, file, was->end))
+        return REFUSED_7;
+    return row[TOKEN] == 0 ? STRAY_ACTION : row[TOKEN_ACTION] ? OTHER_ACTION : ACTION_0;
+}
+
+static int rebuilds_alike(uint64_t (*count)(void), int sheets, int least) {
+    int seen[COMINGS] = {0}, all = 1;
     for (int k = 0; k < sheets; k++) {
         fill_sheet(count(), 1);
         struct kept was = random_kept(), left = was;
@@ -137,9 +147,11 @@ static int rebuilds_alike(uint64_t (*count)(void), int sheets) {
         plain_rebuild(a, &left, file);
         if (!called_alike((struct call){.kind = REBUILD, .file = file}, sheet, was, a, &left))
             return 0;
-        seen[a[WHICH] == REFUSED ? a[FIRST] : 0]++;
+        seen[coming(&was, file, a)]++;
     }
-    return seen[0] > sheets / 10 && (sheets < SHEETS || (seen[1] > 100 && seen[3] > 100 && seen[7] > 100));
+    for (int i = 0; i < COMINGS; i++)
+        all = all && seen[i] >= least;
+    return all && seen[WAS_COLD] + seen[WITH_TOKEN] + seen[WITHOUT_TOKEN] > sheets / 10;
 }
 
 /* Whether an image is overtaken: there is a newer one of its file under its action. */
@@ -178,27 +190,28 @@ static int overtakes(uint64_t place) {
     return 0;
 }
 
-static int image_is_alike(uint64_t place, const uint64_t row[5], uint64_t action, uint64_t link, uint64_t start) {
+static int image_is_alike(uint64_t place, const uint64_t row[ROW_LENGTH], uint64_t action, uint64_t link, uint64_t start) {
     static const uint8_t value[32] = {9};
-    plain_pack(page_at(place), 2, 1, file_of(row[3]), action, link, start, value, place);
-    int fits = page_fits(place), is_own = action == action_of(row[3]), is_above = start > row[2];
+    uint64_t current = row[CURRENT], token = row[TOKEN];
+    plain_pack(page_at(place), 2, 1, file_of(token), action, link, start, value, place);
+    int fits = page_fits(place), is_own = action == action_of(token), is_above = start > row[CURRENT_END];
     over_counts[FITS] += fits;
-    over_counts[FITS_ABOVE_TWO] += fits && overtakes(row[3]);
-    over_counts[BEFORE_TOKEN] += fits && start < start_of(row[3]);
-    over_counts[BY_ANOTHER] += !is_own && link == row[1] && is_above;
-    over_counts[LINKED_TO_TOKEN] += is_own && link == row[3] && is_above;
-    over_counts[LINKED_ELSEWHERE] += is_own && link != row[3] && link != row[1] && is_above;
-    over_counts[NOT_ABOVE] += is_own && link == row[1] && !is_above && start > 0;
+    over_counts[FITS_ABOVE_TWO] += fits && overtakes(token);
+    over_counts[BEFORE_TOKEN] += fits && start < start_of(token);
+    over_counts[BY_ANOTHER] += !is_own && link == current && is_above;
+    over_counts[LINKED_TO_TOKEN] += is_own && link == token && is_above;
+    over_counts[LINKED_ELSEWHERE] += is_own && link != token && link != current && is_above;
+    over_counts[NOT_ABOVE] += is_own && link == current && !is_above && start > 0;
     return bench_inspect(sheet, PAGE * pages, FILES) == (fits ? 0 : place);
 }
 
 /* Images of a file that has a token: by its action and another one, with links and starts about those of version and token. */
-static int images_are_alike(uint64_t place, const uint64_t row[5]) {
-    uint64_t another = 1 + below(place - 1), token = start_of(row[3]);
+static int images_are_alike(uint64_t place, const uint64_t row[ROW_LENGTH]) {
+    uint64_t another = 1 + below(place - 1), token = start_of(row[TOKEN]), current = row[CURRENT_END];
     while (fate_of(another, place - 1) != 1)
         another = 1 + another % (place - 1);
-    uint64_t actions[] = {action_of(row[3]), another}, links[] = {row[1], row[3], below(place)};
-    uint64_t starts[] = {row[2] - (row[2] > 0), row[2], row[2] + 1, token - 1, token, token + (token < UINT64_MAX)};
+    uint64_t actions[] = {action_of(row[TOKEN]), another}, links[] = {row[CURRENT], row[TOKEN], below(place)};
+    uint64_t starts[] = {current - (current > 0), current, current + 1, token - 1, token, token + (token < UINT64_MAX)};
     for (int i = 0; i < 2 * 3 * 6; i++)
         if (!image_is_alike(place, row, actions[i % 2], links[i / 2 % 3], starts[i / 6]))
             return 0;
@@ -210,10 +223,10 @@ static int inspects_images_alike(uint64_t (*count)(void), int sheets, int least)
     memset(over_counts, 0, sizeof over_counts);
     for (int k = 0; k < sheets; k++) {
         fill_sheet(count(), 0);
-        uint64_t place = end_of() + 1, row[5];
+        uint64_t place = end_of() + 1, row[ROW_LENGTH];
         for (uint64_t f = 1; f <= FILES && place <= pages; f++) {
             row_of(f, NULL, place - 1, row);
-            if (row[3] && !images_are_alike(place, row))
+            if (row[TOKEN] && !images_are_alike(place, row))
                 return 0;
             memset(page_at(place), 0, PAGE);
         }
@@ -318,13 +331,29 @@ static int sizes_alike(void) {
     memset(sheet, 0, sizeof sheet);
     for (uint64_t size = 0; size <= 3 * PAGE; size++)
         for (uint64_t n = 0; n <= 4; n++)
-            for (uint64_t numbers = 0; numbers <= 11; numbers++) {
-                int fits = size >= PAGE && size % PAGE == 0 && n == size / PAGE && numbers >= 5 && numbers % 5 == 0;
+            for (uint64_t numbers = 0; numbers <= 2 * ROW_LENGTH + 1; numbers++) {
+                int fits = size >= PAGE && size % PAGE == 0 && n == size / PAGE && numbers >= ROW_LENGTH && numbers % ROW_LENGTH == 0;
                 door_open(sheet, size, fates, n, rows, numbers, 0, told, TOLD);
                 if (told[WHICH] != (fits ? OPENED : REFUSED))
                     return 0;
             }
     return 1;
+}
+
+/* Whole rows for 1 to 256 files, and no other number of numbers. */
+static int row_counts_alike(void) {
+    enum { MOST_FILES = 256, LAST = ROW_LENGTH * (MOST_FILES + 2) };
+    static uint64_t rows[LAST];
+    uint8_t fates[1] = {0};
+    uint64_t told[TOLD];
+    int all = 1;
+    memset(sheet, 0, PAGE);
+    for (uint64_t numbers = 0; numbers <= LAST; numbers++) {
+        int fits = numbers % ROW_LENGTH == 0 && numbers / ROW_LENGTH >= 1 && numbers / ROW_LENGTH <= MOST_FILES;
+        door_open(sheet, PAGE, fates, 1, rows, numbers, 0, told, TOLD);
+        all = all && told[WHICH] == (fits ? OPENED : REFUSED) && told[FIRST] == (fits ? 0 : 1);
+    }
+    return all;
 }
 
 /* ---- the longest sheet, full: an opening at each odd place and its commit above it but, at each eighth pair, another opening */
@@ -380,7 +409,8 @@ int main(int count, char **words) {
     told("open, lawful sheets", opens_alike(small_count, SHEETS, 0));
     told("open, any sheets", opens_alike(small_count, SHEETS, 1));
     told("open, lengths", sizes_alike());
-    told("rebuild, any rows and fates", rebuilds_alike(small_count, SHEETS));
+    told("open, rows for 0 to 258 files", row_counts_alike());
+    told("rebuild, any rows and fates", rebuilds_alike(small_count, SHEETS, 50));
     told("inspect, lawful sheets", inspects_alike(small_count, SHEETS, 0));
     told("inspect, any sheets", inspects_alike(small_count, SHEETS, 1));
     told("inspect, an image above a token", inspects_images_alike(small_count, SHEETS, 500));
@@ -388,7 +418,7 @@ int main(int count, char **words) {
     told("highest start, any sheets", starts_alike(small_count, SHEETS, 1, ANY));
     told("open, lawful sheets of more than 1,024 pages", opens_alike(large_count, LARGE_SHEETS, 0));
     told("open, any sheets of more than 1,024 pages", opens_alike(large_count, LARGE_SHEETS, 1));
-    told("rebuild, on more than 1,024 pages", rebuilds_alike(large_count, LARGE_SHEETS));
+    told("rebuild, on more than 1,024 pages", rebuilds_alike(large_count, LARGE_SHEETS, 0));
     told("inspect, lawful sheets of more than 1,024 pages", inspects_alike(large_count, LARGE_SHEETS, 0));
     told("inspect, any sheets of more than 1,024 pages", inspects_alike(large_count, LARGE_SHEETS, 1));
     told("inspect, an image above a token on more than 1,024 pages", inspects_images_alike(large_count, LARGE_SHEETS, 20));
