@@ -11,10 +11,10 @@ struct ask {
 static struct kept kept;
 static int seen_refusal[16], seen_answer[8], seen_cut[PAGE + 2];
 
-/* What a test of an action, a decision of one that is decided, or a write has met; several may come at once. */
+/* What a test of an action, a decision of one that is decided, a write, or a call that rebuilds a row has met; several may come at once. */
 enum { SAME, OPPOSITE, TRUE_FATE, OTHER_OUTCOME, NO_OUTCOME, TWO_OUTCOMES, OUTCOME_ABOVE, NO_OPENING, FULL_SHEET, PAGE_ABOVE,
        TOKEN_LEFT, COLD_ROW, FALSELY_OPEN, OTHERS_TOKEN, OTHERS_TOKEN_10, OWN_LOWER, OWN_SAME, OWN_HIGHER, OWN_END_KEPT, OWN_END_RAISED,
-       OWN_COLD, OWN_10, OWN_11, OWN_BELOW_CURRENT, STRAY_END, MET };
+       OWN_COLD, OWN_10, OWN_11, OWN_BELOW_CURRENT, STRAY_END, TWO_UNDECIDED, MET };
 static const char *const met[MET] = {"the same decision again", "the opposite decision", "a fate that is the outcome's",
                                      "a fate that is not the outcome's", "a fate without an outcome", "two outcomes",
                                      "an outcome above the end", "an outcome without an opening", "a full sheet",
@@ -25,14 +25,15 @@ static const char *const met[MET] = {"the same decision again", "the opposite de
                                      "a file written again below its token end", "a file written again at its token end or above",
                                      "a file written again, its row cold", "a file written again at a start that 10 refuses",
                                      "a file written again on too few pages", "a file written again, its token below the current place",
-                                     "no token, but a token end above the start"};
+                                     "no token, but a token end above the start",
+                                     "a cold row, and images of two undecided actions above its current one"};
 static int seen_met[MET];
 
-/* A rebuilt row that a read, write or rebuild comes to, its mark and places being right, or a row that a commit or abort comes to: it is
-   right, or one thing of it is wrong; for a decision that is a row of the action or one that names it. The first are those in which the
-   token's action alone is wrong. */
-enum naming { RIGHT, NAMES_NONE, NAMES_UNDECIDED, NAMES_DECIDED, NAMES_NO_ACTION, NAMES_ABOVE, NAMES_HUGE, NAMES_WITHOUT, NAMINGS,
-              COLD_NAMING = NAMINGS, MARK_ABOVE_1, ANOTHERS_IMAGE, NO_IMAGE, ANOTHER_FILE, IMAGE_ABOVE, NO_PAGE, BESIDE, ROWS };
+/* What a row is that a call comes to: right, or wrong in one thing. Up to NAMINGS that is the token's action alone: read, write and rebuild
+   refuse such a row 7, commit and abort pass it over. The others name the action that is decided, and are passed over too; the last is
+   where another row of the action is settled beside one that is passed over. */
+enum kind_of_row { RIGHT, NAMES_NONE, NAMES_UNDECIDED, NAMES_DECIDED, NAMES_NO_ACTION, NAMES_ABOVE, NAMES_HUGE, NAMES_WITHOUT, NAMINGS,
+                   COLD_NAMING = NAMINGS, MARK_ABOVE_1, ANOTHERS_IMAGE, NO_IMAGE, ANOTHER_FILE, IMAGE_ABOVE, NO_PAGE, BESIDE, ROWS };
 static const char *const row_kinds[ROWS] = {"a token and its action", "a token and action 0", "a token and another undecided action",
                                             "a token and a decided action", "a token and a place that is no action",
                                             "a token and a number above the end", "a token and a number from 2^32 on",
@@ -244,7 +245,7 @@ static void meet_write(const struct call *q) {
 }
 
 /* What the token's action is in a row whose other numbers are right; NAMINGS where there is no token, and no action. */
-static enum naming naming_of(const uint64_t row[ROW_LENGTH]) {
+static enum kind_of_row naming_of(const uint64_t row[ROW_LENGTH]) {
     uint64_t named = row[TOKEN_ACTION];
     if (row[TOKEN] == 0)
         return named ? NAMES_WITHOUT : NAMINGS;
@@ -257,12 +258,12 @@ static enum naming naming_of(const uint64_t row[ROW_LENGTH]) {
 }
 
 /* What a file's row is for the decision of an action: ROWS if it neither names it nor holds its token, or if more than one thing is wrong. */
-static int row_kind(uint64_t file, uint64_t action) {
+static enum kind_of_row row_kind(uint64_t file, uint64_t action) {
     const uint64_t *row = row_in(&kept, file);
     uint64_t place = row[TOKEN];
     int names = row[TOKEN_ACTION] == action, is_own = place && place <= pages && is_image(place, file) && action_of(place) == action;
     if (is_own && place <= kept.end && row[MARK] == 1)
-        return (int)naming_of(row);
+        return naming_of(row);
     if (!names || (row[MARK] != 1 && (!is_own || place > kept.end)))
         return ROWS;
     if (row[MARK] != 1)
@@ -282,13 +283,23 @@ static void meet_rows(const struct call *q) {
     if (kept.end == pages || !is_blank(kept.end + 1))
         return;
     for (uint64_t f = 1; f <= FILES; f++) {
-        int kind = row_kind(f, q->action);
+        enum kind_of_row kind = row_kind(f, q->action);
         if (kind == ROWS)
             continue;
         seen_row[q->kind][kind]++;
         count[kind == RIGHT]++;
     }
     seen_row[q->kind][BESIDE] += count[0] && count[1];
+}
+
+/* Whether images of two undecided actions stand above a file's current one: the newest is the token. */
+static int has_two_undecided(uint64_t file) {
+    uint64_t row[ROW_LENGTH];
+    row_of(file, kept.fates, kept.end, row);
+    for (uint64_t p = row[TOKEN]; p > row[CURRENT]; p--)
+        if (is_image(p, file) && kept.fates[action_of(p) - 1] == 1 && action_of(p) != action_of(row[TOKEN]))
+            return 1;
+    return 0;
 }
 
 /* What is met where a read, write or rebuild may come to line 7. */
@@ -299,6 +310,7 @@ static void meet_row(const struct call *q) {
     const uint64_t *row = row_in(&kept, q->file);
     if (row[MARK] == 1 && places_hold(row, q->file, kept.end) && naming_of(row) < NAMINGS)
         seen_row[q->kind][naming_of(row)]++;
+    seen_met[TWO_UNDECIDED] += row[MARK] == 0 && has_two_undecided(q->file);
     if (q->kind == WRITE)
         meet_write(q);
 }
@@ -499,6 +511,25 @@ static void mislead(struct call *q) {
     decide_again(q, action);
 }
 
+/* A file's newest image up to a place that is not this action's, 0 if there is none. */
+static uint64_t image_of_another(uint64_t file, uint64_t upto, uint64_t action) {
+    for (uint64_t p = upto; p > 0; p--)
+        if (is_image(p, file) && action_of(p) != action)
+            return p;
+    return 0;
+}
+
+/* A cold row of a file whose newest images are of two actions, both undecided by their fates, and a call that rebuilds it. */
+static void revive(struct call *q) {
+    uint64_t file = 1 + below(FILES), newest = kept.end <= pages ? image_of_another(file, kept.end, 0) : 0;
+    uint64_t second = newest ? image_of_another(file, newest, action_of(newest)) : 0;
+    if (second == 0)
+        return;
+    kept.fates[action_of(second) - 1] = kept.fates[action_of(newest) - 1] = 1;
+    row_in(&kept, file)[MARK] = 0;
+    *q = (struct call){below(2) ? REBUILD : READ, file, start_of(newest), action_of(newest), 0, NULL};
+}
+
 /* A row whose token is gone but for its end, or lies below the current image, and a write of its file. */
 static void twist(struct call *q) {
     uint64_t file = 1 + below(FILES), *row = row_in(&kept, file), place = row[TOKEN];
@@ -579,7 +610,7 @@ static uint64_t mislay(struct call *q) {
     if (file == 0)
         return 0;
     uint64_t *row = row_in(&kept, file), token = row[TOKEN];
-    int kind = COLD_NAMING + (int)below(BESIDE - COLD_NAMING + 1);
+    enum kind_of_row kind = COLD_NAMING + (enum kind_of_row)below(BESIDE - COLD_NAMING + 1);
     *q = (struct call){below(2) ? COMMIT : ABORT, file, 0, row[TOKEN_ACTION], 0, NULL};
     if (kind == BESIDE)
         kind = ANOTHER_FILE; /* it is seldom found */
@@ -622,6 +653,8 @@ static uint64_t spoil(enum damaged what, struct call *q) {
     }
     if (what == ANYTHING && below(20) == 0)
         mislead(q);
+    if (what == ANYTHING && below(20) == 0)
+        revive(q);
     if (what == ANYTHING && below(10) == 0)
         twist(q);
     if (what == ROWS_ALONE && below(6) == 0)
@@ -686,8 +719,7 @@ static int large_alike(enum damaged what) {
     return 1;
 }
 
-/* Every answer, every refusal that these calls can give, every cut and all that a decided action or a write can meet has come often; 2
-   is open's. */
+/* Every answer, every refusal that these calls can give, every cut and all that is to be met has come often; 2 is open's. */
 static int all_seen(void) {
     for (int n = 1; n <= 13; n++)
         if (n != 2 && seen_refusal[n] < 20)
@@ -725,7 +757,7 @@ int main(int count, char **words) {
     told("runs with cuts on more than 1,024 pages", large_alike(NONE));
     told("runs with damage on more than 1,024 pages", large_alike(ANYTHING));
     told("runs on damaged rows alone on more than 1,024 pages", large_alike(ROWS_ALONE));
-    told("every answer, refusal and cut seen, and all that a decided action or a write can meet", all_seen());
+    told("every answer, refusal and cut seen, and all that is to be met", all_seen());
     told("every kind of row seen that a read, write, rebuild, commit or abort can come to", all_rows_seen());
     printf("%d passed, %d failed\n", passed, failed);
     return failed != 0;
