@@ -1,7 +1,7 @@
 -- The rows at commit and abort: whether a row's token is decided, one row settled, and all rows settled one by one.
 -- Assumes nothing.
-use Prim.Native.Nat.{ℕ, zero, suc, _+_, _*_, _/_, _≤_, _<_}
-use mathlib.Core.Path.{_≡_, refl, sym, ap, _∙_}
+use Prim.Native.Nat.{ℕ, zero, suc, _+_, _-_, _*_, _/_, _≤_, _<_}
+use mathlib.Core.Path.{_≡_, refl, sym, ap, subst, _∙_}
 use mathlib.Core.Bool.{Bool, true, false, cond, _&&_}
 use mathlib.Core.List.{List, [], _∷_}
 use native.Mathlib.Omega.{arith}
@@ -21,12 +21,13 @@ use Rattle.page.specs.Answers.{tested, onImage, imageOfFile}
 use Rattle.recovery.specs.Places.{nth}
 use Rattle.recovery.specs.Log.{Entry, blank, bad, image}
 use Rattle.recovery.specs.Sheet.{pageBytes, entryOf, imageFrom, isOpening, seal, decoded, sealed}
-use Rattle.recovery.specs.World.{isImageOf, imageAction, cold, isFile}
+use Rattle.recovery.specs.World.{isImageOf, imageAction, namesAction, cold, isFile}
 use Rattle.recovery.specs.Lent.{rowLength, rowsOf, flat, pagesOf}
-use Rattle.recovery.specs.Steps.{sealedImage, isFound, actionFound, sheetWorld, rowOf, namesActionIn, withRowOf}
+use Rattle.recovery.specs.Steps.{sealedImage, isFound, actionFound, sheetWorld, rowOf, nextNamed, withRowOf}
 use Rattle.recovery.specs.declared.Row.{Row}
 use Rattle.recovery.proofs.FlatRows.{rows-long, rows-flat, flat-rows, flat-long, put-flat}
 use Rattle.recovery.proofs.Lookups.{set-some}
+use Rattle.recovery.proofs.Named.{next-from, next-up, next-most, next-names}
 use Rattle.recovery.proofs.Held.{ofSought, lies-in, image-none, image-unsealed, image-sealed}
 use Rattle.calls.specs.Calls.{isTokenAt, holdsToken, decided, settled, eachRow}
 use Rattle.calls.specs.DecideSteps.{isTokenIn, settledRow, settledRows}
@@ -82,20 +83,20 @@ module _ (s : List ℕ) (files end a : ℕ) (c : Bool) (f : ℕ) (xs : List ℕ)
   unfolding settledRow
   by-holding b e = ap (λ (o : Bool). cond o (withRowOf xs f (decided c (rowOf xs f))) xs) e
 
-  pub row-unnamed : (n : Bool) → n ≡ namesActionIn xs f a → n ≡ false → xs ≡ settledRow s files end a c f xs
-  unfolding namesActionIn
-  row-unnamed n hn h = sym (by-holding false (ap (λ (o : Bool). o && isTokenAt (sheetWorld s files end) a f (rowOf xs f .token)) (sym hn ∙ h)))
+  row-unnamed : namesAction a (rowOf xs f) ≡ false → xs ≡ settledRow s files end a c f xs
+  row-unnamed h = sym (by-holding false (ap (λ (o : Bool). o && isTokenAt (sheetWorld s files end) a f (rowOf xs f .token)) h))
 
-  module _ (n : Bool) (hn : n ≡ namesActionIn xs f a) (named : n ≡ true) (r : Row) (hr : r ≡ rowOf xs f) (b : Bool) (hb : b ≡ isTokenIn s files end a f (r .token)) where
+  -- a row that names the action, by its token's place
+  module _ (named : namesAction a (rowOf xs f) ≡ true) (t : ℕ) (ht : t ≡ rowOf xs f .token) (b : Bool) (hb : b ≡ isTokenIn s files end a f t) where
     held : holdsToken (sheetWorld s files end) a f (rowOf xs f) ≡ b
-    unfolding namesActionIn isTokenIn
-    held = ap (λ (o : Bool). o && isTokenAt (sheetWorld s files end) a f (rowOf xs f .token)) (sym hn ∙ named) ∙ sym (rw hr at hb)
+    unfolding isTokenIn
+    held = ap (λ (o : Bool). o && isTokenAt (sheetWorld s files end) a f (rowOf xs f .token)) named ∙ sym (rw ht at hb)
 
     pub row-same : b ≡ false → xs ≡ settledRow s files end a c f xs
     row-same h = sym (by-holding false (held ∙ h))
 
-    pub row-decided : b ≡ true → (q : Row) → q ≡ decided c r → (ys : List ℕ) → ys ≡ withRowOf xs f q → ys ≡ settledRow s files end a c f xs
-    row-decided h q hq ys hy = hy ∙ ap (withRowOf xs f) (hq ∙ ap (decided c) hr) ∙ sym (by-holding true (held ∙ h))
+    pub row-decided : b ≡ true → (q : Row) → q ≡ decided c (rowOf xs f) → (ys : List ℕ) → ys ≡ withRowOf xs f q → ys ≡ settledRow s files end a c f xs
+    row-decided h q hq ys hy = hy ∙ ap (withRowOf xs f) hq ∙ sym (by-holding true (held ∙ h))
 
 -- ---- all rows, one by one
 
@@ -186,6 +187,31 @@ module _ (s : List ℕ) (files end a : ℕ) (c : Bool) (xs : List ℕ) where
     pub run-long : (k : ℕ) → length (runTo s files end a c xs k) ≡ length xs
     unfolding runTo
     run-long k = omega (arith, flat-long (eachTo κ k (rowsOf xs)), each-long κ k (rowsOf xs), rows-long xs)
+
+    -- rows that do not name the action are settled as they are
+    run-skip : (k : ℕ) → k ≤ length xs / rowLength → (ys : List ℕ) → ys ≡ runTo s files end a c xs k → ys ≡ runTo s files end a c xs (nextNamed ys k a)
+    run-skip k h ys hy =
+        let long : length ys ≡ length xs = ap length hy ∙ run-long k in
+        next-from ys a (λ j. ys ≡ runTo s files end a c xs j) (λ j l e p. run-more j (rw long at l) ys ys p (rw add-one (row-unnamed s files end a c (suc j) ys e)))
+        (length ys / rowLength - k) k (omega (arith, long)) hy
+
+    -- what is known at the next row that names it
+    pub record Reached (ys : List ℕ) (k n : ℕ) : Type 0 where
+      pub up : k ≤ n
+      pub most : n ≤ length xs / rowLength
+      pub run : ys ≡ runTo s files end a c xs n
+      pub names : n < length xs / rowLength → namesAction a (rowOf ys (suc n)) ≡ true
+
+    pub reached : (ys : List ℕ) (k n : ℕ) → k ≤ length xs / rowLength → ys ≡ runTo s files end a c xs k → n ≡ nextNamed ys k a → Reached ys k n
+    reached ys k n h hy e =
+        let long : length ys ≡ length xs = ap length hy ∙ run-long k in
+        let high : k ≤ length ys / rowLength = rw long h in
+        subst (Reached ys k) (sym e) (record {
+          up = next-up ys a k high;
+          most = rw long at (next-most ys a k high);
+          run = run-skip k h ys hy;
+          names = λ l. next-names ys a k high (rw long l);
+        })
 
     pub run-none : xs ≡ runTo s files end a c xs 0
     unfolding runTo eachTo

@@ -12,7 +12,7 @@ use recovery::fate_at;
 use recovery::file_count;
 use recovery::is_lent_right;
 use recovery::is_opening_at;
-use recovery::names_action;
+use recovery::next_named;
 use recovery::outcome_place;
 use recovery::refuse;
 use recovery::row_of;
@@ -24,9 +24,10 @@ ghost use Prim.Native.Nat.{_*_, _/_, pred};
 ghost use lib.ListN.{length};
 ghost use Rattle.page.specs.Table.{outcome};
 ghost use Rattle.recovery.specs.Log.{verdict};
-ghost use Rattle.recovery.specs.World.{fateNumber};
+ghost use Rattle.recovery.specs.World.{fateNumber, namesAction};
 ghost use Rattle.recovery.specs.Sheet.{isOpening, decoded};
 ghost use Rattle.recovery.specs.Lent.{rowLength, leftBy};
+ghost use Rattle.recovery.specs.Steps.{rowOf};
 ghost use Rattle.calls.specs.Calls.{Call, decided};
 ghost use Rattle.calls.specs.Leaves.{callLeaves};
 ghost use Rattle.calls.specs.DecideSteps.{decideLine, decidedAgain, isTokenIn, settledRow, settledRows};
@@ -102,18 +103,17 @@ fn decided_row(row: Row, committed: bool) -> Row
     }
 }
 
-// The row of a file, settled where its token is the action's.
+// The row of a file that names the action, settled where its token is the action's.
 fn settle_row(sheet: &[u8], rows: &mut [u64], end: u64, files: u64, file: u64, decision: Decision)
-    requires { ⌜ decision .opened ≡ isOpening (decoded files (now sheet) (decision .action)) ⌝ }
+    requires { ⌜ (decision .opened ≡ isOpening (decoded files (now sheet) (decision .action))) × (namesAction (decision .action) (rowOf (now rows) file) ≡ true) ⌝ }
     ensures { λ _. ⌜ now (rows .exit) ≡ settledRow (now (sheet .entry)) files end (decision .action) (decision .committed) file (now (rows .entry)) ⌝ }
 {
-    if !names_action(&rows[..], file, decision.action) {
+    let token = row_of(&rows[..], file).token;
+    if !is_token_at(sheet, end, files, file, token, decision) {
         return;
     }
+    // Read now, so that the numbers need not be kept during the look at the page.
     let row = row_of(&rows[..], file);
-    if !is_token_at(sheet, end, files, file, row.token, decision) {
-        return;
-    }
     set_row(rows, file, decided_row(row, decision.committed));
 }
 
@@ -123,7 +123,11 @@ fn settle_rows(sheet: &[u8], rows: &mut [u64], end: u64, files: u64, decision: D
     ensures { λ _. ⌜ now (rows .exit) ≡ settledRows (now (sheet .entry)) files end (decision .action) (decision .committed) (now (rows .entry)) ⌝ }
 {
     let mut file: u64 = 0;
-    while file < files {
+    loop {
+        file = next_named(&rows[..], file, decision.action);
+        if files <= file {
+            return;
+        }
         file += 1;
         settle_row(sheet, rows, end, files, file, decision);
     }

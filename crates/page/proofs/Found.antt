@@ -1,7 +1,7 @@
 -- What an answer of the page test tells: the laws that the layers above cite. Assumes nothing.
 use Prim.Native.Nat.{ℕ, _≤_, _<_}
 use mathlib.Core.Path.{_≡_, refl, sym, ap, subst, _∙_}
-use mathlib.Core.Bool.{Bool, true, false, cond}
+use mathlib.Core.Bool.{Bool, true, false, cond, true≢false, false≢true}
 use mathlib.Core.List.{List, [], _∷_}
 use native.Mathlib.Omega.{arith}
 use borrow.Author.Tests.{eqb-true, eq-eqb, ne-eqb}
@@ -17,7 +17,7 @@ use Rattle.page.specs.declared.Unpacked.the-variants.{Refused, Blank, To
 use Rattle.page.proofs.Unpacked.{the-type}
 use Rattle.page.specs.Layout.{valueSize, pageSize}
 use Rattle.page.specs.Table.{fieldsOf, opening, lowest, highest, meetsRules, isPageOf, fits, torn}
-use Rattle.page.specs.Answers.{inBounds, tested, onImage, isOutcomeOf}
+use Rattle.page.specs.Answers.{inBounds, byKind, tested, testNumber, onImage, isOutcomeOf}
 use Rattle.page.specs.Steps.{hasKind}
 use Rattle.page.proofs.Rules.{Between, between-true, InBounds, in-bounds}
 
@@ -128,25 +128,15 @@ off-image (Image p) f d k = absurd (miss other-tags 4 tt k)
 off-image (Outcome p) f d k = refl
 off-image Unfit f d k = refl
 
--- and in that of `let Unpacked::Outcome(p) = u else { .. }`
-abbrev pub no-outcome-tags : List ℕ
-no-outcome-tags = 0 ∷ 1 ∷ 2 ∷ 3 ∷ 4 ∷ 6 ∷ []
-
-pub off-outcome : (u : Unpacked) (a : ℕ) → OneOf no-outcome-tags (tagOf the-type u) → false ≡ isOutcomeOf a u
-unfolding isOutcomeOf
-off-outcome Refused a k = refl
-off-outcome Blank a k = refl
-off-outcome Torn a k = refl
-off-outcome (Opening p) a k = refl
-off-outcome (Image p) a k = refl
-off-outcome (Outcome p) a k = absurd (miss no-outcome-tags 5 tt k)
-off-outcome Unfit a k = refl
-
 -- ---- the size and the kind
 
 pub kind-size : (s : List ℕ) (kind : ℕ) → hasKind s kind ≡ true → length s ≡ pageSize
 unfolding hasKind
 kind-size s kind h = eqb-true (length s) pageSize (and-true (eqb (length s) pageSize) (eqb (fieldsOf s .kind) kind) h .0)
+
+kind-of : (s : List ℕ) (kind : ℕ) → hasKind s kind ≡ true → fieldsOf s .kind ≡ kind
+unfolding hasKind
+kind-of s kind h = eqb-true (fieldsOf s .kind) kind (and-true (eqb (length s) pageSize) (eqb (fieldsOf s .kind) kind) h .1)
 
 pub fits-kind : {s : List ℕ} {place files kind : ℕ} {p : Page} → Fits s place files p kind → hasKind s kind ≡ true
 unfolding hasKind
@@ -154,26 +144,61 @@ fits-kind {s} {kind = kind} h =
     and-both (eqb (length s) pageSize) (eqb (fieldsOf s .kind) kind) (eq-eqb (length s) pageSize (h .bounds .size-is))
     (eq-eqb (fieldsOf s .kind) kind (ap (λ (x : Page). x .kind) (sym (h .fields-are)) ∙ h .kind-is))
 
--- ---- an outcome of an action, by its fields
+-- ---- an answer with fields, by its number
 
-module _ (s : List ℕ) (place files a : ℕ) where
-  -- a part that does not have its kind or its action is none
-  pub no-outcome : (hasKind s 3 ≡ true → fieldsOf s .action ≡ a → ⊥) → false ≡ isOutcomeOf a (tested s place files)
-  unfolding isOutcomeOf
-  no-outcome h = go (tested s place files) refl
+module _ (s : List ℕ) (place files : ℕ) where
+  told-fields : eqb (testNumber (tested s place files)) 0 ≡ true → tested s place files ≡ byKind (fieldsOf s)
+  unfolding tested
+  told-fields = go (inBounds (length s) place files) (zeros s) (torn s) (fits s place files)
     where
-      go : (u : Unpacked) → u ≡ tested s place files → false ≡ isOutcomeOf a u
-      go Refused e = refl
-      go Blank e = refl
-      go Torn e = refl
-      go (Opening p) e = refl
-      go (Image p) e = refl
-      go Unfit e = refl
-      go (Outcome p) e =
-          let f = found s place files (Outcome p) e in
-          sym (ne-eqb (p .action) a (λ z. h (fits-kind f) (ap (λ (x : Page). x .action) (sym (f .fields-are)) ∙ z)))
+      answer : (a z t f : Bool) → Unpacked
+      answer a z t f = cond a (cond z Blank (cond t Torn (cond f (byKind (fieldsOf s)) Unfit))) Refused
 
-  -- an outcome that has its action is
-  pub this-outcome : (p : Page) → Outcome p ≡ tested s place files → fieldsOf s .action ≡ a → true ≡ isOutcomeOf a (tested s place files)
-  unfolding isOutcomeOf
-  this-outcome p e h = rw (← e) (sym (eq-eqb (p .action) a (ap (λ (x : Page). x .action) (found s place files (Outcome p) e .fields-are) ∙ h)))
+      go : (a z t f : Bool) → eqb (testNumber (answer a z t f)) 0 ≡ true → answer a z t f ≡ byKind (fieldsOf s)
+      go false z t f h = absurd (false≢true h)
+      go true true t f h = absurd (false≢true h)
+      go true false true f h = absurd (false≢true h)
+      go true false false true h = refl
+      go true false false false h = absurd (false≢true h)
+
+  pub told-image : hasKind s 2 ≡ true → eqb (testNumber (tested s place files)) 0 ≡ true → Image (fieldsOf s) ≡ tested s place files
+  told-image k h = let e : fieldsOf s .kind ≡ 2 = kind-of s 2 k in sym (told-fields h ∙ rw e)
+
+  -- ---- an outcome of an action, by its fields
+
+  module _ (a : ℕ) where
+    -- a part that does not have its kind or its action is none
+    pub no-outcome : (hasKind s 3 ≡ true → fieldsOf s .action ≡ a → ⊥) → false ≡ isOutcomeOf a (tested s place files)
+    unfolding isOutcomeOf
+    no-outcome h = go (tested s place files) refl
+      where
+        go : (u : Unpacked) → u ≡ tested s place files → false ≡ isOutcomeOf a u
+        go Refused e = refl
+        go Blank e = refl
+        go Torn e = refl
+        go (Opening p) e = refl
+        go (Image p) e = refl
+        go Unfit e = refl
+        go (Outcome p) e =
+            let f = found s place files (Outcome p) e in
+            sym (ne-eqb (p .action) a (λ z. h (fits-kind f) (ap (λ (x : Page). x .action) (sym (f .fields-are)) ∙ z)))
+
+    -- one that has them is, if it fits
+    pub told-outcome : hasKind s 3 ≡ true → fieldsOf s .action ≡ a → eqb (testNumber (tested s place files)) 0 ≡ isOutcomeOf a (tested s place files)
+    unfolding isOutcomeOf
+    told-outcome k act = go (eqb (testNumber (tested s place files)) 0) refl
+      where
+        unfit : (u : Unpacked) → eqb (testNumber u) 0 ≡ false → false ≡ isOutcomeOf a u
+        unfit Refused e = refl
+        unfit Blank e = refl
+        unfit Torn e = refl
+        unfit (Opening p) e = refl
+        unfit (Image p) e = refl
+        unfit (Outcome p) e = absurd (true≢false e)
+        unfit Unfit e = refl
+
+        go : (b : Bool) → eqb (testNumber (tested s place files)) 0 ≡ b → b ≡ isOutcomeOf a (tested s place files)
+        go true e =
+            let three : fieldsOf s .kind ≡ 3 = kind-of s 3 k in
+            rw (told-fields e, three) (sym (eq-eqb (fieldsOf s .action) a act))
+        go false e = unfit (tested s place files) e

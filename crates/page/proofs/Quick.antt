@@ -4,7 +4,7 @@ use mathlib.Core.Path.{_≡_, refl, sym, ap, ap₂, _∙_}
 use mathlib.Core.Bool.{Bool, true, false, _&&_, cond}
 use mathlib.Core.List.{List, _++_, append-assoc}
 use native.Mathlib.Omega.{arith}
-use borrow.Author.Tests.{eqb-true, eq-eqb, ne-eqb}
+use borrow.Author.Tests.{eqb-true, eqb-false, eq-eqb, ne-eqb}
 use lib.Dec.{eqb}
 use lib.ListN.{length, take, drop, getD, length-append}
 use lib.Seq.{take-at, drop-at, take-all, take-add, getD-drop}
@@ -15,11 +15,11 @@ use Rattle.encoding.proofs.Parts.{length-part}
 use Rattle.encoding.proofs.Weighing.{check-small}
 use Rattle.page.specs.declared.Page.{Page}
 use Rattle.page.specs.declared.Unpacked.{Unpacked}
-use Rattle.page.specs.declared.Unpacked.the-variants.{Blank, Torn, Unfit}
+use Rattle.page.specs.declared.Unpacked.the-variants.{Blank, Torn, Opening, Image, Outcome, Unfit}
 use Rattle.page.specs.Layout.{kindAt, smallAt, spareAt, fileAt, actionAt, linkAt, startAt, valueAt, placeAt, checkAt, spareEndAt, markAt, pageSize, endMark, mostPlaces, valueSize}
 use Rattle.page.specs.Table.{cell, head, front, packed, field, fieldsOf, valueOf, within, meetsRules, isPageOf, fits, torn}
 use Rattle.page.specs.Steps.{framed}
-use Rattle.page.specs.Answers.{inBounds, byKind, tested, isBlankPage}
+use Rattle.page.specs.Answers.{inBounds, byKind, tested, testNumber, isBlankPage}
 use Rattle.page.proofs.Rules.{within-true, InBounds, in-bounds}
 use Rattle.page.proofs.RoundTrip.{length-front, last-byte}
 
@@ -185,6 +185,32 @@ pub marked-tested : (s : List ℕ) (place files : ℕ) → inBounds (length s) p
 unfolding tested torn
 marked-tested s place files a m =
     simp (a, not-zeros s markAt m, and-false (within (getD s kindAt 0) 1 3) (eqb (getD s markAt 0) 0) (ne-eqb (getD s markAt 0) 0 m))
+
+-- ---- a page that fits, by the number of the answer
+
+pub fits-told : (s : List ℕ) (place files : ℕ) → inBounds (length s) place files ≡ true → AreBytes s → fits s place files ≡ eqb (testNumber (tested s place files)) 0
+fits-told s place files a b = go (eqb (getD s markAt 0) 0) refl
+  where
+    q : InBounds (length s) place files
+    q = in-bounds (length s) place files a
+
+    unmarked : (t z : Bool) → false ≡ eqb (testNumber (cond t Torn (cond z Blank Unfit))) 0
+    unmarked true z = refl
+    unmarked false true = refl
+    unmarked false false = refl
+
+    marked : (f k1 k2 : Bool) → f ≡ eqb (testNumber (cond f (cond k1 (Opening (fieldsOf s)) (cond k2 (Image (fieldsOf s)) (Outcome (fieldsOf s)))) Unfit)) 0
+    marked true true k2 = refl
+    marked true false true = refl
+    marked true false false = refl
+    marked false k1 k2 = refl
+
+    go : (m : Bool) → eqb (getD s markAt 0) 0 ≡ m → fits s place files ≡ eqb (testNumber (tested s place files)) 0
+    go true e =
+        let z : getD s markAt 0 ≡ 0 = eqb-true (getD s markAt 0) 0 e in
+        rw (unmarked-tested s place files a b z, no-mark s (q .size-is) b place files (q .place-is .1) z) (unmarked (torn s) (zeros s))
+    go false e =
+        rw (marked-tested s place files a (eqb-false (getD s markAt 0) 0 e)) (marked (fits s place files) (eqb (fieldsOf s .kind) 1) (eqb (fieldsOf s .kind) 2))
 
 -- ---- a blank page is one of zeros
 

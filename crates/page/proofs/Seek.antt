@@ -1,7 +1,7 @@
 -- The quick looks, by an image's kind and one field more, say what the page test says. Assumes nothing.
 use Prim.Native.Nat.{ℕ}
 use mathlib.Core.Path.{_≡_, refl, sym, ap, _∙_}
-use mathlib.Core.Bool.{Bool, true, false, false≢true}
+use mathlib.Core.Bool.{Bool, true, false, true≢false, false≢true}
 use mathlib.Core.List.{List}
 use Rattle.encoding.proofs.Logic.{and-true, and-both, is-false}
 use lib.Dec.{eqb}
@@ -12,9 +12,9 @@ use Rattle.page.specs.declared.Unpacked.the-variants.{Refused, Blank, To
 use Rattle.page.specs.declared.Sought as sought
 use Rattle.page.specs.Layout.{pageSize}
 use Rattle.page.specs.Table.{fieldsOf}
-use Rattle.page.specs.Answers.{tested, imageThat, imageOfFile}
+use Rattle.page.specs.Answers.{tested, testNumber, imageThat, imageOfFile}
 use Rattle.page.specs.Steps.{hasKind, named}
-use Rattle.page.proofs.Found.{found, kind-size, fits-kind}
+use Rattle.page.proofs.Found.{found, kind-size, fits-kind, told-image}
 
 -- ---- an image that passes a test
 
@@ -35,15 +35,29 @@ module _ (passes : Page → Bool) (s : List ℕ) (place files : ℕ) where
           let other : passes p ≡ false = is-false (passes p) (λ z. h (fits-kind f) (ap passes (sym (f .fields-are)) ∙ z)) in
           rw other
 
+  -- nor is one that does not fit
+  pub unfit-image : eqb (testNumber (tested s place files)) 0 ≡ false → sought.Sought.Other ≡ imageThat passes (tested s place files)
+  unfit-image = go (tested s place files)
+    where
+      go : (u : Unpacked) → eqb (testNumber u) 0 ≡ false → sought.Sought.Other ≡ imageThat passes u
+      go Refused e = refl
+      go Blank e = refl
+      go Torn e = refl
+      go (Opening p) e = refl
+      go (Image p) e = absurd (true≢false e)
+      go (Outcome p) e = refl
+      go Unfit e = refl
+
   -- one whose fields pass, and that the page test calls an image, is
   pub that-image : (x : Page) → Image x ≡ tested s place files → passes (fieldsOf s) ≡ true → sought.Sought.Image x ≡ imageThat passes (tested s place files)
   that-image x e h =
       let g : passes x ≡ true = ap passes (found s place files (Image x) e .fields-are) ∙ h in
       rw (← e) (rw g)
 
-  -- and its fields can be read again from the part
-  pub read-again : (p x : Page) → Image x ≡ tested s place files → p ≡ fieldsOf s → passes (fieldsOf s) ≡ true → sought.Sought.Image p ≡ imageThat passes (tested s place files)
-  read-again p x e r h = ap sought.Sought.Image (r ∙ sym (found s place files (Image x) e .fields-are)) ∙ that-image x e h
+  -- and so one with its kind that fits, by the fields read from the part
+  pub fit-image : (p : Page) → p ≡ fieldsOf s → hasKind s 2 ≡ true → passes (fieldsOf s) ≡ true → eqb (testNumber (tested s place files)) 0 ≡ true
+      → sought.Sought.Image p ≡ imageThat passes (tested s place files)
+  fit-image p r k h e = ap sought.Sought.Image r ∙ that-image (fieldsOf s) (told-image s place files k e) h
 
 -- ---- an image of a file
 
@@ -69,6 +83,10 @@ module _ (s : List ℕ) (place files file : ℕ) where
   unfolding imageOfFile
   named-image x h e = that-image ofFile s place files x e (named-file h)
 
-  pub this-image : (p x : Page) → named s file ≡ true → Image x ≡ tested s place files → p ≡ fieldsOf s → sought.Sought.Image p ≡ imageOfFile file (tested s place files)
+  pub this-image : (p : Page) → p ≡ fieldsOf s → named s file ≡ true → eqb (testNumber (tested s place files)) 0 ≡ true → sought.Sought.Image p ≡ imageOfFile file (tested s place files)
+  unfolding named imageOfFile
+  this-image p r h e = let k = and-true (hasKind s 2) (ofFile (fieldsOf s)) h in fit-image ofFile s place files p r (k .0) (k .1) e
+
+  pub unfit-of-file : eqb (testNumber (tested s place files)) 0 ≡ false → sought.Sought.Other ≡ imageOfFile file (tested s place files)
   unfolding imageOfFile
-  this-image p x h e r = read-again ofFile s place files p x e r (named-file h)
+  unfit-of-file e = unfit-image ofFile s place files e

@@ -3,6 +3,7 @@ pub mod Pages
 pub mod FlatRows
 pub mod Sizes
 pub mod Lookups
+pub mod Named
 pub mod LogFolds
 pub mod Outcomes
 pub mod HighestStart

@@ -1,9 +1,9 @@
 -- What smaller functions of the code answer. A reader of document 01 can pass this file over: the laws join it to `rebuilt`.
 use mathlib.Core.Path.{_≡_}
-use mathlib.Core.List.{List, []}
+use mathlib.Core.List.{List, [], _∷_}
 use mathlib.Core.Bool.{Bool, true, false, cond, _&&_, _||_}
-use Prim.Native.Nat.{ℕ, pred, _/_}
-use lib.ListN.{length}
+use Prim.Native.Nat.{ℕ, suc, pred, _+_, _/_}
+use lib.ListN.{length, drop}
 use lib.Dec.{eqb, leb}
 use Rattle.page.specs.declared.Page.{Page}
 use Rattle.page.specs.declared.Sought as sought
@@ -14,7 +14,7 @@ use Rattle.recovery.specs.Places.{nth}
 use Rattle.recovery.specs.Log.{outcomeOf}
 use Rattle.recovery.specs.Sheet.{pageBytes, isOpening, decoded}
 use Rattle.recovery.specs.World.{World, down, rebuiltRow, fateIn, cold, isFile, rowHolds, namesAction}
-use Rattle.recovery.specs.Lent.{rowLength, rowsOf, putRow, pagesOf, sizesRight}
+use Rattle.recovery.specs.Lent.{rowLength, rowFrom, rowsOf, putRow, pagesOf, sizesRight}
 use Rattle.recovery.specs.declared.Row.{Row}
 use Rattle.recovery.specs.declared.State.{State}
 use Rattle.recovery.specs.declared.Done.{Done}
@@ -49,9 +49,18 @@ rowOf rows file = nth cold (rowsOf rows) file
 unfoldable pub withRowOf : List ℕ → ℕ → Row → List ℕ
 withRowOf rows file r = cond (isFile (length rows / rowLength) file) (putRow rows (pred file) r) rows
 
--- whether the row of a file is rebuilt and its token is an action's
-unfoldable pub namesActionIn : List ℕ → ℕ → ℕ → Bool
-namesActionIn rows file a = namesAction a (rowOf rows file)
+-- how many files lie before the first of these rows, with f before them, that names an action: all of them if there is none
+unfoldable pub passed : ℕ → List Row → ℕ → ℕ
+passed a [] f = f
+passed a (r ∷ rs) f = cond (namesAction a r) f (passed a rs (suc f))
+
+unfoldable pub nextNamed : List ℕ → ℕ → ℕ → ℕ
+nextNamed rows f a = passed a (drop f (rowsOf rows)) f
+
+-- whether one of the four rows after k others has an action as its token's
+unfoldable pub inFour : List ℕ → ℕ → ℕ → Bool
+inFour rows k a =
+    eqb (rowFrom rows k .tokenaction) a || eqb (rowFrom rows (k + 1) .tokenaction) a || eqb (rowFrom rows (k + 2) .tokenaction) a || eqb (rowFrom rows (k + 3) .tokenaction) a
 
 abbrev pub rebuiltWith : ℕ → ℕ → ℕ → ℕ → ℕ → Row
 rebuiltWith current currentend token tokenend tokenaction = record {

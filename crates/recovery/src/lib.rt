@@ -27,7 +27,7 @@ pub use rolling::raised_row;
 pub use rows::file_count;
 pub use rows::has_file;
 pub use rows::is_file;
-pub use rows::names_action;
+pub use rows::next_named;
 pub use rows::row_of;
 pub use rows::set_row;
 pub use starts::highest_start;

@@ -6,7 +6,7 @@ ghost use Prim.Native.Nat.{_+_, _*_, _/_, _≤_};
 ghost use lib.ListN.{length};
 ghost use Rattle.recovery.specs.World.{isFile, namesAction};
 ghost use Rattle.recovery.specs.Lent.{rowLength, rowFrom, putRow};
-ghost use Rattle.recovery.specs.Steps.{rowOf, namesActionIn, withRowOf};
+ghost use Rattle.recovery.specs.Steps.{rowOf, inFour, nextNamed, withRowOf};
 
 // Where the numbers of a row lie, after its mark.
 const CURRENT: usize = 1;
@@ -17,7 +17,7 @@ const TOKEN: usize = 3;
 
 const TOKEN_END: usize = 4;
 
-const TOKEN_ACTION: usize = 5;
+const TOKEN_ACTION: usize = ROW_LENGTH - 1;
 
 // How many files a run of so many numbers has rows for.
 pub fn file_count(numbers: usize) -> u64
@@ -86,23 +86,62 @@ pub fn row_of(rows: &[u64], file: u64) -> Row
     read_row(rows, file as usize - 1)
 }
 
-// Whether the row after k others is rebuilt and its token is an action's, by the two numbers where they lie.
+// The action of the token in the row after k others, where it lies.
+fn action_at(rows: &[u64], k: usize) -> u64
+    requires { ⌜ rowLength * k + rowLength ≤ length (now rows) ⌝ }
+    ensures { λ r. ⌜ r ≡ rowFrom (now (rows .entry)) k .tokenaction ⌝ }
+{
+    rows[ROW_LENGTH * k + TOKEN_ACTION]
+}
+
+// Whether the row after k others is rebuilt and names an action.
 fn names_at(rows: &[u64], k: usize, action: u64) -> bool
     requires { ⌜ rowLength * k + rowLength ≤ length (now rows) ⌝ }
     ensures { λ r. ⌜ r ≡ namesAction action (rowFrom (now (rows .entry)) k) ⌝ }
 {
-    let at = ROW_LENGTH * k;
-    (rows[at] == 1) & (rows[at + TOKEN_ACTION] == action)
+    (rows[ROW_LENGTH * k] == 1) & (action_at(rows, k) == action)
 }
 
-// The same of a file's row; not so for no file.
-pub fn names_action(rows: &[u64], file: u64, action: u64) -> bool
-    ensures { λ r. ⌜ r ≡ namesActionIn (now (rows .entry)) file action ⌝ }
+// Whether one of the next four rows has an action, whatever its mark.
+fn is_in_four(rows: &[u64], k: usize, action: u64) -> bool
+    requires { ⌜ rowLength * (k + 4) ≤ length (now rows) ⌝ }
+    ensures { λ r. ⌜ r ≡ inFour (now (rows .entry)) k action ⌝ }
 {
-    if !has_file(rows.len(), file) {
-        return false;
+    (action_at(rows, k) == action)
+        | (action_at(rows, k + 1) == action)
+        | (action_at(rows, k + 2) == action)
+        | (action_at(rows, k + 3) == action)
+}
+
+// Passes over rows that do not name an action, four at a time: one choice for four rows.
+fn skip_fours(rows: &[u64], from: usize, action: u64) -> usize
+    requires { ⌜ from ≤ length (now rows) / rowLength ⌝ }
+    ensures { λ r. ⌜ (from ≤ r) × (nextNamed (now (rows .entry)) r action ≡ nextNamed (now (rows .entry)) from action) ⌝ }
+{
+    let files = rows.len() / ROW_LENGTH;
+    let mut k = from;
+    while k + 4 <= files {
+        if is_in_four(rows, k, action) {
+            return k;
+        }
+        k += 4;
     }
-    names_at(rows, file as usize - 1, action)
+    k
+}
+
+// How many files lie before the next row, after so many, that names an action: all of them if there is none.
+pub fn next_named(rows: &[u64], passed: u64, action: u64) -> u64
+    ensures { λ r. ⌜ r ≡ nextNamed (now (rows .entry)) passed action ⌝ }
+{
+    let files = rows.len() / ROW_LENGTH;
+    let mut k = passed as usize;
+    while k < files {
+        if names_at(rows, k, action) {
+            return k as u64;
+        }
+        k = skip_fours(rows, k + 1, action);
+    }
+    k as u64
 }
 
 // Puts a file's row into the run; for no file nothing changes.

@@ -1,11 +1,10 @@
--- `page::Page::is_outcome_of`: what is passed over at once is no outcome of this action. Assumes nothing.
+-- `page::Page::is_outcome_of`: what is passed over at once is no outcome of this action, and all else is one if it fits. Assumes nothing.
 use Rattle.page.specs.Table.{fieldsOf}
-use Rattle.page.specs.Answers.{isOutcomeOf}
-use Rattle.page.proofs.Found.{kind-size, off-outcome, no-outcome, this-outcome}
+use Rattle.page.proofs.Found.{kind-size, no-outcome, told-outcome}
 use Rattle.encoding.proofs.Logic.{refused, passed}
 use native.Mathlib.Omega.{arith}
 use mathlib.Core.Bool.{false≢true}
-use mathlib.Core.Path.{sym, ap, _∙_}
+use mathlib.Core.Path.{sym, _∙_}
 use borrow.Author.Needs.{needs}
 use Rattle.page.proofs.Page.is_outcome_of.Statement.{statement}
 use Rattle.page.proofs.Page.is_outcome_of.Tie as tie
@@ -23,28 +22,14 @@ returns-2 : tie.Need-returns-2
 unfolding fieldsOf
 returns-2 c = no-outcome _ _ _ _ (λ kind action. c .if2 .taken (c .before .field .ensures ∙ action))
 
-test-requires : tie.Need-test-requires
-test-requires c κs = search needs
-
-enum-told : tie.Need-enum-told
-enum-told c = search needs
+is-page-requires : tie.Need-is-page-requires
+is-page-requires c κs = search needs
 
 returns-3 : tie.Need-returns-3
-returns-3 c = off-outcome (c .before .test .result) _ (c .match .keys2) ∙ ap (isOutcomeOf _) (c .before .test .ensures)
-
-returns-4 : tie.Need-returns-4
 unfolding fieldsOf
-returns-4 c = this-outcome _ _ _ _ _ (sym (c .enum-told .given .1) ∙ c .before .before .test .ensures) (sym (c .before .before .before .before .field .ensures) ∙ c .before .before .before .if2 .left)
+returns-3 c =
+    let k = c .before .before .before in
+    c .is-page .ensures ∙ told-outcome _ _ _ _ (passed (k .before .has-kind .ensures) (k .if1 .left)) (sym (c .before .before .field .ensures) ∙ c .before .if2 .left)
 
 pub is-outcome-of-spec : {M : Type 1} → statement M
-is-outcome-of-spec =
-    tie.close
-    (tie.spec
-    has-kind-requires
-    returns
-    field-requires
-    returns-2
-    test-requires
-    enum-told
-    returns-3
-    returns-4)
+is-outcome-of-spec = tie.close (tie.spec has-kind-requires returns field-requires returns-2 is-page-requires returns-3)

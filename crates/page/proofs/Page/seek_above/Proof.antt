@@ -1,17 +1,16 @@
--- `page::Page::seek_above`: what is passed over at once is no image that starts above the time. Assumes nothing.
+-- `page::Page::seek_above`: what is passed over at once, or does not fit, is no image that starts above the time. Assumes nothing.
 use Rattle.page.specs.Table.{fieldsOf}
 use Rattle.page.specs.Answers.{imageAbove}
-use Rattle.page.specs.declared.Sought.{Sought}
 use Rattle.page.specs.declared.Page.{Page}
-use Rattle.page.proofs.Found.{kind-size, off-image}
-use Rattle.page.proofs.Seek.{no-image, read-again}
+use Rattle.page.proofs.Found.{kind-size}
+use Rattle.page.proofs.Seek.{no-image, unfit-image, fit-image}
 use Rattle.encoding.proofs.Logic.{refused, passed}
 use Prim.Native.Nat.{ℕ}
 use native.Mathlib.Omega.{arith}
 use lib.Dec.{ltb}
 use denote.Ref.{now}
-use mathlib.Core.Bool.{Bool, cond, false≢true}
-use mathlib.Core.Path.{sym, ap, _∙_}
+use mathlib.Core.Bool.{Bool, false≢true}
+use mathlib.Core.Path.{sym, _∙_}
 use borrow.Author.Tests.{ltb-true, lt-ltb}
 use borrow.Author.Needs.{needs}
 use Rattle.page.proofs.Page.seek_above.Statement.{statement}
@@ -36,29 +35,24 @@ returns-2 c =
     let a = c .before .before .before .before .before .args in
     no-image (later (a .time)) (now (a .part)) _ _ (λ kind start. omega (arith, c .before .field .ensures, ltb-true (a .time) (fieldsOf (now (a .part)) .start) start))
 
-test-requires : tie.Need-test-requires
-test-requires c κs = search needs
-
-enum-told : tie.Need-enum-told
-enum-told c = search needs
+is-page-requires : tie.Need-is-page-requires
+is-page-requires c κs = search needs
 
 returns-3 : tie.Need-returns-3
 unfolding imageAbove
-returns-3 c =
-    let a = c .before .before .before .before .before .before .before .args in
-    off-image (c .before .test .result) (λ (p : Page). cond (later (a .time) p) (Sought.Image p) Sought.Other) Sought.Other (c .match .keys2)
-    ∙ ap (imageAbove (a .time)) (c .before .test .ensures)
+returns-3 c = unfit-image (later _) _ _ _ (refused (c .before .is-page .ensures) (c .if3 .taken))
 
 fields-requires : tie.Need-fields-requires
-fields-requires c κs = let k = c .before .before .before .before .before in kind-size _ 2 (passed (k .before .has-kind .ensures) (k .if1 .left))
+fields-requires c κs = let k = c .before .before .before .before in kind-size _ 2 (passed (k .before .has-kind .ensures) (k .if1 .left))
 
 returns-4 : tie.Need-returns-4
 unfolding imageAbove fieldsOf
 returns-4 c =
-    let t = c .before .before .before in
-    let a = t .before .before .before .before .before .before .args in
-    read-again (later (a .time)) (now (a .part)) _ _ _ _ (sym (c .before .enum-told .given .1) ∙ t .test .ensures) (c .fields .ensures)
-    (lt-ltb (a .time) (fieldsOf (now (a .part)) .start) (omega (arith, t .before .before .field .ensures)))
+    let t = c .before in
+    let k = t .before .before .before .before in
+    let a = k .before .before .before .args in
+    fit-image (later (a .time)) (now (a .part)) _ _ _ (c .fields .ensures) (passed (k .before .has-kind .ensures) (k .if1 .left))
+    (lt-ltb (a .time) (fieldsOf (now (a .part)) .start) (omega (arith, t .before .before .before .field .ensures))) (passed (t .before .is-page .ensures) (t .if3 .left))
 
 pub seek-above-spec : {M : Type 1} → statement M
 seek-above-spec =
@@ -68,8 +62,7 @@ seek-above-spec =
     returns
     field-requires
     returns-2
-    test-requires
-    enum-told
+    is-page-requires
     returns-3
     fields-requires
     returns-4)
