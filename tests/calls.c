@@ -1,6 +1,6 @@
 /* The proved calls beside plain ones, written here from documents 01 and 02 line by line: long runs of random calls on a sheet, with
-   cuts, openings, and lent fates, rows, states and pages that are damaged. After every call the answer, the state and every lent byte and
-   number must be the same. Prints a line for each test and 'N passed, M failed'. */
+   cuts, openings, and lent fates, rows, states and pages that are damaged, for 1 to 13 files. After every call the answer, the state and
+   every lent byte and number must be the same. Prints a line for each test and 'N passed, M failed'. */
 #include "plainsheet.h"
 
 enum { RUNS = 8000, LARGE_RUNS = 20, CALLS = 60, KINDS = ABORT + 1 };
@@ -30,10 +30,12 @@ static const char *const met[MET] = {"the same decision again", "the opposite de
 static int seen_met[MET];
 
 /* What a row is that a call comes to: right, or wrong in one thing. Up to NAMINGS that is the token's action alone: read, write and rebuild
-   refuse such a row 7, commit and abort pass it over. The others name the action that is decided, and are passed over too; the last is
-   where another row of the action is settled beside one that is passed over. */
+   refuse such a row 7, commit and abort pass it over. The others name the action that is decided, and are passed over too. The last two are
+   where another row of the action is settled beside one that is passed over, and behind five that do not name it, so that four of them can
+   be passed over at once. After the kinds comes a right row without a token. */
 enum kind_of_row { RIGHT, NAMES_NONE, NAMES_UNDECIDED, NAMES_DECIDED, NAMES_NO_ACTION, NAMES_ABOVE, NAMES_HUGE, NAMES_WITHOUT, NAMINGS,
-                   COLD_NAMING = NAMINGS, MARK_ABOVE_1, ANOTHERS_IMAGE, NO_IMAGE, ANOTHER_FILE, IMAGE_ABOVE, NO_PAGE, BESIDE, ROWS };
+                   COLD_NAMING = NAMINGS, MARK_ABOVE_1, ANOTHERS_IMAGE, NO_IMAGE, ANOTHER_FILE, IMAGE_ABOVE, NO_PAGE, BESIDE, BEHIND_FIVE,
+                   ROWS, NO_TOKEN };
 static const char *const row_kinds[ROWS] = {"a token and its action", "a token and action 0", "a token and another undecided action",
                                             "a token and a decided action", "a token and a place that is no action",
                                             "a token and a number above the end", "a token and a number from 2^32 on",
@@ -41,8 +43,12 @@ static const char *const row_kinds[ROWS] = {"a token and its action", "a token a
                                             "a mark above 1 in a row that names the action", "another's image in a row that names the action",
                                             "no image in a row that names the action", "another file's image in a row that names the action",
                                             "an image above the end in a row that names the action",
-                                            "no page in a row that names the action", "a row that is settled beside one that is passed over"};
+                                            "no page in a row that names the action", "a row that is settled beside one that is passed over",
+                                            "a row that is settled behind five that do not name the action"};
 static int seen_row[REBUILD + 1][ROWS];
+
+/* For each file of each file count: how often a commit or abort passed over its row, being one of these kinds, and settled it. */
+static int seen_place[2][MOST_FILES][MOST_FILES];
 
 /* The calls that come to a row. */
 enum { ROW_CALLS = 5 };
@@ -96,7 +102,7 @@ static void plain_decide(uint64_t a[TOLD], uint64_t action, int verdict) {
         return;
     kept.fates[action - 1] = (uint8_t)(verdict + 1);
     kept.undecided -= kept.undecided > 0;
-    for (uint64_t f = 1; f <= FILES; f++) {
+    for (uint64_t f = 1; f <= file_count; f++) {
         uint64_t *row = row_in(&kept, f);
         if (!holds_token(f, action, end))
             continue;
@@ -111,7 +117,7 @@ static void raise(uint64_t *end, uint64_t time) { *end = *end < time ? time : *e
 /* The token of the same action is overtaken, and leaves its end. */
 static void plain_write(uint64_t a[TOLD], const struct call *q) {
     uint64_t line = action_line(q->action), place = kept.end + 1;
-    if (q->file < 1 || q->file > FILES)
+    if (q->file < 1 || q->file > file_count)
         return no(a, 3, 0);
     if (q->length > 32)
         return no(a, 4, 0);
@@ -138,7 +144,7 @@ static void told_value(uint64_t a[TOLD], uint64_t place) { answer(a, VALUE, plac
 
 static void plain_read(uint64_t a[TOLD], const struct call *q) {
     uint64_t line = q->action ? action_line(q->action) : 0, place;
-    if (q->file < 1 || q->file > FILES)
+    if (q->file < 1 || q->file > file_count)
         return no(a, 3, 0);
     if (line)
         return no(a, line, 0);
@@ -191,7 +197,7 @@ static void plain_call(uint64_t a[TOLD], const struct call *q) {
 /* An outcome that would count if its action had an opening. */
 static int has_stray_outcome(uint64_t action) {
     for (uint64_t p = kept.end; p > 0; p--)
-        if (page_at(p)[0] == 3 && action_of(p) == action && plain_fits(page_at(p), p, FILES) && !is_opening(action))
+        if (page_at(p)[0] == 3 && action_of(p) == action && plain_fits(page_at(p), p, file_count) && !is_opening(action))
             return 1;
     return 0;
 }
@@ -206,7 +212,7 @@ static void meet_again(uint64_t action) {
     seen_met[NO_OPENING] += has_stray_outcome(action);
     seen_met[FULL_SHEET] += kept.end == pages;
     seen_met[PAGE_ABOVE] += kept.end < pages && !is_blank(kept.end + 1);
-    for (uint64_t f = 1; f <= FILES; f++) {
+    for (uint64_t f = 1; f <= file_count; f++) {
         seen_met[TOKEN_LEFT] += holds_token(f, action, kept.end);
         seen_met[COLD_ROW] += row_in(&kept, f)[MARK] == 0;
     }
@@ -244,11 +250,11 @@ static void meet_write(const struct call *q) {
     }
 }
 
-/* What the token's action is in a row whose other numbers are right; NAMINGS where there is no token, and no action. */
+/* What the token's action is in a row whose other numbers are right. */
 static enum kind_of_row naming_of(const uint64_t row[ROW_LENGTH]) {
     uint64_t named = row[TOKEN_ACTION];
     if (row[TOKEN] == 0)
-        return named ? NAMES_WITHOUT : NAMINGS;
+        return named ? NAMES_WITHOUT : NO_TOKEN;
     if (named == action_of(row[TOKEN]))
         return RIGHT;
     if (named == 0 || named > kept.end)
@@ -279,14 +285,17 @@ static enum kind_of_row row_kind(uint64_t file, uint64_t action) {
 
 /* What is met where a commit or abort stores its outcome. */
 static void meet_rows(const struct call *q) {
-    int count[2] = {0};
+    int count[2] = {0}, others = 0;
     if (kept.end == pages || !is_blank(kept.end + 1))
         return;
-    for (uint64_t f = 1; f <= FILES; f++) {
+    for (uint64_t f = 1; f <= file_count; f++) {
         enum kind_of_row kind = row_kind(f, q->action);
+        seen_row[q->kind][BEHIND_FIVE] += kind == RIGHT && others >= 5;
+        others = row_in(&kept, f)[TOKEN_ACTION] == q->action ? 0 : others + 1;
         if (kind == ROWS)
             continue;
         seen_row[q->kind][kind]++;
+        seen_place[kind == RIGHT][file_count - 1][f - 1]++;
         count[kind == RIGHT]++;
     }
     seen_row[q->kind][BESIDE] += count[0] && count[1];
@@ -305,7 +314,7 @@ static int has_two_undecided(uint64_t file) {
 /* What is met where a read, write or rebuild may come to line 7. */
 static void meet_row(const struct call *q) {
     uint64_t line = q->kind == REBUILD || (q->kind == READ && q->action == 0) ? 0 : action_line(q->action);
-    if (q->file < 1 || q->file > FILES || (q->kind == WRITE && q->length > 32) || line)
+    if (q->file < 1 || q->file > file_count || (q->kind == WRITE && q->length > 32) || line)
         return;
     const uint64_t *row = row_in(&kept, q->file);
     if (row[MARK] == 1 && places_hold(row, q->file, kept.end) && naming_of(row) < NAMINGS)
@@ -402,16 +411,16 @@ static void decide_again(struct call *q, uint64_t action) {
 
 /* The action of a file's token if its row has one, else another. */
 static uint64_t token_action(uint64_t file, uint64_t other) {
-    uint64_t token = row_in(&kept, 1 + (file + FILES - 1) % FILES)[TOKEN];
+    uint64_t token = row_in(&kept, 1 + (file + file_count - 1) % file_count)[TOKEN];
     return token && token <= pages ? action_of(token) : other;
 }
 
 /* Mostly what a careful caller would ask: a file that there is, an undecided action, a start above the last. */
 static struct ask random_ask(void) {
-    struct ask a = {{(enum kind)below(KINDS), 1 + below(FILES), below(20), random_action(), below(36), NULL}, {0}};
+    struct ask a = {{(enum kind)below(KINDS), 1 + below(file_count), below(20), random_action(), below(36), NULL}, {0}};
     struct call *q = &a.call;
     if (below(16) == 0)
-        q->file = below(FILES + 2);
+        q->file = below(file_count + 2);
     if (kept.undecided == 0 && below(2))
         q->kind = BEGIN;
     if (q->kind == TEST && below(2))
@@ -419,7 +428,7 @@ static struct ask random_ask(void) {
     if (q->kind == READ && below(3))
         q->action = 0;
     if (q->kind == WRITE && below(5))
-        q->time = kept.floor + row_in(&kept, 1 + (q->file + FILES - 1) % FILES)[CURRENT_END] + 1 + below(3);
+        q->time = kept.floor + row_in(&kept, 1 + (q->file + file_count - 1) % file_count)[CURRENT_END] + 1 + below(3);
     if ((q->kind == WRITE || q->kind == READ) && below(3) == 0)
         q->action = token_action(q->file, q->action);
     if (below(60) == 0)
@@ -437,7 +446,7 @@ static struct ask random_ask(void) {
 
 /* The version before a current one. */
 static uint64_t older(void) {
-    uint64_t place = row_in(&kept, 1 + below(FILES))[CURRENT];
+    uint64_t place = row_in(&kept, 1 + below(file_count))[CURRENT];
     return place && place <= pages ? link_of(place) : 0;
 }
 
@@ -455,10 +464,10 @@ static void damage(void) {
     uint64_t place = older();
     switch (below(11)) {
     case 0:
-        kept.rows[below(NUMBERS)] = below(pages + 2);
+        kept.rows[below(ROW_LENGTH * file_count)] = below(pages + 2);
         break;
     case 1:
-        row_in(&kept, 1 + below(FILES))[MARK] = below(4);
+        row_in(&kept, 1 + below(file_count))[MARK] = below(4);
         break;
     case 2:
         kept.fates[below(pages)] = (uint8_t)below(6);
@@ -521,7 +530,7 @@ static uint64_t image_of_another(uint64_t file, uint64_t upto, uint64_t action) 
 
 /* A cold row of a file whose newest images are of two actions, both undecided by their fates, and a call that rebuilds it. */
 static void revive(struct call *q) {
-    uint64_t file = 1 + below(FILES), newest = kept.end <= pages ? image_of_another(file, kept.end, 0) : 0;
+    uint64_t file = 1 + below(file_count), newest = kept.end <= pages ? image_of_another(file, kept.end, 0) : 0;
     uint64_t second = newest ? image_of_another(file, newest, action_of(newest)) : 0;
     if (second == 0)
         return;
@@ -532,7 +541,7 @@ static void revive(struct call *q) {
 
 /* A row whose token is gone but for its end, or lies below the current image, and a write of its file. */
 static void twist(struct call *q) {
-    uint64_t file = 1 + below(FILES), *row = row_in(&kept, file), place = row[TOKEN];
+    uint64_t file = 1 + below(file_count), *row = row_in(&kept, file), place = row[TOKEN];
     if (place == 0 || place > pages || !is_image(place, file))
         return;
     *q = (struct call){WRITE, file, kept.floor + row[CURRENT_END] + 1 + below(3), action_of(place), 0, NULL};
@@ -547,9 +556,9 @@ static void twist(struct call *q) {
 
 /* A file whose row is rebuilt and right, and has a token, from some file on; 0 if there is none. */
 static uint64_t file_with_token(void) {
-    uint64_t from = below(FILES);
-    for (uint64_t i = 0; i < FILES && kept.end <= pages; i++) {
-        uint64_t file = 1 + (from + i) % FILES;
+    uint64_t from = below(file_count);
+    for (uint64_t i = 0; i < file_count && kept.end <= pages; i++) {
+        uint64_t file = 1 + (from + i) % file_count;
         const uint64_t *row = row_in(&kept, file);
         if (row[MARK] == 1 && row[TOKEN] && row_holds(row, file, kept.end))
             return file;
@@ -603,6 +612,11 @@ static uint64_t put_above(uint64_t row[ROW_LENGTH], uint64_t file) {
     return place;
 }
 
+/* What may be wrong in a row that names its token's action. Another file's image is seldom found, so it is sought twice as often. */
+enum { MISLAID = 8 };
+static const enum kind_of_row mislaid[MISLAID] = {COLD_NAMING,  MARK_ABOVE_1, ANOTHERS_IMAGE, NO_IMAGE,
+                                                  ANOTHER_FILE, ANOTHER_FILE, IMAGE_ABOVE,    NO_PAGE};
+
 /* A row that names its token's action, and is wrong in its mark or token, and a decision of that action. Answers the place of an image
    that was put above the end, 0 if none was. */
 static uint64_t mislay(struct call *q) {
@@ -610,10 +624,8 @@ static uint64_t mislay(struct call *q) {
     if (file == 0)
         return 0;
     uint64_t *row = row_in(&kept, file), token = row[TOKEN];
-    enum kind_of_row kind = COLD_NAMING + (enum kind_of_row)below(BESIDE - COLD_NAMING + 1);
+    enum kind_of_row kind = mislaid[below(MISLAID)];
     *q = (struct call){below(2) ? COMMIT : ABORT, file, 0, row[TOKEN_ACTION], 0, NULL};
-    if (kind == BESIDE)
-        kind = ANOTHER_FILE; /* it is seldom found */
     if (kind == IMAGE_ABOVE)
         return put_above(row, file);
     if (kind == COLD_NAMING || kind == MARK_ABOVE_1)
@@ -629,7 +641,7 @@ static uint64_t mislay(struct call *q) {
 
 /* Rows that line 7 refuses are made cold, so that they do not hide what else there is to meet. */
 static void mend_rows(void) {
-    for (uint64_t f = 1; f <= FILES && kept.end <= pages; f++)
+    for (uint64_t f = 1; f <= file_count && kept.end <= pages; f++)
         if (!row_holds(row_in(&kept, f), f, kept.end))
             row_in(&kept, f)[MARK] = 0;
 }
@@ -638,7 +650,7 @@ static void mend_rows(void) {
 static int cut_is_right(uint64_t place) {
     int n = cut_page(place, before + PAGE * (place - 1));
     seen_cut[n]++;
-    return n == 0 ? is_blank(place) : n == PAGE ? plain_fits(page_at(place), place, FILES) : is_torn(place);
+    return n == 0 ? is_blank(place) : n == PAGE ? plain_fits(page_at(place), place, file_count) : is_torn(place);
 }
 
 /* What no call has left so: nothing, anything that is lent, or rows alone, on lawful sheets. */
@@ -685,10 +697,13 @@ static int calls_alike(enum damaged what) {
     return 1;
 }
 
+/* For some files. The rows that are not lent have numbers that must stay. */
 static void blank_sheet(uint64_t count) {
     pages = count;
+    file_count = random_file_count();
     memset(sheet, 0, PAGE * pages);
     memset(&kept, 0, sizeof kept);
+    memset(row_in(&kept, file_count + 1), UNTOUCHED, ROW_LENGTH * (MOST_FILES - file_count) * sizeof *kept.rows);
     kept.floor = below(4);
 }
 
@@ -748,6 +763,17 @@ static int all_rows_seen(void) {
     return all;
 }
 
+/* And each file of each count, settled and passed over. */
+static int all_places_seen(void) {
+    int all = 1;
+    for (int i = 0; i < 2 * MOST_FILES * MOST_FILES; i++) {
+        int settled = i % 2, count = i / 2 / MOST_FILES, file = i / 2 % MOST_FILES, seen = seen_place[settled][count][file];
+        if (file <= count && seen < 40)
+            all = (printf("file %d of %d was %s %d times\n", file + 1, count + 1, settled ? "settled" : "passed over", seen), 0);
+    }
+    return all;
+}
+
 int main(int count, char **words) {
     seed = count > 1 ? strtoull(words[1], NULL, 10) | 1 : 20261115;
     printf("seed %llu\n", (unsigned long long)seed);
@@ -759,6 +785,7 @@ int main(int count, char **words) {
     told("runs on damaged rows alone on more than 1,024 pages", large_alike(ROWS_ALONE));
     told("every answer, refusal and cut seen, and all that is to be met", all_seen());
     told("every kind of row seen that a read, write, rebuild, commit or abort can come to", all_rows_seen());
+    told("every file of 1 to 13 settled and passed over", all_places_seen());
     printf("%d passed, %d failed\n", passed, failed);
     return failed != 0;
 }

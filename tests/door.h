@@ -41,11 +41,11 @@ struct call {
 /* The numbers of a file's row, and how many they are. */
 enum { MARK, CURRENT, CURRENT_END, TOKEN, TOKEN_END, TOKEN_ACTION, ROW_LENGTH };
 
-/* The nine numbers: which answer, its values, and the state. */
+/* What a call tells: which answer, its values, then the state's numbers. */
 enum { WHICH, FIRST, SECOND, THIRD, FOURTH, FIFTH, END, FLOOR, UNDECIDED, TOLD };
 enum { REFUSED, OPENED, REBUILT, STORED, VALUE, NOTHING, FATE };
 
-/* Makes a call: its nine numbers, and in what is lent all that it leaves. */
+/* Makes a call: the answer's numbers, then the state's, and in what is lent all that it leaves. */
 __attribute__((unused)) static void make_call(struct lent l, struct call c, uint64_t told[TOLD]) {
     if (c.kind == OPEN)
         door_open(l.sheet, l.size, l.fates, l.pages, l.rows, l.numbers, l.floor, told, TOLD);

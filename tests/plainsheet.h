@@ -7,10 +7,16 @@
 #include "tell.h"
 
 /* Most sheets have up to SMALL pages; some have above 1,024, up to MOST: there open and inspect keep more. */
-enum { SMALL = 30, MOST = 1400, FILES = 4, NUMBERS = ROW_LENGTH * FILES };
-
+enum { SMALL = 30, MOST = 1400, UNTOUCHED = 77 };
 static uint8_t sheet[MOST * PAGE];
 static uint64_t pages;
+
+/* How many files the sheet is for. A commit or abort goes over the rows in fours: with these counts there are none to three of them, and
+   each number of rows is left over. */
+enum { MOST_FILES = 13 };
+static uint64_t file_count;
+
+static uint64_t random_file_count(void) { return 1 + below(MOST_FILES); }
 
 static uint8_t *page_at(uint64_t place) { return sheet + PAGE * (place - 1); }
 static uint64_t file_of(uint64_t place) { return plain_get(page_at(place), 4, 8); }
@@ -25,11 +31,11 @@ static int is_blank(uint64_t place) {
     return 1;
 }
 static int is_torn(uint64_t place) { return page_at(place)[0] >= 1 && page_at(place)[0] <= 3 && page_at(place)[63] == 0; }
-static int is_opening(uint64_t place) { return page_at(place)[0] == 1 && plain_fits(page_at(place), place, FILES); }
+static int is_opening(uint64_t place) { return page_at(place)[0] == 1 && plain_fits(page_at(place), place, file_count); }
 static int is_sealed_for(uint64_t place, uint64_t files) {
     return plain_fits(page_at(place), place, files) && (page_at(place)[0] == 1 || is_opening(action_of(place)));
 }
-static int is_sealed(uint64_t place) { return is_sealed_for(place, FILES); }
+static int is_sealed(uint64_t place) { return is_sealed_for(place, file_count); }
 static int is_kind(uint64_t place, int kind) { return page_at(place)[0] == kind && is_sealed(place); }
 static int is_image(uint64_t place, uint64_t file) { return file_of(place) == file && is_kind(place, 2); }
 static int is_bad(uint64_t place) { return is_blank(place) || (!is_torn(place) && !is_sealed(place)); }
@@ -106,14 +112,14 @@ static int row_holds(const uint64_t row[ROW_LENGTH], uint64_t file, uint64_t end
     return places_hold(row, file, end) && row[TOKEN_ACTION] == (row[TOKEN] ? action_of(row[TOKEN]) : 0);
 }
 
-/* What is kept from call to call. */
+/* What is kept from call to call. The rows after those of the sheet's files are not lent. */
 struct kept {
     uint8_t fates[MOST];
-    uint64_t rows[NUMBERS], end, floor, undecided;
+    uint64_t rows[ROW_LENGTH * MOST_FILES], end, floor, undecided;
 };
 
 static struct lent lent(uint8_t *bytes, struct kept *k) {
-    return (struct lent){bytes, PAGE * pages, k->fates, pages, k->rows, NUMBERS, k->end, k->floor, k->undecided};
+    return (struct lent){bytes, PAGE * pages, k->fates, pages, k->rows, ROW_LENGTH * file_count, k->end, k->floor, k->undecided};
 }
 
 static uint64_t *row_in(struct kept *k, uint64_t file) { return k->rows + ROW_LENGTH * (file - 1); }
@@ -138,7 +144,7 @@ static void plain_open(uint64_t a[TOLD], struct kept *k) {
         k->fates[p - 1] = fate_of(p, end);
         k->undecided += k->fates[p - 1] == 1;
     }
-    memset(k->rows, 0, sizeof k->rows);
+    memset(k->rows, 0, ROW_LENGTH * file_count * sizeof *k->rows);
     k->end = end;
     answer(a, OPENED, end, k->undecided, 0);
 }
@@ -155,7 +161,7 @@ static int warm(uint64_t a[TOLD], struct kept *k, uint64_t file) {
 static void plain_rebuild(uint64_t a[TOLD], struct kept *k, uint64_t file) {
     if (k->end > pages || k->undecided > k->end)
         return no(a, 1, 0);
-    if (file < 1 || file > FILES)
+    if (file < 1 || file > file_count)
         return no(a, 3, 0);
     if (!warm(a, k, file))
         return;
@@ -163,8 +169,8 @@ static void plain_rebuild(uint64_t a[TOLD], struct kept *k, uint64_t file) {
     memcpy(a + FIRST, row_in(k, file) + CURRENT, (ROW_LENGTH - 1) * sizeof *a);
 }
 
-/* A call of the proved code on a copy of the sheet, beside what the plain one answered and left: the nine numbers, and all that is
-   lent. `before` and `was` are what both were given; the sheet and `left` are what the plain one left. */
+/* A call of the proved code on a copy of the sheet, beside what the plain one answered and left: the answer's numbers, the state's, and
+   all that is lent. `before` and `was` are what both were given; the sheet and `left` are what the plain one left. */
 static int called_alike(struct call c, const uint8_t *before, struct kept was, uint64_t a[TOLD], const struct kept *left) {
     static uint8_t after[MOST * PAGE];
     uint64_t got[TOLD];
@@ -174,8 +180,8 @@ static int called_alike(struct call c, const uint8_t *before, struct kept was, u
     if (!memcmp(got, a, sizeof got) && !memcmp(after, sheet, PAGE * pages) && !memcmp(was.fates, left->fates, pages)
         && !memcmp(was.rows, left->rows, sizeof was.rows))
         return 1;
-    printf("call %d file %llu time %llu action %llu, on %llu pages:\n", c.kind, (unsigned long long)c.file, (unsigned long long)c.time,
-           (unsigned long long)c.action, (unsigned long long)pages);
+    printf("call %d file %llu time %llu action %llu, on %llu pages for %llu files:\n", c.kind, (unsigned long long)c.file,
+           (unsigned long long)c.time, (unsigned long long)c.action, (unsigned long long)pages, (unsigned long long)file_count);
     for (int i = 0; i < TOLD; i++)
         printf("number %d is %llu, expected %llu\n", i, (unsigned long long)got[i], (unsigned long long)a[i]);
     return 0;
