@@ -1,8 +1,8 @@
 /* Points of documents 01 and 02 that the command program cannot show, at the calls themselves: a cold row that stays cold under refusals 1
    to 6 and is rebuilt under the later ones, damaged rows, a page above the end that is not blank, a link that leads nowhere, as many
    links as a sheet can have, an outcome that is lost on two pages, a decision that is asked again, also with fates and sheets that no call
-   has left so, the highest start of any bytes, a file that its action writes again, and the token's action in a row, right and wrong.
-   Prints a line for each and 'N passed, M failed'. */
+   has left so, the highest start of any bytes, a file that its action writes again, the token's action in a row, right and wrong, and
+   decisions among many rows. Prints a line for each and 'N passed, M failed'. */
 #include "door.h"
 #include "plain.h"
 #include "tell.h"
@@ -824,6 +824,122 @@ static void talked(void) {
     told("and is what an opening and a rebuild would make, but for its ends", rebuilt);
 }
 
+/* ---- decisions among many rows */
+
+/* Action 1 is decided, 2 is not. Each of them wrote every file once. */
+enum { MOST_FILES = 256, MANY_PAGES = 2 * MOST_FILES + 3 };
+static uint8_t many_sheet[MANY_PAGES * PAGE], many_fates[MANY_PAGES];
+static uint64_t many_rows[ROW_LENGTH * MOST_FILES], must_be[ROW_LENGTH * MOST_FILES];
+static uint8_t is_own[MOST_FILES]; /* whether the row after so many others is one of action 1 */
+
+static uint64_t image_by(uint64_t action, uint64_t files, uint64_t file) { return action ? 2 + (action - 1) * files + file : 0; }
+
+static void put_many(int kind, uint64_t file, uint64_t action, uint64_t place) {
+    plain_pack(many_sheet + PAGE * (place - 1), kind, 0, file, action, 0, kind == 2, none, place);
+}
+
+static void set_up_many(uint64_t files) {
+    memset(many_sheet, 0, sizeof many_sheet);
+    put_many(1, 0, 1, 1);
+    put_many(1, 0, 2, 2);
+    for (uint64_t f = 1; f <= files; f++) {
+        put_many(2, f, 1, image_by(1, files, f));
+        put_many(2, f, 2, image_by(2, files, f));
+    }
+}
+
+/* A row that is settled, and those that are not: by its mark, who wrote the image that is its token, and the action that it names. */
+enum { OTHERS = 5, FILLINGS = 2 * OTHERS };
+struct sort {
+    uint64_t mark, writer, named;
+};
+static const struct sort own = {1, 1, 1};
+static const struct sort others[OTHERS] = {
+    {1, 0, 0}, /* no token */
+    {1, 2, 2}, /* the other action's token */
+    {0, 1, 1}, /* cold, but names the action */
+    {2, 1, 1}, /* a mark of 2, but names it */
+    {1, 2, 1}, /* names it, but the page is the other action's */
+};
+
+/* Fills a file's row, and says what it must be after a decision. No two files have a number in common, but for marks and actions. */
+static void fill_row(uint64_t files, uint64_t file, struct sort s, enum kind kind) {
+    uint64_t *row = many_rows + ROW_LENGTH * (file - 1), *must = must_be + ROW_LENGTH * (file - 1);
+    uint64_t current = 1000 + file, current_end = 2000 + file, token = image_by(s.writer, files, file), token_end = token ? 3000 + file : 0;
+    memcpy(row, (uint64_t[ROW_LENGTH]){s.mark, current, current_end, token, token_end, s.named}, ROW_LENGTH * sizeof *row);
+    memcpy(must, row, ROW_LENGTH * sizeof *row);
+    if (!is_own[file - 1])
+        return;
+    if (kind == COMMIT)
+        must[CURRENT] = token, must[CURRENT_END] = token_end;
+    must[TOKEN] = must[TOKEN_END] = must[TOKEN_ACTION] = 0;
+}
+
+/* Whether a decision of action 1 settles its rows and leaves the others, which are all of one sort, or of each in turn. */
+static int settles_among(uint64_t files, enum kind kind, uint64_t filling) {
+    uint64_t got[TOLD], used = 2 + 2 * files;
+    for (uint64_t f = 1; f <= files; f++)
+        fill_row(files, f, is_own[f - 1] ? own : others[filling < OTHERS ? filling : (filling + f) % OTHERS], kind);
+    many_fates[0] = many_fates[1] = 1;
+    struct lent l = {many_sheet, PAGE * (used + 1), many_fates, used + 1, many_rows, ROW_LENGTH * files, used, 0, 2};
+    make_call(l, (struct call){.kind = kind, .action = 1}, got);
+    memset(many_sheet + PAGE * used, 0, PAGE);
+    return got[WHICH] == STORED && got[FIRST] == used + 1 && many_fates[0] == (kind == COMMIT ? 2 : 3)
+           && !memcmp(many_rows, must_be, ROW_LENGTH * files * sizeof *many_rows);
+}
+
+/* Both decisions, with each filling. */
+static int settles(uint64_t files) {
+    for (uint64_t i = 0; i < 2 * FILLINGS; i++)
+        if (!settles_among(files, i % 2 ? COMMIT : ABORT, i / 2)) {
+            printf("%s among %d files, filling %d\n", i % 2 ? "commit" : "abort", (int)files, (int)i / 2);
+            return 0;
+        }
+    return 1;
+}
+
+static void choose(uint64_t set, uint64_t files) {
+    for (uint64_t i = 0; i < files; i++)
+        is_own[i] = set >> i & 1;
+}
+
+/* Every set of rows that are the action's. */
+static int settles_sets(uint64_t files) {
+    int all = 1;
+    set_up_many(files);
+    for (uint64_t set = 0; set >> files == 0 && all; set++) {
+        choose(set, files);
+        all = settles(files);
+    }
+    return all;
+}
+
+/* Every one and every two of some rows, and none. */
+static int settles_pairs(uint64_t files, const uint64_t some[], uint64_t count) {
+    memset(is_own, 0, sizeof is_own);
+    set_up_many(files);
+    int all = settles(files);
+    for (uint64_t i = 0; i < count * count; i++) {
+        uint8_t *one = is_own + some[i / count], *two = is_own + some[i % count];
+        *one = *two = 1;
+        all = all && (one > two || settles(files));
+        *one = *two = 0;
+    }
+    return all;
+}
+
+static void many_rows_settled(void) {
+    static const uint64_t every[] = {0, 1, 2, 3, 4, 5, 6, 7, 8, 9, 10, 11, 12}, three[] = {0, MOST_FILES / 2 - 1, MOST_FILES - 1};
+    int sets = 1, pairs = 1;
+    for (uint64_t files = 1; files <= 8; files++)
+        sets = sets && settles_sets(files);
+    for (uint64_t files = 9; files <= 13; files++)
+        pairs = pairs && settles_pairs(files, every, files);
+    told("of 1 to 8 files, every set of rows that are the action's is settled by a commit and an abort, and every other row left", sets);
+    told("of 9 to 13 files, every one and every two", pairs);
+    told("of 256 files, the first, the last and one in the middle", settles_pairs(MOST_FILES, three, 3));
+}
+
 /* ---- how many numbers are lent */
 
 /* Whether a call on rows of so many numbers is refused 1. */
@@ -871,7 +987,7 @@ static void told_lengths(void) {
     int all = 1;
     for (size_t count = 0; count <= TOLD + 2; count++)
         all = all && does_nothing(count) == (count != TOLD);
-    told("with a run of another length than nine the tests' door does nothing", all);
+    told("with a run of another length the tests' door does nothing", all);
 }
 
 int main(void) {
@@ -896,6 +1012,7 @@ int main(void) {
     passed_over_pages();
     written_actions();
     talked();
+    many_rows_settled();
     row_lengths();
     told_lengths();
     printf("%d passed, %d failed\n", passed, failed);
