@@ -929,7 +929,7 @@ static int settles_pairs(uint64_t files, const uint64_t some[], uint64_t count) 
 }
 
 static void many_rows_settled(void) {
-    static const uint64_t every[] = {0, 1, 2, 3, 4, 5, 6, 7, 8, 9, 10, 11, 12}, three[] = {0, MOST_FILES / 2 - 1, MOST_FILES - 1};
+    static const uint64_t every[] = {0, 1, 2, 3, 4, 5, 6, 7, 8, 9, 10, 11, 12}, three[] = {0, MOST_FILES / 2, MOST_FILES - 1};
     int sets = 1, pairs = 1;
     for (uint64_t files = 1; files <= 8; files++)
         sets = sets && settles_sets(files);
