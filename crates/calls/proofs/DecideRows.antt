@@ -8,19 +8,16 @@ use native.Mathlib.Omega.{arith}
 use native.Mathlib.Numerals.{add-one, sub-one}
 use lib.ListN.{length, getD, set, length-set}
 use lib.Seq.{ext-getD, getD-set-same, getD-set-other, set-getD}
-use lib.Dec.{eqb, leb}
-use borrow.Author.Tests.{eq-eqb, ne-eqb, le-leb, lt-leb, eqb-true, eqb-false, leb-true, leb-false}
-use Rattle.encoding.proofs.Logic.{by-test, and-both}
+use lib.Dec.{eqb}
+use borrow.Author.Tests.{eq-eqb, ne-eqb, le-leb, lt-leb, eqb-true, eqb-false}
+use Rattle.encoding.proofs.Logic.{and-both}
 use Rattle.page.specs.declared.Page.{Page}
-use Rattle.page.specs.declared.Unpacked.{Unpacked}
-use Rattle.page.specs.declared.Unpacked.the-variants.{Refused, Blank, Torn, Opening, Image, Outcome, Unfit}
 use Rattle.page.specs.declared.Sought as sought
 use Rattle.page.specs.declared.Sought.{Sought}
-use Rattle.page.specs.Layout.{pageSize}
-use Rattle.page.specs.Answers.{tested, onImage, imageOfFile}
+use Rattle.page.specs.Answers.{tested, imageOfFile}
 use Rattle.recovery.specs.Places.{nth}
-use Rattle.recovery.specs.Log.{Entry, blank, bad, image}
-use Rattle.recovery.specs.Sheet.{pageBytes, entryOf, imageFrom, isOpening, seal, decoded, sealed}
+use Rattle.recovery.specs.Log.{Entry, blank}
+use Rattle.recovery.specs.Sheet.{pageBytes, isOpening, decoded}
 use Rattle.recovery.specs.World.{isImageOf, imageAction, namesAction, cold, isFile}
 use Rattle.recovery.specs.Lent.{rowLength, rowsOf, flat, pagesOf}
 use Rattle.recovery.specs.Steps.{sealedImage, isFound, actionFound, sheetWorld, rowOf, nextNamed, withRowOf}
@@ -28,7 +25,7 @@ use Rattle.recovery.specs.declared.Row.{Row}
 use Rattle.recovery.proofs.FlatRows.{rows-long, rows-flat, flat-rows, flat-long, put-flat}
 use Rattle.recovery.proofs.Lookups.{set-some}
 use Rattle.recovery.proofs.Named.{next-from, next-up, next-most, next-names}
-use Rattle.recovery.proofs.Held.{ofSought, lies-in, image-none, image-unsealed, image-sealed}
+use Rattle.recovery.proofs.Held.{ofSought, under-action, lies-in, image-none, image-unsealed, image-sealed}
 use Rattle.calls.specs.Calls.{isTokenAt, holdsToken, decided, settled, eachRow}
 use Rattle.calls.specs.DecideSteps.{isTokenIn, settledRow, settledRows}
 
@@ -37,10 +34,6 @@ use Rattle.calls.specs.DecideSteps.{isTokenIn, settledRow, settledRows}
 -- an image that was found is one under an action
 abbrev isUnder : ℕ → Sought → Bool
 isUnder a u = isFound u && eqb (actionFound u) a
-
-under-seen : (a : ℕ) (b : Bool) (m : ℕ) → (b && eqb (cond b m 0) a) ≡ (b && eqb m a)
-under-seen a true m = refl
-under-seen a false m = refl
 
 module _ (s : List ℕ) (files end a f place : ℕ) where
   pub token-high : end < place → false ≡ isTokenIn s files end a f place
@@ -52,7 +45,7 @@ module _ (s : List ℕ) (files end a f place : ℕ) where
     unfolding isTokenIn
     token-by u e =
         let there : Entry = nth blank (pagesOf s files) place in
-        simp (le-leb place end h) (ap (λ (x : Bool × ℕ). x .0 && eqb (x .1) a) (ap ofSought e ∙ sym (lies-in files s f place)) ∙ under-seen a (isImageOf f there) (imageAction there))
+        simp (le-leb place end h) (ap (λ (x : Bool × ℕ). x .0 && eqb (x .1) a) (ap ofSought e ∙ sym (lies-in files s f place)) ∙ under-action true (isImageOf f there) (imageAction there) a)
 
     -- by the quick look, and one look at the action's opening
     pub token-none : sought.Sought.Other ≡ imageOfFile f (tested (pageBytes s place) place files) → false ≡ isTokenIn s files end a f place
@@ -71,12 +64,6 @@ module _ (s : List ℕ) (files end a f place : ℕ) where
       token-own false o q = token-by sought.Sought.Other (image-unsealed files s f place x e (ap (λ y. isOpening (decoded files s y)) o ∙ sym q))
 
 -- ---- one row
-
-pub decided-yes : (c : Bool) (r : Row) → c ≡ true → record { mark = r .mark; current = r .token; currentend = r .tokenend; token = 0; tokenend = 0; tokenaction = 0 } ≡ decided c r
-decided-yes c r h = rw h
-
-pub decided-no : (c : Bool) (r : Row) → c ≡ false → record { mark = r .mark; current = r .current; currentend = r .currentend; token = 0; tokenend = 0; tokenaction = 0 } ≡ decided c r
-decided-no c r h = rw h
 
 module _ (s : List ℕ) (files end a : ℕ) (c : Bool) (f : ℕ) (xs : List ℕ) where
   by-holding : (b : Bool) → holdsToken (sheetWorld s files end) a f (rowOf xs f) ≡ b → settledRow s files end a c f xs ≡ cond b (withRowOf xs f (decided c (rowOf xs f))) xs

@@ -106,18 +106,10 @@ module _ {files : ℕ} {s : List ℕ} {e f : ℕ} {r : Row} {u v : Sought} (k : 
   unfolding rowHoldsBy tokenHoldsBy
   each =
       let h = and-true (leb (r .mark) 1 && placeHoldsBy e (r .current) u) (tokenHoldsBy e r v) (k .holds) in
-      (and-true (leb (r .mark) 1) (placeHoldsBy e (r .current) u) (h .0) .1, and-true (placeHoldsBy e (r .token) v) (eqb (r .tokenaction) (actionFound v)) (h .1) .0)
+      (and-true (leb (r .mark) 1) (placeHoldsBy e (r .current) u) (h .0) .1, and-true (placeHoldsBy e (r .token) v) (eqb (actionFound v) (r .tokenaction)) (h .1) .0)
 
   pub looked-current : Looked files s f (r .current) u
   looked-current = looked files s e f (r .current) u (k .current) (each .0)
 
   pub looked-token : Looked files s f (r .token) v
   looked-token = looked files s e f (r .token) v (k .token) (each .1)
-
-  pub no-token : v ≡ sought.Sought.Other → r .token ≡ 0
-  unfolding placeHoldsBy
-  no-token i = go (eqb (r .token) 0) refl (rw i at (each .1))
-    where
-      go : (b : Bool) → eqb (r .token) 0 ≡ b → (b || (leb (r .token) e && false)) ≡ true → r .token ≡ 0
-      go true p q = eqb-true (r .token) 0 p
-      go false p q = let y : false ≡ true = sym (and-false (leb (r .token) e) false refl) ∙ q in let z : _≡_ {A = ℕ} 0 1 = cc in absurd (omega arith)

@@ -12,7 +12,7 @@ use Rattle.recovery.specs.Log.{Image, Entry, blank, torn, bad, opening, image, 
 use Rattle.recovery.specs.declared.Row.{Row}
 use Rattle.recovery.specs.declared.Answer.{Answer}
 use Rattle.recovery.specs.declared.Answer.the-variants.{Stored, Value, Nothing, Told}
-use Rattle.recovery.specs.World.{World, Result, refuse, entryAt, fateNumber, fateAt, outcomeAt, isBlank, withRow, warmRow, isImageOf, imageAction, rowHolds, namesAction, lentRight, isFile, rebuilt}
+use Rattle.recovery.specs.World.{World, Result, refuse, entryAt, fateNumber, fateAt, outcomeAt, isBlank, withRow, warmRow, imageAction, holdsImage, rowHolds, namesAction, lentRight, isFile, rebuilt}
 use Rattle.calls.specs.Walk.{Walk, met, nothing, lost, imagesBelow, follow}
 
 -- write: file, start, action, value; read: file, time, action or 0; decide: action, and whether it commits
@@ -166,12 +166,18 @@ onRead w f time a r = cond (rowHolds w f r) (onToken w f time a r (imageOf (entr
 -- ---- commit and abort, asked for the first time: lines 11, 12; and the rows that they change
 
 abbrev pub decided : Bool → Row → Row
-decided true r = record { mark = r .mark; current = r .token; currentend = r .tokenend; token = 0; tokenend = 0; tokenaction = 0 }
-decided false r = record { mark = r .mark; current = r .current; currentend = r .currentend; token = 0; tokenend = 0; tokenaction = 0 }
+decided c r = record {
+  mark = r .mark;
+  current = cond c (r .token) (r .current);
+  currentend = cond c (r .tokenend) (r .currentend);
+  token = 0;
+  tokenend = 0;
+  tokenaction = 0;
+}
 
--- a place that is at most the old end and holds a sealed image of a file under this action
+-- a place up to the old end that holds a sealed image of a file under this action
 abbrev pub isTokenAt : World → ℕ → ℕ → ℕ → Bool
-isTokenAt w a f place = leb place (w .end) && isImageOf f (entryAt w place) && eqb (imageAction (entryAt w place)) a
+isTokenAt w a f place = holdsImage w f place && eqb (imageAction (entryAt w place)) a
 
 -- a rebuilt row that names this action, and whose token's place says so too
 abbrev pub holdsToken : World → ℕ → ℕ → Row → Bool

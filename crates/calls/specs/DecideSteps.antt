@@ -10,7 +10,6 @@ use Rattle.recovery.specs.Places.{nth}
 use Rattle.recovery.specs.Log.{verdict}
 use Rattle.recovery.specs.World.{fateNumber}
 use Rattle.recovery.specs.Steps.{rowOf, withRowOf, sheetWorld, lineOne, outcomeIn, refusal}
-use Rattle.recovery.specs.declared.Row.{Row}
 use Rattle.recovery.specs.declared.State.{State}
 use Rattle.recovery.specs.declared.Done.{Done}
 use Rattle.recovery.specs.declared.Answer.the-variants.{Stored}

@@ -17,7 +17,7 @@ use Rattle.recovery.specs.declared.Answer.{Answer}
 use Rattle.recovery.specs.declared.Answer.the-variants.{Refused, Stored, Nothing}
 use Rattle.recovery.specs.World.{World, withRow}
 use Rattle.recovery.specs.Lent.{pagesOf}
-use Rattle.recovery.specs.Steps.{sealedImage, sheetWorld, rowHoldsIn}
+use Rattle.recovery.specs.Steps.{sealedImage, rowHoldsIn}
 use Rattle.calls.specs.declared.reading.Reading.{Reading}
 use Rattle.calls.specs.LineSteps.{actionLine, roomLine}
 use Rattle.calls.specs.Walk.{Walk, met, nothing, lost, imagesBelow, follow}

@@ -83,20 +83,16 @@ fn is_token_at(
 fn decided_row(row: Row, committed: bool) -> Row
     ensures { λ r. ⌜ r ≡ decided committed row ⌝ }
 {
+    let mut current = row.current;
+    let mut currentend = row.currentend;
     if committed {
-        return Row {
-            mark: row.mark,
-            current: row.token,
-            currentend: row.tokenend,
-            token: 0,
-            tokenend: 0,
-            tokenaction: 0,
-        };
+        current = row.token;
+        currentend = row.tokenend;
     }
     Row {
         mark: row.mark,
-        current: row.current,
-        currentend: row.currentend,
+        current,
+        currentend,
         token: 0,
         tokenend: 0,
         tokenaction: 0,

@@ -9,6 +9,7 @@ use Rattle.recovery.specs.Log.{Entry, blank, torn, bad, opening, image, outcome
 use Rattle.recovery.specs.Sheet.{sealed}
 use Rattle.recovery.specs.Lent.{Left, rowLength, openLeaves}
 use Rattle.recovery.specs.Numbers.{numbersOf}
+use Rattle.recovery.specs.declared.Answer.the-variants.{Refused, Opened, Stored}
 use Rattle.calls.specs.Calls.{Call, begin, write, decide}
 use Rattle.calls.specs.Leaves.{callLeaves}
 use Rattle.calls.specs.Cuts.{storedOf, firstBytes}
@@ -45,13 +46,13 @@ cutBegin n = kindOf (sealed 8 (storedOf (firstBytes n) 0 (then (opened 128) begi
 
 -- the numbers of an answer: opened with end 0 and open count 0; the place of the call's page; refused with a number and place 0
 abbrev pub fits : List ℕ
-fits = 1 ∷ 0 ∷ 0 ∷ 0 ∷ 0 ∷ 0 ∷ []
+fits = numbersOf (Opened 0 0)
 
 abbrev pub stored : ℕ → List ℕ
-stored place = 3 ∷ place ∷ 0 ∷ 0 ∷ 0 ∷ 0 ∷ []
+stored place = numbersOf (Stored place)
 
 abbrev pub refused : ℕ → List ℕ
-refused number = 0 ∷ number ∷ 0 ∷ 0 ∷ 0 ∷ 0 ∷ []
+refused number = numbersOf (Refused number 0)
 
 -- the check word over nothing, 01, 01 02 and 01 02 03
 abbrev pub words : List (List ℕ × List ℕ)

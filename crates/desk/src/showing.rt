@@ -3,7 +3,7 @@ use calls::Call;
 use commands::Reply;
 use commands::print;
 use page::Page;
-use recovery::ROW_LENGTH;
+use recovery::ANSWER_LENGTH;
 use recovery::part_at;
 ghost use mathlib.Core.Path.{_≡_};
 ghost use Rattle.page.specs.Answers.{valueIn};
@@ -26,7 +26,7 @@ fn stored_by(call: Call, place: u64) -> Reply
 }
 
 // The reply to a call, by the numbers of its answer.
-pub(crate) fn call_reply(call: Call, numbers: [u64; ROW_LENGTH]) -> Reply
+pub(crate) fn call_reply(call: Call, numbers: [u64; ANSWER_LENGTH]) -> Reply
     ensures { λ r. ⌜ r ≡ callReply call numbers ⌝ }
 {
     let kind = numbers[0];
@@ -46,7 +46,7 @@ pub(crate) fn call_reply(call: Call, numbers: [u64; ROW_LENGTH]) -> Reply
 }
 
 // The reply to an opening, by the numbers of its answer.
-pub(crate) fn open_reply(numbers: [u64; ROW_LENGTH]) -> Reply
+pub(crate) fn open_reply(numbers: [u64; ANSWER_LENGTH]) -> Reply
     ensures { λ r. ⌜ r ≡ openReply numbers ⌝ }
 {
     if numbers[0] == 0 {

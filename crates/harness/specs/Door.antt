@@ -6,8 +6,8 @@ use lib.ListN.{length}
 use lib.Dec.{eqb, leb}
 use Rattle.recovery.specs.declared.Answer.{Answer}
 use Rattle.recovery.specs.declared.State.{State}
-use Rattle.recovery.specs.Lent.{rowLength, Left, refused}
-use Rattle.recovery.specs.Numbers.{numbersOf}
+use Rattle.recovery.specs.Lent.{Left, refused}
+use Rattle.recovery.specs.Numbers.{answerLength, numbersOf}
 use Rattle.calls.specs.declared.making.Call.{Call}
 use Rattle.calls.specs.declared.making.Call.the-variants.{Begin, Write, Read, Test, Commit, Abort}
 use Rattle.calls.specs.Asked.{asked}
@@ -42,9 +42,9 @@ abbrev pub left : List ℕ → List ℕ → List ℕ → List ℕ → Given
 left s fates rows out = record { sheet = s; fates = fates; rows = rows; numbers = out }
 
 abbrev pub numberCount : ℕ
-numberCount = rowLength + 3
+numberCount = answerLength + 3
 
--- the answer's numbers, as many as a row has, then end, floor and open count
+-- the answer's numbers, then end, floor and open count
 abbrev pub toldNumbers : Answer → State → List ℕ
 toldNumbers a state = numbersOf a ++ (state .end ∷ state .floor ∷ state .undecided ∷ [])
 

@@ -1,10 +1,10 @@
 // The door of the tests and timings outside Rattle: a call, an opening or a rebuild as numbers, and the highest start. What a call, an
-// opening or a rebuild answers is given as nine numbers, the answer's six and the state's three, in a lent run; with a run of another
-// length nothing is done.
+// opening or a rebuild answers is given as numbers, the answer's and then the state's, in a lent run; with a run of another length nothing is
+// done.
 use calls::Call;
 use calls::make;
+use recovery::ANSWER_LENGTH;
 use recovery::Done;
-use recovery::ROW_LENGTH;
 use recovery::State;
 use recovery::numbers_of;
 use recovery::refuse;
@@ -14,7 +14,7 @@ ghost use Rattle.recovery.specs.Lent.{highestStartOf, leftBy, openLeaves, rebui
 ghost use Rattle.harness.specs.Door.{numberCount, toldNumbers, callOf, made, stateWith, left, given};
 
 // Where the state's numbers lie, after the answer's, and how many are given.
-const END: usize = ROW_LENGTH;
+const END: usize = ANSWER_LENGTH;
 
 const FLOOR: usize = END + 1;
 

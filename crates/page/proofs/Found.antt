@@ -17,7 +17,7 @@ use Rattle.page.specs.declared.Unpacked.the-variants.{Refused, Blank, To
 use Rattle.page.proofs.Unpacked.{the-type}
 use Rattle.page.specs.Layout.{valueSize, pageSize}
 use Rattle.page.specs.Table.{fieldsOf, opening, lowest, highest, meetsRules, isPageOf, fits, torn}
-use Rattle.page.specs.Answers.{inBounds, byKind, tested, testNumber, onImage, isOutcomeOf}
+use Rattle.page.specs.Answers.{inBounds, byKind, tested, isFitPage, onImage, isOutcomeOf}
 use Rattle.page.specs.Steps.{hasKind}
 use Rattle.page.proofs.Rules.{Between, between-true, InBounds, in-bounds}
 
@@ -147,21 +147,21 @@ fits-kind {s} {kind = kind} h =
 -- ---- an answer with fields, by its number
 
 module _ (s : List ℕ) (place files : ℕ) where
-  told-fields : eqb (testNumber (tested s place files)) 0 ≡ true → tested s place files ≡ byKind (fieldsOf s)
+  told-fields : isFitPage (tested s place files) ≡ true → tested s place files ≡ byKind (fieldsOf s)
   unfolding tested
   told-fields = go (inBounds (length s) place files) (zeros s) (torn s) (fits s place files)
     where
       answer : (a z t f : Bool) → Unpacked
       answer a z t f = cond a (cond z Blank (cond t Torn (cond f (byKind (fieldsOf s)) Unfit))) Refused
 
-      go : (a z t f : Bool) → eqb (testNumber (answer a z t f)) 0 ≡ true → answer a z t f ≡ byKind (fieldsOf s)
+      go : (a z t f : Bool) → isFitPage (answer a z t f) ≡ true → answer a z t f ≡ byKind (fieldsOf s)
       go false z t f h = absurd (false≢true h)
       go true true t f h = absurd (false≢true h)
       go true false true f h = absurd (false≢true h)
       go true false false true h = refl
       go true false false false h = absurd (false≢true h)
 
-  pub told-image : hasKind s 2 ≡ true → eqb (testNumber (tested s place files)) 0 ≡ true → Image (fieldsOf s) ≡ tested s place files
+  pub told-image : hasKind s 2 ≡ true → isFitPage (tested s place files) ≡ true → Image (fieldsOf s) ≡ tested s place files
   told-image k h = let e : fieldsOf s .kind ≡ 2 = kind-of s 2 k in sym (told-fields h ∙ rw e)
 
   -- ---- an outcome of an action, by its fields
@@ -184,11 +184,11 @@ module _ (s : List ℕ) (place files : ℕ) where
             sym (ne-eqb (p .action) a (λ z. h (fits-kind f) (ap (λ (x : Page). x .action) (sym (f .fields-are)) ∙ z)))
 
     -- one that has them is, if it fits
-    pub told-outcome : hasKind s 3 ≡ true → fieldsOf s .action ≡ a → eqb (testNumber (tested s place files)) 0 ≡ isOutcomeOf a (tested s place files)
+    pub told-outcome : hasKind s 3 ≡ true → fieldsOf s .action ≡ a → isFitPage (tested s place files) ≡ isOutcomeOf a (tested s place files)
     unfolding isOutcomeOf
-    told-outcome k act = go (eqb (testNumber (tested s place files)) 0) refl
+    told-outcome k act = go (isFitPage (tested s place files)) refl
       where
-        unfit : (u : Unpacked) → eqb (testNumber u) 0 ≡ false → false ≡ isOutcomeOf a u
+        unfit : (u : Unpacked) → isFitPage u ≡ false → false ≡ isOutcomeOf a u
         unfit Refused e = refl
         unfit Blank e = refl
         unfit Torn e = refl
@@ -197,7 +197,7 @@ module _ (s : List ℕ) (place files : ℕ) where
         unfit (Outcome p) e = absurd (true≢false e)
         unfit Unfit e = refl
 
-        go : (b : Bool) → eqb (testNumber (tested s place files)) 0 ≡ b → b ≡ isOutcomeOf a (tested s place files)
+        go : (b : Bool) → isFitPage (tested s place files) ≡ b → b ≡ isOutcomeOf a (tested s place files)
         go true e =
             let three : fieldsOf s .kind ≡ 3 = kind-of s 3 k in
             rw (told-fields e, three) (sym (eq-eqb (fieldsOf s .action) a act))

@@ -19,7 +19,7 @@ use Rattle.page.specs.declared.Unpacked.the-variants.{Blank, Torn, Openi
 use Rattle.page.specs.Layout.{kindAt, smallAt, spareAt, fileAt, actionAt, linkAt, startAt, valueAt, placeAt, checkAt, spareEndAt, markAt, pageSize, endMark, mostPlaces, valueSize}
 use Rattle.page.specs.Table.{cell, head, front, packed, field, fieldsOf, valueOf, within, meetsRules, isPageOf, fits, torn}
 use Rattle.page.specs.Steps.{framed}
-use Rattle.page.specs.Answers.{inBounds, byKind, tested, testNumber, isBlankPage}
+use Rattle.page.specs.Answers.{inBounds, byKind, tested, isFitPage, isBlankPage}
 use Rattle.page.proofs.Rules.{within-true, InBounds, in-bounds}
 use Rattle.page.proofs.RoundTrip.{length-front, last-byte}
 
@@ -188,24 +188,24 @@ marked-tested s place files a m =
 
 -- ---- a page that fits, by the number of the answer
 
-pub fits-told : (s : List ℕ) (place files : ℕ) → inBounds (length s) place files ≡ true → AreBytes s → fits s place files ≡ eqb (testNumber (tested s place files)) 0
+pub fits-told : (s : List ℕ) (place files : ℕ) → inBounds (length s) place files ≡ true → AreBytes s → fits s place files ≡ isFitPage (tested s place files)
 fits-told s place files a b = go (eqb (getD s markAt 0) 0) refl
   where
     q : InBounds (length s) place files
     q = in-bounds (length s) place files a
 
-    unmarked : (t z : Bool) → false ≡ eqb (testNumber (cond t Torn (cond z Blank Unfit))) 0
+    unmarked : (t z : Bool) → false ≡ isFitPage (cond t Torn (cond z Blank Unfit))
     unmarked true z = refl
     unmarked false true = refl
     unmarked false false = refl
 
-    marked : (f k1 k2 : Bool) → f ≡ eqb (testNumber (cond f (cond k1 (Opening (fieldsOf s)) (cond k2 (Image (fieldsOf s)) (Outcome (fieldsOf s)))) Unfit)) 0
+    marked : (f k1 k2 : Bool) → f ≡ isFitPage (cond f (cond k1 (Opening (fieldsOf s)) (cond k2 (Image (fieldsOf s)) (Outcome (fieldsOf s)))) Unfit)
     marked true true k2 = refl
     marked true false true = refl
     marked true false false = refl
     marked false k1 k2 = refl
 
-    go : (m : Bool) → eqb (getD s markAt 0) 0 ≡ m → fits s place files ≡ eqb (testNumber (tested s place files)) 0
+    go : (m : Bool) → eqb (getD s markAt 0) 0 ≡ m → fits s place files ≡ isFitPage (tested s place files)
     go true e =
         let z : getD s markAt 0 ≡ 0 = eqb-true (getD s markAt 0) 0 e in
         rw (unmarked-tested s place files a b z, no-mark s (q .size-is) b place files (q .place-is .1) z) (unmarked (torn s) (zeros s))

@@ -12,7 +12,7 @@ use Rattle.page.specs.declared.Unpacked.the-variants.{Refused, Blank, To
 use Rattle.page.specs.declared.Sought as sought
 use Rattle.page.specs.Layout.{pageSize}
 use Rattle.page.specs.Table.{fieldsOf}
-use Rattle.page.specs.Answers.{tested, testNumber, imageThat, imageOfFile}
+use Rattle.page.specs.Answers.{tested, isFitPage, imageThat, imageOfFile}
 use Rattle.page.specs.Steps.{hasKind, named}
 use Rattle.page.proofs.Found.{found, kind-size, fits-kind, told-image}
 
@@ -36,10 +36,10 @@ module _ (passes : Page → Bool) (s : List ℕ) (place files : ℕ) where
           rw other
 
   -- nor is one that does not fit
-  pub unfit-image : eqb (testNumber (tested s place files)) 0 ≡ false → sought.Sought.Other ≡ imageThat passes (tested s place files)
+  pub unfit-image : isFitPage (tested s place files) ≡ false → sought.Sought.Other ≡ imageThat passes (tested s place files)
   unfit-image = go (tested s place files)
     where
-      go : (u : Unpacked) → eqb (testNumber u) 0 ≡ false → sought.Sought.Other ≡ imageThat passes u
+      go : (u : Unpacked) → isFitPage u ≡ false → sought.Sought.Other ≡ imageThat passes u
       go Refused e = refl
       go Blank e = refl
       go Torn e = refl
@@ -55,7 +55,7 @@ module _ (passes : Page → Bool) (s : List ℕ) (place files : ℕ) where
       rw (← e) (rw g)
 
   -- and so one with its kind that fits, by the fields read from the part
-  pub fit-image : (p : Page) → p ≡ fieldsOf s → hasKind s 2 ≡ true → passes (fieldsOf s) ≡ true → eqb (testNumber (tested s place files)) 0 ≡ true
+  pub fit-image : (p : Page) → p ≡ fieldsOf s → hasKind s 2 ≡ true → passes (fieldsOf s) ≡ true → isFitPage (tested s place files) ≡ true
       → sought.Sought.Image p ≡ imageThat passes (tested s place files)
   fit-image p r k h e = ap sought.Sought.Image r ∙ that-image (fieldsOf s) (told-image s place files k e) h
 
@@ -83,10 +83,10 @@ module _ (s : List ℕ) (place files file : ℕ) where
   unfolding imageOfFile
   named-image x h e = that-image ofFile s place files x e (named-file h)
 
-  pub this-image : (p : Page) → p ≡ fieldsOf s → named s file ≡ true → eqb (testNumber (tested s place files)) 0 ≡ true → sought.Sought.Image p ≡ imageOfFile file (tested s place files)
+  pub this-image : (p : Page) → p ≡ fieldsOf s → named s file ≡ true → isFitPage (tested s place files) ≡ true → sought.Sought.Image p ≡ imageOfFile file (tested s place files)
   unfolding named imageOfFile
   this-image p r h e = let k = and-true (hasKind s 2) (ofFile (fieldsOf s)) h in fit-image ofFile s place files p r (k .0) (k .1) e
 
-  pub unfit-of-file : eqb (testNumber (tested s place files)) 0 ≡ false → sought.Sought.Other ≡ imageOfFile file (tested s place files)
+  pub unfit-of-file : isFitPage (tested s place files) ≡ false → sought.Sought.Other ≡ imageOfFile file (tested s place files)
   unfolding imageOfFile
   unfit-of-file e = unfit-image ofFile s place files e

@@ -32,7 +32,7 @@ tested s place files =
     (cond (zeros s) Blank (cond (torn s) Torn (cond (fits s place files) (byKind (fieldsOf s)) Unfit)))
     Refused
 
--- blank, an opening, and an outcome of an action, of what the page test says
+-- blank, fit, an opening, and an outcome of an action, of what the page test says
 abbrev pub isBlankPage : Unpacked → Bool
 isBlankPage Refused = false
 isBlankPage Blank = true
@@ -41,6 +41,15 @@ isBlankPage (Opening p) = false
 isBlankPage (Image p) = false
 isBlankPage (Outcome p) = false
 isBlankPage Unfit = false
+
+abbrev pub isFitPage : Unpacked → Bool
+isFitPage Refused = false
+isFitPage Blank = false
+isFitPage Torn = false
+isFitPage (Opening p) = true
+isFitPage (Image p) = true
+isFitPage (Outcome p) = true
+isFitPage Unfit = false
 
 unfoldable pub isOpeningPage : Unpacked → Bool
 isOpeningPage Refused = false

@@ -12,13 +12,12 @@ ghost use mathlib.Core.Bool.{cond};
 ghost use mathlib.Core.List.{_++_};
 ghost use mathlib.Core.Path.{_≡_};
 ghost use Prim.Native.Nat.{_+_, _≤_, _<_, _-_};
-ghost use lib.Dec.{eqb};
 ghost use lib.ListN.{length, take, replicate};
 ghost use Rattle.encoding.specs.Bytes.{bytes, zeros, same, check};
 ghost use Rattle.page.specs.Layout.{valueAt, pageSize, mostPlaces, valueSize};
 ghost use Rattle.page.specs.Table.{head, front, packed, field, fieldsOf, opening, image, outcome, lowest, highest, within, between, used, meetsRules, isPageOf, torn};
 ghost use Rattle.page.specs.Steps.{framed, hasKind, named};
-ghost use Rattle.page.specs.Answers.{inBounds, byKind, tested, testNumber, isBlankPage, isOpeningPage, isOutcomeOf, packs, imageOfFile, imageAbove, valueIn};
+ghost use Rattle.page.specs.Answers.{inBounds, byKind, tested, isBlankPage, isFitPage, isOpeningPage, isOutcomeOf, packs, imageOfFile, imageAbove, valueIn};
 
 // The fields of a page (a log record), kind to start. The 32 bytes of the value stay beside it.
 pub struct Page {
@@ -352,9 +351,9 @@ impl Page {
         p.by_kind()
     }
 
-    // Whether the page test finds a page that fits, of any kind: for who needs no fields from it, so that none are stored on the way.
-    fn is_page(part: &[u8], place: u64, files: u64) -> bool
-        ensures { λ r. ⌜ r ≡ eqb (testNumber (tested (now (part .entry)) place files)) 0 ⌝ }
+    // Whether the page test finds a page that fits, of any kind. For who needs no fields of its answer: none are stored on the way.
+    fn is_fit_page(part: &[u8], place: u64, files: u64) -> bool
+        ensures { λ r. ⌜ r ≡ isFitPage (tested (now (part .entry)) place files) ⌝ }
     {
         if !is_in_bounds(part.len(), place, files) {
             return false;
@@ -415,7 +414,7 @@ impl Page {
         if field(part, Page::ACTION, Page::LINK) != action {
             return false;
         }
-        Page::is_page(part, place, files)
+        Page::is_fit_page(part, place, files)
     }
 
     // The cheap look: a part with the kind of an image and with this file. No other part is an image of the file.
@@ -435,7 +434,7 @@ impl Page {
         if !Page::names(part, file) {
             return Sought::Other;
         }
-        if !Page::is_page(part, place, files) {
+        if !Page::is_fit_page(part, place, files) {
             return Sought::Other;
         }
         Sought::Image(Page::fields(part))
@@ -451,7 +450,7 @@ impl Page {
         if field(part, Page::START, Page::VALUE) <= time {
             return Sought::Other;
         }
-        if !Page::is_page(part, place, files) {
+        if !Page::is_fit_page(part, place, files) {
             return Sought::Other;
         }
         Sought::Image(Page::fields(part))

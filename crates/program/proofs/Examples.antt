@@ -14,13 +14,13 @@ use Rattle.commands.specs.declared.parsing.Command as command
 use Rattle.commands.specs.declared.printing.Reply as reply
 use Rattle.commands.specs.declared.printing.Reply.{Reply}
 use Rattle.commands.specs.Replies.{decimal, spaced}
+use Rattle.page.specs.Layout.{mostFiles}
 use Rattle.page.specs.Table.{head, front, packed, fieldsOf, lowest, highest, within, between, meetsRules, isPageOf, torn}
 use Rattle.page.specs.Answers.{inBounds, tested}
 use Rattle.recovery.specs.Places.{tabulate}
 use Rattle.recovery.specs.Log.{Entry, image, fateOf, outcomeOf, imagesOf, notBy, effective, versionsOf, tokenOf, highestStart}
 use Rattle.recovery.specs.Sheet.{decoded, sealed, pages}
 use Rattle.recovery.specs.World.{down, warmRow, rowHolds, lentRight, endOf, highestBad, undecidedOf, coldRows, opened}
-use Rattle.page.specs.Layout.{mostFiles}
 use Rattle.recovery.specs.Lent.{rowLength, rowsOf, flat, sizesRight, openLeaves}
 use Rattle.recovery.specs.Numbers.{isRefused}
 use Rattle.calls.specs.Walk.{follow}

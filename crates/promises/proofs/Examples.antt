@@ -1,8 +1,7 @@
 -- Runs that meet the premises of each promise, with what they hear: document 01's listing, a change of two locks that is cut with any
--- of its bytes stored, a commit whose reply is lost, a time that is mended inside its action, rows that name the
--- actions of their tokens, one life of a box with each promise asked
--- of it, rows rebuilt in two orders, the reserve kept and used up, a floor that is too low, and a lawful sheet that no run of this
--- store makes. Each premise is proved, so no promise is empty.
+-- of its bytes stored, a commit whose reply is lost, a time that is mended inside its action, rows that name the actions of their tokens,
+-- one life of a box with each promise asked of it, rows rebuilt in two orders, the reserve kept and used up, a floor that is too low, and
+-- a lawful sheet that no run of this store makes. Each premise is proved, so no promise is empty.
 use Prim.Native.Nat.{ℕ, suc, _*_, _≤_, _<_}
 use mathlib.Core.Path.{_≡_, refl, sym, _∙_, subst}
 use mathlib.Core.List.{List, [], _∷_, _++_}

@@ -5,7 +5,7 @@ use mathlib.Core.List.{List, [], _∷_, _++_}
 use native.Mathlib.Omega.{arith}
 use native.Mathlib.Numerals.{unary-clauses}
 use lib.ListN.{length, getD, set, drop, drop-of-length-le}
-use lib.Seq.{drop-cons, sets, ext-getD}
+use lib.Seq.{drop-cons, sets, set-getD, ext-getD}
 use Rattle.recovery.specs.Places.{nth, tabulate}
 use Rattle.recovery.proofs.Places.{length-tabulate, nth-tabulate}
 use Rattle.recovery.specs.declared.Row.{Row}
@@ -36,6 +36,16 @@ run-drop (suc n) rs k h =
 row-run : (rs : List ℕ) (j : ℕ) → numbers (rowFrom rs j) ≡ run rowLength rs (rowLength * j)
 unfolding run
 row-run rs j = simp unary-clauses
+
+-- put back, they change nothing
+run-sets : (n : ℕ) (rs : List ℕ) (k : ℕ) → sets rs k (run n rs k) ≡ rs
+unfolding run
+run-sets zero rs k = refl
+run-sets (suc n) rs k = ap (λ l. sets l (suc k) (run n rs (suc k))) (set-getD rs k 0) ∙ run-sets n rs (suc k)
+
+pub put-here : (rs : List ℕ) (j : ℕ) → putRow rs j (rowFrom rs j) ≡ rs
+unfolding putRow
+put-here rs j = ap (sets rs (rowLength * j)) (row-run rs j) ∙ run-sets rowLength rs (rowLength * j)
 
 flat-tab : (rs : List ℕ) (i n : ℕ) → length rs ≡ rowLength * (i + n) → flat (tabulate (λ f. rowFrom rs (pred f)) i n) ≡ drop (rowLength * i) rs
 unfolding flat tabulate

@@ -6,7 +6,7 @@ use mathlib.Core.List.{List}
 use native.Mathlib.Omega.{arith}
 use lib.ListN.{length}
 use lib.Dec.{eqb, leb}
-use borrow.Author.Tests.{eq-eqb, ne-eqb, le-leb, lt-leb, eqb-true, eqb-false, leb-true, leb-false}
+use borrow.Author.Tests.{eq-eqb, ne-eqb, le-leb, lt-leb, eqb-true, leb-true, leb-false}
 use Rattle.encoding.proofs.Logic.{by-test}
 use Rattle.page.specs.declared.Page.{Page}
 use Rattle.page.specs.declared.Unpacked.{Unpacked}
@@ -89,6 +89,12 @@ ofEntry file g = (isImageOf file g, cond (isImageOf file g) (imageAction g) 0)
 abbrev pub ofSought : Sought → Bool × ℕ
 ofSought u = (isFound u, actionFound u)
 
+-- the action counts of an image of the file alone
+pub under-action : (b c : Bool) (m a : ℕ) → (b && c && eqb (cond c m 0) a) ≡ (b && c && eqb m a)
+under-action true true m a = refl
+under-action true false m a = refl
+under-action false c m a = refl
+
 entry-found : (file : ℕ) (ρ : ℕ → Entry) (b : List ℕ) (u : Unpacked)
     → ofEntry file (seal ρ (entryOf b u)) ≡ ofSought (with-opening file (λ (a : ℕ). isOpening (ρ a)) u)
 entry-found file ρ b Refused = refl
@@ -158,19 +164,14 @@ module _ (files : ℕ) (s : List ℕ) (e f : ℕ) where
       there : Entry
       there = nth blank (pagesOf s files) (r .token)
 
-      guarded : (b c : Bool) (m : ℕ) → (b && c && eqb (r .tokenaction) (cond c m 0)) ≡ (b && c && eqb (r .tokenaction) m)
-      guarded true true m = refl
-      guarded true false m = refl
-      guarded false c m = refl
-
       go : (b : Bool) → eqb (r .token) 0 ≡ b
-          → ((b || (leb (r .token) e && isFound u)) && eqb (r .tokenaction) (actionFound u)) ≡ ((b || (leb (r .token) e && isImageOf f there)) && eqb (r .tokenaction) (imageAction there))
+          → ((b || (leb (r .token) e && isFound u)) && eqb (actionFound u) (r .tokenaction)) ≡ ((b || (leb (r .token) e && isImageOf f there)) && eqb (imageAction there) (r .tokenaction))
       go true k =
           let z : r .token ≡ 0 = eqb-true (r .token) 0 k in
-          rw (h, z) (ap (λ (x : Bool × ℕ). eqb (r .tokenaction) (x .1)) (sym (lies-in files s f 0)))
+          rw (h, z) (ap (λ (x : Bool × ℕ). eqb (x .1) (r .tokenaction)) (sym (lies-in files s f 0)))
       go false k =
           let l : ofEntry f there ≡ ofSought u = lies-in files s f (r .token) ∙ ap ofSought (sym h) in
-          ap (λ (x : Bool × ℕ). leb (r .token) e && x .0 && eqb (r .tokenaction) (x .1)) (sym l) ∙ guarded (leb (r .token) e) (isImageOf f there) (imageAction there)
+          ap (λ (x : Bool × ℕ). leb (r .token) e && x .0 && eqb (x .1) (r .tokenaction)) (sym l) ∙ under-action (leb (r .token) e) (isImageOf f there) (imageAction there) (r .tokenaction)
 
   pub row-held : (r : Row) (u v : Sought) → u ≡ sealedImage files s f (r .current) → v ≡ sealedImage files s f (r .token) → rowHoldsBy e r u v ≡ rowHoldsIn s files e f r
   unfolding rowHoldsBy rowHoldsIn rowHolds

@@ -1,34 +1,28 @@
 -- What rebuild leaves, at each of its ends: each law ends in `rebuildLeaves`, the contract. Assumes nothing.
-use Prim.Native.Nat.{ℕ, zero, suc, _+_, _*_, _/_, _%_}
+use Prim.Native.Nat.{ℕ, zero, suc, _/_, _%_}
 use mathlib.Core.Path.{_≡_, refl, sym, ap, _∙_}
 use mathlib.Core.Bool.{Bool, true, false}
 use mathlib.Core.List.{List}
 use native.Mathlib.Omega.{arith}
 use native.Mathlib.Numerals.{sub-one}
 use lib.ListN.{length}
-use lib.Seq.{set-getD}
 use lib.Dec.{eqb}
 use borrow.Author.Tests.{eqb-true, eq-eqb, ne-eqb}
 use Rattle.encoding.proofs.Logic.{and-true}
 use Rattle.page.specs.Layout.{pageSize}
 use Rattle.recovery.specs.Places.{put}
 use Rattle.recovery.specs.World.{lentRight, isFile, warmRow, rowHolds, withRow, answerRow, refuse, rebuilt}
-use Rattle.recovery.specs.Lent.{rowLength, rowFrom, rowsOf, flat, putRow, lent, whole, sizesRight, leaves, refused, rebuildLeaves}
+use Rattle.recovery.specs.Lent.{rowLength, rowsOf, flat, putRow, lent, whole, sizesRight, leaves, refused, rebuildLeaves}
 use Rattle.recovery.specs.Steps.{rowOf, withRowOf, rowFromPages, rowHoldsIn, warmRowOf, lineOne, Warmed}
 use Rattle.recovery.specs.declared.Row.{Row}
 use Rattle.recovery.specs.declared.State.{State}
 use Rattle.recovery.specs.declared.Answer.{Answer}
 use Rattle.recovery.specs.declared.Answer.the-variants.{Rebuilt}
 use Rattle.recovery.proofs.Pages.{pages-long}
-use Rattle.recovery.proofs.FlatRows.{rows-long, rows-flat, put-flat, put-stores}
+use Rattle.recovery.proofs.FlatRows.{rows-long, rows-flat, put-here, put-flat}
 use Rattle.recovery.proofs.Lookups.{is-file, row-some, set-some, set-none}
 
 -- ---- a row that is put back as it was
-
-put-here : (xs : List ℕ) (j : ℕ) → putRow xs j (rowFrom xs j) ≡ xs
-put-here xs j =
-    sym (put-stores xs j (rowFrom xs j))
-    ∙ rw (set-getD xs (rowLength * j) 0, set-getD xs (rowLength * j + 1) 0, set-getD xs (rowLength * j + 2) 0, set-getD xs (rowLength * j + 3) 0, set-getD xs (rowLength * j + 4) 0, set-getD xs (rowLength * j + 5) 0)
 
 same-row : (rows : List ℕ) (f : ℕ) → rows ≡ withRowOf rows f (rowOf rows f)
 same-row rows f = go (isFile (length rows / rowLength) f) refl

@@ -5,28 +5,28 @@ use mathlib.Core.Bool.{Bool, true, false, cond, _||_}
 use mathlib.Core.List.{List, [], _∷_}
 use native.Mathlib.Omega.{arith}
 use native.Mathlib.Numerals.{add-one}
-use lib.ListN.{length, getD, drop, drop-of-length-le}
+use lib.ListN.{length, drop, drop-of-length-le}
 use lib.Seq.{drop-cons}
 use lib.Dec.{eqb}
 use Rattle.encoding.proofs.Logic.{and-false, or-false}
 use Rattle.recovery.specs.declared.Row.{Row}
 use Rattle.recovery.specs.World.{cold, namesAction}
 use Rattle.recovery.specs.Lent.{rowLength, rowFrom, rowsOf}
-use Rattle.recovery.specs.Steps.{rowOf, passed, nextNamed, inFour}
+use Rattle.recovery.specs.Steps.{rowOf, beforeNamed, nextNamed, inFour}
 use Rattle.recovery.proofs.FlatRows.{rows-long, row-at}
 
 module _ (rows : List ℕ) (a : ℕ) where
   -- ---- one row more
 
   pub next-end : (k : ℕ) → length rows / rowLength ≤ k → k ≡ nextNamed rows k a
-  unfolding nextNamed passed
+  unfolding nextNamed beforeNamed
   next-end k h = let none : drop k (rowsOf rows) ≡ [] = drop-of-length-le (rowsOf rows) {i = k} (omega (arith, rows-long rows)) in rw none
 
   next-by : (k : ℕ) (b : Bool) → k < length rows / rowLength → namesAction a (rowFrom rows k) ≡ b → nextNamed rows k a ≡ cond b k (nextNamed rows (k + 1) a)
-  unfolding nextNamed passed
+  unfolding nextNamed beforeNamed
   next-by k b h e =
       let one : drop k (rowsOf rows) ≡ rowFrom rows k ∷ drop (suc k) (rowsOf rows) = drop-cons (rowsOf rows) k cold (omega (arith, rows-long rows)) ∙ ap (λ (r : Row). r ∷ drop (suc k) (rowsOf rows)) (row-at rows (suc k) (omega arith) h) in
-      rw (one, add-one) (ap (λ (c : Bool). cond c k (passed a (drop (suc k) (rowsOf rows)) (suc k))) e)
+      rw (one, add-one) (ap (λ (c : Bool). cond c k (beforeNamed a (drop (suc k) (rowsOf rows)) (suc k))) e)
 
   pub next-here : (k : ℕ) → k < length rows / rowLength → namesAction a (rowFrom rows k) ≡ true → k ≡ nextNamed rows k a
   next-here k h e = sym (next-by k true h e)

@@ -4,10 +4,15 @@ use mathlib.Core.List.{List, [], _∷_}
 use mathlib.Core.Bool.{Bool}
 use lib.ListN.{getD}
 use lib.Dec.{eqb}
+use Rattle.recovery.specs.Lent.{rowLength}
 use Rattle.recovery.specs.declared.Answer.{Answer}
 use Rattle.recovery.specs.declared.Answer.the-variants.{Refused, Opened, Rebuilt, Stored, Value, Nothing, Told}
 
--- as many numbers as a row has: which of the seven it is, then its values and zeros; a refusal's values are its number and place
+-- how many numbers an answer has: which it is, and then at most a row's numbers after its mark
+abbrev pub answerLength : ℕ
+answerLength = rowLength
+
+-- which of the seven it is, then its values and zeros; a refusal's values are its number and place
 abbrev pub numbersOf : Answer → List ℕ
 numbersOf (Refused n p) = 0 ∷ n ∷ p ∷ 0 ∷ 0 ∷ 0 ∷ []
 numbersOf (Opened e u) = 1 ∷ e ∷ u ∷ 0 ∷ 0 ∷ 0 ∷ []

@@ -1,4 +1,5 @@
--- What smaller functions of the code answer. A reader of document 01 can pass this file over: the laws join it to `rebuilt`.
+-- What smaller functions of the code answer. A reader of document 01 can pass this file over: the laws join it to `rebuilt`, and those of
+-- `calls` to commit and abort.
 use mathlib.Core.Path.{_≡_}
 use mathlib.Core.List.{List, [], _∷_}
 use mathlib.Core.Bool.{Bool, true, false, cond, _&&_, _||_}
@@ -50,12 +51,12 @@ unfoldable pub withRowOf : List ℕ → ℕ → Row → List ℕ
 withRowOf rows file r = cond (isFile (length rows / rowLength) file) (putRow rows (pred file) r) rows
 
 -- how many files lie before the first of these rows, with f before them, that names an action: all of them if there is none
-unfoldable pub passed : ℕ → List Row → ℕ → ℕ
-passed a [] f = f
-passed a (r ∷ rs) f = cond (namesAction a r) f (passed a rs (suc f))
+unfoldable pub beforeNamed : ℕ → List Row → ℕ → ℕ
+beforeNamed a [] f = f
+beforeNamed a (r ∷ rs) f = cond (namesAction a r) f (beforeNamed a rs (suc f))
 
 unfoldable pub nextNamed : List ℕ → ℕ → ℕ → ℕ
-nextNamed rows f a = passed a (drop f (rowsOf rows)) f
+nextNamed rows f a = beforeNamed a (drop f (rowsOf rows)) f
 
 -- whether one of the four rows after k others has an action as its token's
 unfoldable pub inFour : List ℕ → ℕ → ℕ → Bool
@@ -100,7 +101,7 @@ actionFound (sought.Sought.Image x) = x .action
 actionFound sought.Sought.Other = 0
 
 unfoldable pub tokenHoldsBy : ℕ → Row → Sought → Bool
-tokenHoldsBy end r u = placeHoldsBy end (r .token) u && eqb (r .tokenaction) (actionFound u)
+tokenHoldsBy end r u = placeHoldsBy end (r .token) u && eqb (actionFound u) (r .tokenaction)
 
 unfoldable pub rowHoldsBy : ℕ → Row → Sought → Sought → Bool
 rowHoldsBy end r u v = leb (r .mark) 1 && placeHoldsBy end (r .current) u && tokenHoldsBy end r v

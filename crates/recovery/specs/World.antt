@@ -1,4 +1,4 @@
--- What open and rebuild do, over decoded pages, line by line in the order of document 01 (docs/STORE.md, The calls).
+-- What open and rebuild do, over decoded pages, line by line in the order of document 01 (docs/STORE.md, The calls), and what is asked of rows.
 use mathlib.Core.List.{List, [], _∷_}
 use mathlib.Core.Bool.{Bool, true, false, cond, _&&_, _||_}
 use Prim.Native.Nat.{ℕ, zero, suc, _+_}
@@ -99,11 +99,7 @@ isImageOf f opening = false
 isImageOf f (image i) = eqb (i .file) f
 isImageOf f (outcome a c) = false
 
--- line 7: a place of a row is 0, or a place up to the end with a sealed image of the file
-abbrev pub placeHolds : World → ℕ → ℕ → Bool
-placeHolds w f place = eqb place 0 || (leb place (w .end) && isImageOf f (entryAt w place))
-
--- and the token's action is that of its page, 0 where there is no token
+-- the action of an image, 0 of any other page
 abbrev pub imageAction : Entry → ℕ
 imageAction blank = 0
 imageAction torn = 0
@@ -112,8 +108,17 @@ imageAction opening = 0
 imageAction (image i) = i .action
 imageAction (outcome a c) = 0
 
+-- a place up to the end with a sealed image of the file
+abbrev pub holdsImage : World → ℕ → ℕ → Bool
+holdsImage w f place = leb place (w .end) && isImageOf f (entryAt w place)
+
+-- line 7: a place of a row is 0 or holds an image of the file
+abbrev pub placeHolds : World → ℕ → ℕ → Bool
+placeHolds w f place = eqb place 0 || holdsImage w f place
+
+-- and the token's action is that of its page, 0 where there is no token
 abbrev pub tokenHolds : World → ℕ → Row → Bool
-tokenHolds w f r = placeHolds w f (r .token) && eqb (r .tokenaction) (imageAction (entryAt w (r .token)))
+tokenHolds w f r = placeHolds w f (r .token) && eqb (imageAction (entryAt w (r .token))) (r .tokenaction)
 
 unfoldable pub rowHolds : World → ℕ → Row → Bool
 rowHolds w f r = leb (r .mark) 1 && placeHolds w f (r .current) && tokenHolds w f r

@@ -73,6 +73,9 @@ pub struct Done {
 // How many numbers of the lent run a row has.
 pub const ROW_LENGTH: usize = 6;
 
+// How many numbers an answer has: which it is, and then at most a row's numbers after its mark.
+pub const ANSWER_LENGTH: usize = ROW_LENGTH;
+
 // A sheet of at most so many pages is small: arrays for its pages are sooner cleared.
 pub const FEW_PAGES: usize = 1024;
 

@@ -1,11 +1,11 @@
 // An answer as numbers, as `specs/Numbers.antt` has them.
+use crate::ANSWER_LENGTH;
 use crate::Answer;
-use crate::ROW_LENGTH;
 ghost use mathlib.Core.Path.{_≡_};
 ghost use Rattle.recovery.specs.Numbers.{numbersOf};
 
-// Which of the seven it is, then its values and zeros: as many as a row has, since the longest answer is a row but for its mark.
-pub fn numbers_of(answer: Answer) -> [u64; ROW_LENGTH]
+// Which of the seven it is, then its values and zeros.
+pub fn numbers_of(answer: Answer) -> [u64; ANSWER_LENGTH]
     ensures { λ r. ⌜ r ≡ numbersOf answer ⌝ }
 {
     match answer {

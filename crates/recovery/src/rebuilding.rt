@@ -98,7 +98,7 @@ fn action_found(found: Sought) -> u64
 fn token_holds_by(end: u64, row: Row, found: Sought) -> bool
     ensures { λ r. ⌜ r ≡ tokenHoldsBy end row found ⌝ }
 {
-    place_holds_by(end, row.token, found) & (row.tokenaction == action_found(found))
+    place_holds_by(end, row.token, found) & (action_found(found) == row.tokenaction)
 }
 
 // Line 7, by what was found at both places of a row.

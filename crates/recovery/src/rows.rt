@@ -8,16 +8,16 @@ ghost use Rattle.recovery.specs.World.{isFile, namesAction};
 ghost use Rattle.recovery.specs.Lent.{rowLength, rowFrom, putRow};
 ghost use Rattle.recovery.specs.Steps.{rowOf, inFour, nextNamed, withRowOf};
 
-// Where the numbers of a row lie, after its mark.
+// Where the numbers of a row lie, one after the other; the mark comes first.
 const CURRENT: usize = 1;
 
-const CURRENT_END: usize = 2;
+const CURRENT_END: usize = CURRENT + 1;
 
-const TOKEN: usize = 3;
+const TOKEN: usize = CURRENT_END + 1;
 
-const TOKEN_END: usize = 4;
+const TOKEN_END: usize = TOKEN + 1;
 
-const TOKEN_ACTION: usize = ROW_LENGTH - 1;
+const TOKEN_ACTION: usize = TOKEN_END + 1;
 
 // How many files a run of so many numbers has rows for.
 pub fn file_count(numbers: usize) -> u64
@@ -94,7 +94,7 @@ fn action_at(rows: &[u64], k: usize) -> u64
     rows[ROW_LENGTH * k + TOKEN_ACTION]
 }
 
-// Whether the row after k others is rebuilt and names an action.
+// Whether the row after k others is rebuilt and names this action.
 fn names_at(rows: &[u64], k: usize, action: u64) -> bool
     requires { ⌜ rowLength * k + rowLength ≤ length (now rows) ⌝ }
     ensures { λ r. ⌜ r ≡ namesAction action (rowFrom (now (rows .entry)) k) ⌝ }
@@ -102,7 +102,7 @@ fn names_at(rows: &[u64], k: usize, action: u64) -> bool
     (rows[ROW_LENGTH * k] == 1) & (action_at(rows, k) == action)
 }
 
-// Whether one of the next four rows has an action, whatever its mark.
+// Whether one of the next four rows has this action as its token's, whatever its mark.
 fn is_in_four(rows: &[u64], k: usize, action: u64) -> bool
     requires { ⌜ rowLength * (k + 4) ≤ length (now rows) ⌝ }
     ensures { λ r. ⌜ r ≡ inFour (now (rows .entry)) k action ⌝ }
@@ -113,7 +113,7 @@ fn is_in_four(rows: &[u64], k: usize, action: u64) -> bool
         | (action_at(rows, k + 3) == action)
 }
 
-// Passes over rows that do not name an action, four at a time: one choice for four rows.
+// Passes over rows that do not name the action, four at a time: one choice for four rows.
 fn skip_fours(rows: &[u64], from: usize, action: u64) -> usize
     requires { ⌜ from ≤ length (now rows) / rowLength ⌝ }
     ensures { λ r. ⌜ (from ≤ r) × (nextNamed (now (rows .entry)) r action ≡ nextNamed (now (rows .entry)) from action) ⌝ }
@@ -129,7 +129,7 @@ fn skip_fours(rows: &[u64], from: usize, action: u64) -> usize
     k
 }
 
-// How many files lie before the next row, after so many, that names an action: all of them if there is none.
+// How many files lie before the next row that names the action, when so many are passed: all of them if there is none.
 pub fn next_named(rows: &[u64], passed: u64, action: u64) -> u64
     ensures { λ r. ⌜ r ≡ nextNamed (now (rows .entry)) passed action ⌝ }
 {

@@ -8,7 +8,7 @@ use lib.ListN.{length, getD}
 use lib.Dec.{eqb}
 use borrow.Author.Tests.{eqb-true, eqb-false}
 use Rattle.recovery.specs.Places.{nth}
-use Rattle.recovery.specs.Log.{Entry, blank, torn, bad, opening, image, outcome, fateOf, placeOf, startOf}
+use Rattle.recovery.specs.Log.{Entry, blank, torn, bad, opening, image, outcome, fateOf, startOf}
 use Rattle.recovery.specs.World.{World, Result, rebuiltRow, down, sizes, cold, isBlank, endOf, highestBad, fatesOf, undecidedOf, coldRows, opened}
 use Rattle.recovery.specs.declared.Row.{Row}
 use Rattle.recovery.specs.declared.Answer.the-variants.{Opened}

@@ -6,12 +6,12 @@ use mathlib.Core.Option.{Option, some, none}
 use Prim.Native.Nat.{ℕ, zero, suc, pred, _+_, _-_, _≤_, _<_}
 use native.Mathlib.Omega.{arith}
 use lib.ListN.{length}
-use lib.Dec.{eqb, leb}
+use lib.Dec.{eqb}
 use borrow.Author.Tests.{eqb-true, leb-true, eq-eqb, le-leb}
 use Rattle.encoding.proofs.Logic.{and-false}
 use Rattle.recovery.specs.Places.{nth, put}
 use Rattle.recovery.specs.Log.{Entry, outcome, undecided, Placed, verdict, fateOf, placeOf, startOf, actionOf}
-use Rattle.recovery.specs.World.{World, entryAt, fateNumber, cold, rebuiltRow, rowAt, isFile}
+use Rattle.recovery.specs.World.{World, fateNumber, cold, rebuiltRow, rowAt, isFile}
 use Rattle.recovery.specs.declared.Row.{Row}
 use Rattle.recovery.proofs.Lookups.{is-file}
 use Rattle.recovery.proofs.LogFates.{undecided-known}

@@ -12,7 +12,7 @@ use Rattle.encoding.proofs.Logic.{and-true}
 use Rattle.page.specs.Layout.{valueSize}
 use Rattle.recovery.specs.Places.{nth, put}
 use Rattle.recovery.specs.Log.{Entry, opening, image, undecided, Placed, fateOf, placeOf, actionOf}
-use Rattle.recovery.specs.World.{World, refuse, entryAt, cold, isFile}
+use Rattle.recovery.specs.World.{World, refuse, cold, isFile}
 use Rattle.recovery.specs.declared.Row.{Row}
 use Rattle.recovery.proofs.Places.{nth-put-same, nth-put-other, length-put}
 use Rattle.recovery.proofs.Lookups.{is-file}
@@ -27,7 +27,7 @@ use Rattle.promises.proofs.logs.Logs.{ImageFits}
 use Rattle.promises.proofs.logs.Appends.{opening-versions, opening-token, image-versions, image-token}
 use Rattle.promises.proofs.logs.Fates.{opening-fates}
 use Rattle.promises.proofs.worlds.LogSays.{currentEnd, written, newest-since, token-acted, opening-says, given, image-says}
-use Rattle.promises.proofs.worlds.Sim.{warmOf, rowFor, Sim, Agrees, agrees-cond, refused, token-lies, room-eq, blank-ok, lies-at, row-holds, sim-append, appended}
+use Rattle.promises.proofs.worlds.Sim.{warmOf, rowFor, Sim, Agrees, agrees-cond, refused, token-lies, room-eq, blank-ok, row-holds, sim-append, appended}
 
 max-below : (a b s : ℕ) → ltb (max a b) s ≡ (ltb a s && ltb b s)
 max-below a b s = go (ltb a s) (ltb b s) refl refl

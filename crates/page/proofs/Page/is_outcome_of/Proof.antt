@@ -22,14 +22,14 @@ returns-2 : tie.Need-returns-2
 unfolding fieldsOf
 returns-2 c = no-outcome _ _ _ _ (λ kind action. c .if2 .taken (c .before .field .ensures ∙ action))
 
-is-page-requires : tie.Need-is-page-requires
-is-page-requires c κs = search needs
+is-fit-page-requires : tie.Need-is-fit-page-requires
+is-fit-page-requires c κs = search needs
 
 returns-3 : tie.Need-returns-3
 unfolding fieldsOf
 returns-3 c =
     let k = c .before .before .before in
-    c .is-page .ensures ∙ told-outcome _ _ _ _ (passed (k .before .has-kind .ensures) (k .if1 .left)) (sym (c .before .before .field .ensures) ∙ c .before .if2 .left)
+    c .is-fit-page .ensures ∙ told-outcome _ _ _ _ (passed (k .before .has-kind .ensures) (k .if1 .left)) (sym (c .before .before .field .ensures) ∙ c .before .if2 .left)
 
 pub is-outcome-of-spec : {M : Type 1} → statement M
-is-outcome-of-spec = tie.close (tie.spec has-kind-requires returns field-requires returns-2 is-page-requires returns-3)
+is-outcome-of-spec = tie.close (tie.spec has-kind-requires returns field-requires returns-2 is-fit-page-requires returns-3)

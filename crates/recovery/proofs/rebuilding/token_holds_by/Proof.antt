@@ -1,4 +1,5 @@
 -- `recovery::rebuilding::token_holds_by`: each test by its definition. Assumes nothing.
+use Prim.Native.Nat.{ℕ}
 use mathlib.Core.Path.{ap, ap₂}
 use mathlib.Core.Bool.{_&&_}
 use lib.Dec.{eqb}
@@ -17,7 +18,7 @@ returns : tie.Need-returns
 unfolding tokenHoldsBy
 returns c =
     let a = c .before .before .before .args in
-    ap₂ _&&_ (c .before .before .place-holds-by .ensures) (ap (eqb (a .row .tokenaction)) (c .before .action-found .ensures))
+    ap₂ _&&_ (c .before .before .place-holds-by .ensures) (ap (λ (n : ℕ). eqb n (a .row .tokenaction)) (c .before .action-found .ensures))
 
 pub token-holds-by-spec : {M : Type 1} → statement M
 token-holds-by-spec = tie.close (tie.spec place-holds-by-requires action-found-requires returns)

@@ -1,4 +1,4 @@
--- `page::Page::is_page`: what line 1 refuses is none, and all else is one if it fits. Assumes nothing.
+-- `page::Page::is_fit_page`: what line 1 refuses is none, and all else is one if it fits. Assumes nothing.
 use Rattle.page.proofs.Quick.{fits-told}
 use Rattle.page.proofs.Rules.{InBounds, in-bounds, are-in-bounds}
 use Rattle.page.specs.Table.{isPageOf}
@@ -9,8 +9,8 @@ use denote.Ref.{now}
 use lib.ListN.{length}
 use mathlib.Core.Path.{ap, _∙_}
 use borrow.Author.Needs.{needs}
-use Rattle.page.proofs.Page.is_page.Statement.{statement}
-use Rattle.page.proofs.Page.is_page.Tie as tie
+use Rattle.page.proofs.Page.is_fit_page.Statement.{statement}
+use Rattle.page.proofs.Page.is_fit_page.Tie as tie
 
 -- what line 1 let through
 bounds : (c : tie.Else1) → InBounds (length (now (c .before .before .before .args .part))) (c .before .before .before .args .place) (c .before .before .before .args .files)
@@ -36,5 +36,5 @@ returns-2 c =
     c .is-fit .ensures ∙ ap (λ (p : Page). isPageOf p (now (a .part)) (a .place) (a .files)) (c .before .fields .ensures)
     ∙ fits-told (now (a .part)) (a .place) (a .files) (are-in-bounds (bounds k)) (λ i. k .before .before .shared-slice-known .given i .fits)
 
-pub is-page-spec : {M : Type 1} → statement M
-is-page-spec = tie.close (tie.spec is-in-bounds-requires returns fields-requires is-fit-requires returns-2)
+pub is-fit-page-spec : {M : Type 1} → statement M
+is-fit-page-spec = tie.close (tie.spec is-in-bounds-requires returns fields-requires is-fit-requires returns-2)
