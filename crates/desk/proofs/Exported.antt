@@ -1,10 +1,9 @@
 -- What the functions for C leave, in the shape of their contracts.
 use Prim.Native.Nat.{ℕ}
 use mathlib.Core.Path.{_≡_, refl, sym, ap, _∙_}
-use mathlib.Core.List.{List, [], _∷_}
+use mathlib.Core.List.{List}
 use mathlib.Core.Bool.{cond}
-use native.Mathlib.Omega.{arith}
-use lib.ListN.{length, set}
+use lib.ListN.{length}
 use lib.Dec.{eqb}
 use borrow.Author.Tests.{eq-eqb, ne-eqb}
 use Rattle.page.specs.declared.Page.{Page}
@@ -15,18 +14,6 @@ use Rattle.page.specs.Answers.{packs, packNumber, tested, testNumber, testValue
 use Rattle.inspection.specs.declared.Inspected.{Inspected}
 use Rattle.inspection.specs.Inspected.{inspected, inspectNumber, inspectPlace}
 use Rattle.desk.specs.Exports.{fieldCount, numbered, packedFor, fieldsGiven, testedFor, refusalNumber, inspectedFor}
-
--- six stores fill six numbers
-pub six-stores : (xs : List ℕ) (a b c d e f : ℕ) → length xs ≡ fieldCount
-    → set (set (set (set (set (set xs 0 a) 1 b) 2 c) 3 d) 4 e) 5 f ≡ a ∷ b ∷ c ∷ d ∷ e ∷ f ∷ []
-six-stores [] a b c d e f h = absurd (omega arith)
-six-stores (u ∷ []) a b c d e f h = absurd (omega arith)
-six-stores (u ∷ v ∷ []) a b c d e f h = absurd (omega arith)
-six-stores (u ∷ v ∷ w ∷ []) a b c d e f h = absurd (omega arith)
-six-stores (u ∷ v ∷ w ∷ x ∷ []) a b c d e f h = absurd (omega arith)
-six-stores (u ∷ v ∷ w ∷ x ∷ y ∷ []) a b c d e f h = absurd (omega arith)
-six-stores (u ∷ v ∷ w ∷ x ∷ y ∷ z ∷ []) a b c d e f h = refl
-six-stores (u ∷ v ∷ w ∷ x ∷ y ∷ z ∷ t ∷ l) a b c d e f h = absurd (omega arith)
 
 -- ---- the page test
 

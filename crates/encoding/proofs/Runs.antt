@@ -1,4 +1,4 @@
--- One turn of each loop over a run of bytes, and the loop's end. Assumes nothing.
+-- One turn of each loop over a run of bytes, and the loop's end; a run that is filled by stores. Assumes nothing.
 use Prim.Native.Nat.{ℕ, suc, _+_, _*_, _-_, _/_, _%_, _≤_, _<_}
 use mathlib.Core.Path.{_≡_, refl, sym, ap, _∙_}
 use mathlib.Core.Bool.{Bool, true, false, _&&_}
@@ -9,7 +9,7 @@ use borrow.Author.Tests.{ne-eqb, eqb-true, eqb-false}
 use lib.Dec.{eqb}
 use lib.Bits.{bitOr, or-zero-l, or-add-and, and-le-r}
 use lib.ListN.{length, take, drop, getD, set, drop-of-length-le}
-use lib.Seq.{drop-cons, take-suc, take-suc-set, take-all, append-snoc}
+use lib.Seq.{sets, sets-eq, drop-cons, take-suc, take-suc-set, take-all, append-snoc}
 use Rattle.encoding.specs.Bytes.{bytes, zeros, checkFrom}
 use Rattle.encoding.proofs.Logic.{and-assoc, and-end}
 
@@ -53,3 +53,9 @@ zero-turn s i x h = rw (add-one, drop-cons s i 0, or-zero x (getD s i 0)) (and-a
 
 pub zero-end : (s : List ℕ) (i x : ℕ) → length s ≤ i → zeros s ≡ (eqb x 0 && zeros (drop i s)) → eqb x 0 ≡ zeros s
 zero-end s i x h e = sym (e ∙ rw (drop-of-length-le s {i = i} h) (and-end (eqb x 0)))
+
+-- stores from the first number on fill a run that has as many
+pub filled : (vs l : List ℕ) → length l ≡ length vs → sets l 0 vs ≡ vs
+filled vs l h =
+    let past : drop (0 + length vs) l ≡ [] = drop-of-length-le l {i = 0 + length vs} (omega arith) in
+    sets-eq vs l 0 (omega arith) ∙ ap (λ (r : List ℕ). vs ++ r) past ∙ append-nil vs

@@ -1,11 +1,11 @@
 -- The numbers that are given, and all that is left. Assumes nothing.
-use Prim.Native.Nat.{ℕ, _+_}
+use Prim.Native.Nat.{ℕ}
 use mathlib.Core.Path.{_≡_, refl, ap, _∙_}
-use mathlib.Core.List.{List, [], _∷_, _++_, append-nil}
-use native.Mathlib.Omega.{arith}
-use lib.ListN.{length, getD, drop, drop-of-length-le}
-use lib.Seq.{sets, sets-eq}
+use mathlib.Core.List.{List, [], _∷_, _++_}
+use lib.ListN.{length, getD}
+use lib.Seq.{sets}
 use borrow.Author.Tests.{eq-eqb, ne-eqb}
+use Rattle.encoding.proofs.Runs.{filled}
 use Rattle.recovery.specs.declared.Answer.{Answer}
 use Rattle.recovery.specs.declared.Answer.the-variants.{Refused, Opened, Rebuilt, Stored, Value, Nothing, Told}
 use Rattle.recovery.specs.declared.State.{State}
@@ -13,12 +13,6 @@ use Rattle.recovery.specs.declared.Done.{Done}
 use Rattle.recovery.specs.Lent.{Left, leftBy}
 use Rattle.recovery.specs.Numbers.{numbersOf}
 use Rattle.harness.specs.Door.{numberCount, toldNumbers, left, given}
-
--- stores from the first number on fill a run
-filled : (vs l : List ℕ) → length l ≡ length vs → sets l 0 vs ≡ vs
-filled vs l h =
-    let past : drop (0 + length vs) l ≡ [] = drop-of-length-le l {i = 0 + length vs} (omega arith) in
-    sets-eq vs l 0 (omega arith) ∙ ap (λ r. vs ++ r) past ∙ append-nil vs
 
 each-number : (a : Answer) (xs : List ℕ)
     → getD (numbersOf a) 0 0 ∷ getD (numbersOf a) 1 0 ∷ getD (numbersOf a) 2 0 ∷ getD (numbersOf a) 3 0 ∷ getD (numbersOf a) 4 0 ∷ getD (numbersOf a) 5 0 ∷ xs ≡ numbersOf a ++ xs

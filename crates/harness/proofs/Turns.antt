@@ -3,17 +3,17 @@ use Prim.Native.Nat.{ℕ, _+_, _-_, _*_, _≤_}
 use mathlib.Core.Path.{_≡_, refl, ap, ap₂, _∙_}
 use native.Mathlib.Omega.{arith}
 use native.Mathlib.Numerals.{add-one}
+use mathlib.Core.Bool.{Bool, true, false, cond}
 use mathlib.Core.List.{List}
 use Rattle.page.specs.declared.Page.{Page}
 use Rattle.page.specs.declared.Unpacked.{Unpacked}
-use Rattle.page.specs.declared.Unpacked.the-variants.{Refused, Blank, Torn, Opening, Image, Outcome, Unfit}
 use Rattle.page.specs.declared.Sought as sought
 use Rattle.page.specs.declared.Sought.{Sought}
 use Rattle.page.specs.declared.Packing as packing
 use Rattle.page.specs.declared.Packing.{Packing}
 use Rattle.page.specs.Layout.{pageSize}
 use Rattle.page.specs.Table.{image}
-use Rattle.page.specs.Answers.{packs}
+use Rattle.page.specs.Answers.{isFitPage, packs}
 use Rattle.calls.proofs.Appends.{put-page}
 use borrow.Rule.Slice.PartMut.{putMid}
 use Rattle.harness.specs.Counts.{pageAt, fields, found, written, counted, packedInto, packedTo}
@@ -27,13 +27,11 @@ unfolding counted
 turn f i count x e h = rw (add-one i) (ap₂ _+_ e h)
 
 pub fields-le : (u : Unpacked) → fields u ≤ 1
-fields-le Refused = omega arith
-fields-le Blank = omega arith
-fields-le Torn = omega arith
-fields-le (Opening p) = omega arith
-fields-le (Image p) = omega arith
-fields-le (Outcome p) = omega arith
-fields-le Unfit = omega arith
+fields-le u = go (isFitPage u)
+  where
+    go : (b : Bool) → cond b 1 0 ≤ 1
+    go true = omega arith
+    go false = omega arith
 
 pub found-le : (s : Sought) → found s ≤ 1
 found-le (sought.Sought.Image p) = omega arith

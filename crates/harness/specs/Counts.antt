@@ -1,16 +1,16 @@
 -- How many pages of a sheet pass: what the timed loops answer.
 use Prim.Native.Nat.{ℕ, zero, suc, _+_, _*_}
+use mathlib.Core.Bool.{cond}
 use mathlib.Core.List.{List}
 use Rattle.encoding.specs.Bytes.{part}
 use Rattle.page.specs.declared.Unpacked.{Unpacked}
-use Rattle.page.specs.declared.Unpacked.the-variants.{Refused, Blank, Torn, Opening, Image, Outcome, Unfit}
 use Rattle.page.specs.declared.Sought as sought
 use Rattle.page.specs.declared.Sought.{Sought}
 use Rattle.page.specs.declared.Packing as packing
 use Rattle.page.specs.declared.Packing.{Packing}
 use Rattle.page.specs.Layout.{pageSize}
 use Rattle.page.specs.Table.{image}
-use Rattle.page.specs.Answers.{tested, imageOfFile, packs}
+use Rattle.page.specs.Answers.{tested, isFitPage, imageOfFile, packs}
 use Rattle.calls.specs.Leaves.{withPage}
 
 -- the bytes of the page above i others; its place is i + 1
@@ -19,13 +19,7 @@ pageAt s i = part (pageSize * i) (pageSize * i + pageSize) s
 
 -- 1 for an answer with fields, an image that was found, a page that was written; else 0
 abbrev pub fields : Unpacked → ℕ
-fields Refused = 0
-fields Blank = 0
-fields Torn = 0
-fields (Opening p) = 1
-fields (Image p) = 1
-fields (Outcome p) = 1
-fields Unfit = 0
+fields u = cond (isFitPage u) 1 0
 
 abbrev pub found : Sought → ℕ
 found (sought.Sought.Image p) = 1

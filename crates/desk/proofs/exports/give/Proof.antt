@@ -1,4 +1,5 @@
-use Rattle.desk.proofs.Exported.{six-stores}
+use Rattle.encoding.proofs.Runs.{filled}
+use Rattle.page.specs.Answers.{fieldList}
 use lib.ListN.{length-set}
 use native.Mathlib.Omega.{arith}
 use denote.Ref.{now}
@@ -28,7 +29,7 @@ same-length : tie.Need-same-length
 same-length c = search needs
 
 returns : tie.Need-returns
-returns c = six-stores (now (c .args .fields)) _ _ _ _ _ _ (c .pre)
+returns c = filled (fieldList (c .args .page)) (now (c .args .fields)) (c .pre)
 
 pub give-spec : {M : Type 1} → statement M
 give-spec =
