@@ -4,6 +4,7 @@ pub mod EveryCall
 pub mod Refusals
 pub mod OnePage
 pub mod OtherRows
+pub mod OwnPages
 pub mod Rebuilding
 pub mod CutLaws
 pub mod NoSecondOutcome
