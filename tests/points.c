@@ -747,11 +747,11 @@ static void passed_over_pages(void) {
     set_up_tokens();
     row_in(1)[TOKEN_ACTION] = 0;
     told("a row that a commit passed over is refused 7 afterwards", decides(COMMIT, 4) && is_refused(1));
-    told("until the sheet is opened", rebuilds(7, 30, 0, 0, 0) && reads(30, 0, 7));
+    told("until the sheet is opened: its token is the version", rebuilds(7, 30, 0, 0, 0) && reads(30, 0, 7));
     set_up_tokens();
     row_in(1)[TOKEN_ACTION] = 5;
     told("one that an abort passed over too", decides(ABORT, 4) && is_refused(1));
-    told("until the sheet is opened", rebuilds(2, 10, 6, 20, 5) && reads(30, 5, 6));
+    told("until the sheet is opened: the other action's image is its token", rebuilds(2, 10, 6, 20, 5) && reads(30, 5, 6));
 }
 
 /* Whether action 7 writes file 2 at page 9 and its row then names it. */

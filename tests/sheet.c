@@ -135,14 +135,14 @@ static const struct {
     int least;
 } each_coming[COMINGS] = {
     [WAS_COLD] = {"a cold row", 500},
-    [WITH_TOKEN] = {"a rebuilt row with a token", 101},
+    [WITH_TOKEN] = {"a rebuilt row with a token", 100},
     [WITHOUT_TOKEN] = {"a rebuilt row without a token", 500},
     [ACTION_0] = {"a token and action 0", 50},
-    [OTHER_ACTION] = {"a token and another action", 101},
+    [OTHER_ACTION] = {"a token and another action", 100},
     [STRAY_ACTION] = {"an action without a token", 500},
     [REFUSED_7] = {"a wrong mark or place", 500},
-    [REFUSED_3] = {"refusal 3", 101},
-    [REFUSED_1] = {"refusal 1", 101},
+    [REFUSED_3] = {"refusal 3", 100},
+    [REFUSED_1] = {"refusal 1", 100},
 };
 
 static int coming(struct kept *was, uint64_t file, const uint64_t a[TOLD]) {

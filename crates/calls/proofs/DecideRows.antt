@@ -18,7 +18,7 @@ use Rattle.page.specs.Answers.{tested, imageOfFile}
 use Rattle.recovery.specs.Places.{nth}
 use Rattle.recovery.specs.Log.{Entry, blank}
 use Rattle.recovery.specs.Sheet.{pageBytes, isOpening, decoded}
-use Rattle.recovery.specs.World.{isImageOf, imageAction, namesAction, cold, isFile}
+use Rattle.recovery.specs.World.{isImageOf, imageAction, isRebuiltFor, cold, isFile}
 use Rattle.recovery.specs.Lent.{rowLength, rowsOf, flat, pagesOf}
 use Rattle.recovery.specs.Steps.{sealedImage, isFound, actionFound, sheetWorld, rowOf, nextNamed, withRowOf}
 use Rattle.recovery.specs.declared.Row.{Row}
@@ -70,11 +70,11 @@ module _ (s : List ℕ) (files end a : ℕ) (c : Bool) (f : ℕ) (xs : List ℕ)
   unfolding settledRow
   by-holding b e = ap (λ (o : Bool). cond o (withRowOf xs f (decided c (rowOf xs f))) xs) e
 
-  row-unnamed : namesAction a (rowOf xs f) ≡ false → xs ≡ settledRow s files end a c f xs
+  row-unnamed : isRebuiltFor a (rowOf xs f) ≡ false → xs ≡ settledRow s files end a c f xs
   row-unnamed h = sym (by-holding false (ap (λ (o : Bool). o && isTokenAt (sheetWorld s files end) a f (rowOf xs f .token)) h))
 
   -- a row that names the action, by its token's place
-  module _ (named : namesAction a (rowOf xs f) ≡ true) (t : ℕ) (ht : t ≡ rowOf xs f .token) (b : Bool) (hb : b ≡ isTokenIn s files end a f t) where
+  module _ (named : isRebuiltFor a (rowOf xs f) ≡ true) (t : ℕ) (ht : t ≡ rowOf xs f .token) (b : Bool) (hb : b ≡ isTokenIn s files end a f t) where
     held : holdsToken (sheetWorld s files end) a f (rowOf xs f) ≡ b
     unfolding isTokenIn
     held = ap (λ (o : Bool). o && isTokenAt (sheetWorld s files end) a f (rowOf xs f .token)) named ∙ sym (rw ht at hb)
@@ -187,7 +187,7 @@ module _ (s : List ℕ) (files end a : ℕ) (c : Bool) (xs : List ℕ) where
       pub up : k ≤ n
       pub most : n ≤ length xs / rowLength
       pub run : ys ≡ runTo s files end a c xs n
-      pub names : n < length xs / rowLength → namesAction a (rowOf ys (suc n)) ≡ true
+      pub names : n < length xs / rowLength → isRebuiltFor a (rowOf ys (suc n)) ≡ true
 
     pub reached : (ys : List ℕ) (k n : ℕ) → k ≤ length xs / rowLength → ys ≡ runTo s files end a c xs k → n ≡ nextNamed ys k a → Reached ys k n
     reached ys k n h hy e =

@@ -1,6 +1,6 @@
 -- Of the tokens' pages commit and abort go by those alone whose row names their action: what they leave of the rows hangs on the rows, the
--- end, whether they append, and on these pages, whatever else the sheet and the fates hold. Shuts out a store that asks the page of every
--- token whose it is. Assumes nothing.
+-- end, whether they append, and on these pages as they are sealed, whatever else the sheet and the fates hold. Shuts out a store that settles
+-- a row by its token's page whatever action the row names. Assumes nothing.
 use Prim.Native.Nat.{ℕ, suc, _/_}
 use mathlib.Core.Path.{_≡_, refl, sym, ap, ap₂, _∙_}
 use mathlib.Core.Bool.{Bool, true, false, cond, _&&_}
@@ -11,7 +11,7 @@ use lib.ListN.{length, getD}
 use lib.Dec.{eqb, leb}
 use Rattle.recovery.specs.Places.{nth}
 use Rattle.recovery.specs.Log.{Entry, blank}
-use Rattle.recovery.specs.World.{World, Result, cold, entryAt, isImageOf, imageAction, namesAction}
+use Rattle.recovery.specs.World.{World, Result, cold, entryAt, isImageOf, imageAction, isRebuiltFor}
 use Rattle.recovery.specs.Lent.{rowLength, Left, pagesOf, lent, whole, rowsOf, flat, refused}
 use Rattle.recovery.specs.Steps.{rowOf, sheetWorld}
 use Rattle.recovery.specs.declared.Row.{Row}
@@ -27,11 +27,11 @@ module _ (a : ℕ) (c : Bool) where
 
   module _ (w v : World) (e : v .end ≡ w .end) where
     SamePage : Row → Type 0
-    SamePage r = namesAction a r ≡ true → entryAt v (r .token) ≡ entryAt w (r .token)
+    SamePage r = isRebuiltFor a r ≡ true → entryAt v (r .token) ≡ entryAt w (r .token)
 
     holds-alike : (f : ℕ) (r : Row) → SamePage r → holdsToken v a f r ≡ holdsToken w a f r
     unfolding SamePage
-    holds-alike f r h = rw e (go (namesAction a r) h)
+    holds-alike f r h = rw e (go (isRebuiltFor a r) h)
       where
         there : Entry → Bool
         there g = leb (r .token) (w .end) && isImageOf f g && eqb (imageAction g) a
@@ -96,7 +96,7 @@ module _ (a : ℕ) (c : Bool) where
     module _ (s t fates others : List ℕ) where
       -- both append, or neither; and the pages of the rows that name the action are the same
       pub own-pages : callLeaves t others rows state (decide a c) .state .end ≡ callLeaves s fates rows state (decide a c) .state .end
-          → ((g : ℕ) → namesAction a (rowOf rows g) ≡ true → pageOf t (rowOf rows g .token) ≡ pageOf s (rowOf rows g .token))
+          → ((g : ℕ) → isRebuiltFor a (rowOf rows g) ≡ true → pageOf t (rowOf rows g .token) ≡ pageOf s (rowOf rows g .token))
           → callLeaves t others rows state (decide a c) .rows ≡ callLeaves s fates rows state (decide a c) .rows
       unfolding Leaves SamePage rowOf settledRows
       own-pages e h = go (leaves t others) (leaves s fates)

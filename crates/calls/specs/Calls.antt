@@ -12,7 +12,7 @@ use Rattle.recovery.specs.Log.{Image, Entry, blank, torn, bad, opening, image, 
 use Rattle.recovery.specs.declared.Row.{Row}
 use Rattle.recovery.specs.declared.Answer.{Answer}
 use Rattle.recovery.specs.declared.Answer.the-variants.{Stored, Value, Nothing, Told}
-use Rattle.recovery.specs.World.{World, Result, refuse, entryAt, fateNumber, fateAt, outcomeAt, isBlank, withRow, warmRow, imageAction, holdsImage, rowHolds, namesAction, lentRight, isFile, rebuilt}
+use Rattle.recovery.specs.World.{World, Result, refuse, entryAt, fateNumber, fateAt, outcomeAt, isBlank, withRow, warmRow, imageAction, holdsImage, rowHolds, isRebuiltFor, lentRight, isFile, rebuilt}
 use Rattle.calls.specs.Walk.{Walk, met, nothing, lost, imagesBelow, follow}
 
 -- write: file, start, action, value; read: file, time, action or 0; decide: action, and whether it commits
@@ -179,9 +179,9 @@ decided c r = record {
 abbrev pub isTokenAt : World → ℕ → ℕ → ℕ → Bool
 isTokenAt w a f place = holdsImage w f place && eqb (imageAction (entryAt w place)) a
 
--- a rebuilt row that names this action, and whose token's place says so too
+-- a rebuilt row that names this action, and whose token place holds an image of the file under it
 abbrev pub holdsToken : World → ℕ → ℕ → Row → Bool
-holdsToken w a f r = namesAction a r && isTokenAt w a f (r .token)
+holdsToken w a f r = isRebuiltFor a r && isTokenAt w a f (r .token)
 
 abbrev pub settled : World → ℕ → Bool → ℕ → Row → Row
 settled w a c f r = cond (holdsToken w a f r) (decided c r) r

@@ -24,7 +24,7 @@ ghost use Prim.Native.Nat.{_*_, _/_, pred};
 ghost use lib.ListN.{length};
 ghost use Rattle.page.specs.Table.{outcome};
 ghost use Rattle.recovery.specs.Log.{verdict};
-ghost use Rattle.recovery.specs.World.{fateNumber, namesAction};
+ghost use Rattle.recovery.specs.World.{fateNumber, isRebuiltFor};
 ghost use Rattle.recovery.specs.Sheet.{isOpening, decoded};
 ghost use Rattle.recovery.specs.Lent.{rowLength, leftBy};
 ghost use Rattle.recovery.specs.Steps.{rowOf};
@@ -101,7 +101,7 @@ fn decided_row(row: Row, committed: bool) -> Row
 
 // The row of a file that names the action, settled where its token is the action's.
 fn settle_row(sheet: &[u8], rows: &mut [u64], end: u64, files: u64, file: u64, decision: Decision)
-    requires { ⌜ (decision .opened ≡ isOpening (decoded files (now sheet) (decision .action))) × (namesAction (decision .action) (rowOf (now rows) file) ≡ true) ⌝ }
+    requires { ⌜ (decision .opened ≡ isOpening (decoded files (now sheet) (decision .action))) × (isRebuiltFor (decision .action) (rowOf (now rows) file) ≡ true) ⌝ }
     ensures { λ _. ⌜ now (rows .exit) ≡ settledRow (now (sheet .entry)) files end (decision .action) (decision .committed) file (now (rows .entry)) ⌝ }
 {
     let token = row_of(&rows[..], file).token;

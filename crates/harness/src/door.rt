@@ -29,12 +29,11 @@ fn tell(out: &mut [u64], done: Done)
     let answer = done.answer;
     let state = done.state;
     let numbers = numbers_of(answer);
-    out[0] = numbers[0];
-    out[1] = numbers[1];
-    out[2] = numbers[2];
-    out[3] = numbers[3];
-    out[4] = numbers[4];
-    out[5] = numbers[5];
+    let mut i: usize = 0;
+    while i < ANSWER_LENGTH {
+        out[i] = numbers[i];
+        i += 1;
+    }
     out[END] = state.end;
     out[FLOOR] = state.floor;
     out[UNDECIDED] = state.undecided;

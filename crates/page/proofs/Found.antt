@@ -144,7 +144,7 @@ fits-kind {s} {kind = kind} h =
     and-both (eqb (length s) pageSize) (eqb (fieldsOf s .kind) kind) (eq-eqb (length s) pageSize (h .bounds .size-is))
     (eq-eqb (fieldsOf s .kind) kind (ap (λ (x : Page). x .kind) (sym (h .fields-are)) ∙ h .kind-is))
 
--- ---- an answer with fields, by its number
+-- ---- an answer with fields, where the page fits
 
 module _ (s : List ℕ) (place files : ℕ) where
   told-fields : isFitPage (tested s place files) ≡ true → tested s place files ≡ byKind (fieldsOf s)

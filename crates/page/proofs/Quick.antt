@@ -186,7 +186,7 @@ unfolding tested torn
 marked-tested s place files a m =
     simp (a, not-zeros s markAt m, and-false (within (getD s kindAt 0) 1 3) (eqb (getD s markAt 0) 0) (ne-eqb (getD s markAt 0) 0 m))
 
--- ---- a page that fits, by the number of the answer
+-- ---- a page that fits, of what the page test says
 
 pub fits-told : (s : List ℕ) (place files : ℕ) → inBounds (length s) place files ≡ true → AreBytes s → fits s place files ≡ isFitPage (tested s place files)
 fits-told s place files a b = go (eqb (getD s markAt 0) 0) refl

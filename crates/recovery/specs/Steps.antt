@@ -14,7 +14,7 @@ use Rattle.page.specs.Answers.{tested, onImage}
 use Rattle.recovery.specs.Places.{nth}
 use Rattle.recovery.specs.Log.{outcomeOf}
 use Rattle.recovery.specs.Sheet.{pageBytes, isOpening, decoded}
-use Rattle.recovery.specs.World.{World, down, rebuiltRow, fateIn, cold, isFile, rowHolds, namesAction}
+use Rattle.recovery.specs.World.{World, down, rebuiltRow, fateIn, cold, isFile, rowHolds, isRebuiltFor}
 use Rattle.recovery.specs.Lent.{rowLength, rowFrom, rowsOf, putRow, pagesOf, sizesRight}
 use Rattle.recovery.specs.declared.Row.{Row}
 use Rattle.recovery.specs.declared.State.{State}
@@ -50,10 +50,10 @@ rowOf rows file = nth cold (rowsOf rows) file
 unfoldable pub withRowOf : List ℕ → ℕ → Row → List ℕ
 withRowOf rows file r = cond (isFile (length rows / rowLength) file) (putRow rows (pred file) r) rows
 
--- how many files lie before the first of these rows, with f before them, that names an action: all of them if there is none
+-- where f files lie before these rows: how many lie before the first that is rebuilt and names an action, or all
 unfoldable pub beforeNamed : ℕ → List Row → ℕ → ℕ
 beforeNamed a [] f = f
-beforeNamed a (r ∷ rs) f = cond (namesAction a r) f (beforeNamed a rs (suc f))
+beforeNamed a (r ∷ rs) f = cond (isRebuiltFor a r) f (beforeNamed a rs (suc f))
 
 unfoldable pub nextNamed : List ℕ → ℕ → ℕ → ℕ
 nextNamed rows f a = beforeNamed a (drop f (rowsOf rows)) f

@@ -123,9 +123,9 @@ tokenHolds w f r = placeHolds w f (r .token) && eqb (imageAction (entryAt w (r .
 unfoldable pub rowHolds : World → ℕ → Row → Bool
 rowHolds w f r = leb (r .mark) 1 && placeHolds w f (r .current) && tokenHolds w f r
 
--- a rebuilt row that names an action as its token's
-abbrev pub namesAction : ℕ → Row → Bool
-namesAction a r = eqb (r .mark) 1 && eqb (r .tokenaction) a
+-- a rebuilt row that names an action: its mark is 1, and this is its token's action
+abbrev pub isRebuiltFor : ℕ → Row → Bool
+isRebuiltFor a r = eqb (r .mark) 1 && eqb (r .tokenaction) a
 
 -- ---- rebuild: lines 1, 3, 7
 

@@ -4,7 +4,7 @@ use crate::Row;
 ghost use mathlib.Core.Path.{_≡_};
 ghost use Prim.Native.Nat.{_+_, _*_, _/_, _≤_};
 ghost use lib.ListN.{length};
-ghost use Rattle.recovery.specs.World.{isFile, namesAction};
+ghost use Rattle.recovery.specs.World.{isFile, isRebuiltFor};
 ghost use Rattle.recovery.specs.Lent.{rowLength, rowFrom, putRow};
 ghost use Rattle.recovery.specs.Steps.{rowOf, inFour, nextNamed, withRowOf};
 
@@ -95,9 +95,9 @@ fn action_at(rows: &[u64], k: usize) -> u64
 }
 
 // Whether the row after k others is rebuilt and names this action.
-fn names_at(rows: &[u64], k: usize, action: u64) -> bool
+fn is_rebuilt_for(rows: &[u64], k: usize, action: u64) -> bool
     requires { ⌜ rowLength * k + rowLength ≤ length (now rows) ⌝ }
-    ensures { λ r. ⌜ r ≡ namesAction action (rowFrom (now (rows .entry)) k) ⌝ }
+    ensures { λ r. ⌜ r ≡ isRebuiltFor action (rowFrom (now (rows .entry)) k) ⌝ }
 {
     (rows[ROW_LENGTH * k] == 1) & (action_at(rows, k) == action)
 }
@@ -129,14 +129,15 @@ fn skip_fours(rows: &[u64], from: usize, action: u64) -> usize
     k
 }
 
-// How many files lie before the next row that names the action, when so many are passed: all of them if there is none.
+// How many files lie before the next rebuilt row that names the action, once so many are passed. If there is none: all of them, or as many
+// as were passed.
 pub fn next_named(rows: &[u64], passed: u64, action: u64) -> u64
     ensures { λ r. ⌜ r ≡ nextNamed (now (rows .entry)) passed action ⌝ }
 {
     let files = rows.len() / ROW_LENGTH;
     let mut k = passed as usize;
     while k < files {
-        if names_at(rows, k, action) {
+        if is_rebuilt_for(rows, k, action) {
             return k as u64;
         }
         k = skip_fours(rows, k + 1, action);

@@ -8,7 +8,7 @@ use native.Mathlib.Omega.{arith}
 use lib.ListN.{length}
 use lib.Dec.{eqb}
 use borrow.Author.Tests.{eqb-true, leb-true, eq-eqb, le-leb}
-use Rattle.encoding.proofs.Logic.{and-false}
+use Rattle.encoding.proofs.Logic.{and-false, and-same}
 use Rattle.recovery.specs.Places.{nth, put}
 use Rattle.recovery.specs.Log.{Entry, outcome, undecided, Placed, verdict, fateOf, placeOf, startOf, actionOf}
 use Rattle.recovery.specs.World.{World, fateNumber, cold, rebuiltRow, rowAt, isFile}
@@ -35,11 +35,7 @@ module _ (w : World) (l : List Entry) (m : Model) (s : Sim w l m) where
   -- a row's token is the action's if both the row and the page say so
   own-eq : (f a : ℕ) (z : Option Placed) → Lies l f z → (eqb (actionOf z) a && isTokenAt w a f (placeOf z)) ≡ owns a z
   own-eq f a none h = rw (le-leb 0 (w .end) (omega arith)) (and-false (eqb 0 a) false refl)
-  own-eq f a (some x) h = rw (s .ends, le-leb (x .place) (length l) (h .high), lies-at w l m s f x h, eq-eqb (x .image .file) f (h .mine)) (twice (eqb (x .image .action) a))
-    where
-      twice : (b : Bool) → (b && b) ≡ b
-      twice true = refl
-      twice false = refl
+  own-eq f a (some x) h = rw (s .ends, le-leb (x .place) (length l) (h .high), lies-at w l m s f x h, eq-eqb (x .image .file) f (h .mine)) (and-same (eqb (x .image .action) a))
 
   module _ (a : ℕ) (c : Bool) (o : fateOf l a ≡ undecided) where
     abbrev objects : ℕ → Object

@@ -20,14 +20,14 @@ abbrev μ-loop : tie.MeasureT-loop
 loop-holds : tie.Need-loop-holds Inv-loop μ-loop
 loop-holds c = refl
 
-names-at-requires : tie.Need-names-at-requires Inv-loop μ-loop
-names-at-requires c κs = omega (arith, c .loop-test .taken)
+is-rebuilt-for-requires : tie.Need-is-rebuilt-for-requires Inv-loop μ-loop
+is-rebuilt-for-requires c κs = omega (arith, c .loop-test .taken)
 
 returns : tie.Need-returns Inv-loop μ-loop
 returns c =
     let l = c .before .before .before in
     let a = l .before .before .args in
-    next-here (now (a .rows)) (a .action) (l .loop .k) (omega (arith, c .before .before .loop-test .taken)) (sym (c .before .names-at .ensures) ∙ c .if1 .taken) ∙ l .loop .inv
+    next-here (now (a .rows)) (a .action) (l .loop .k) (omega (arith, c .before .before .loop-test .taken)) (sym (c .before .is-rebuilt-for .ensures) ∙ c .if1 .taken) ∙ l .loop .inv
 
 add-skip-fours : tie.Need-add-skip-fours Inv-loop μ-loop
 add-skip-fours c = search needs
@@ -43,7 +43,7 @@ loop-again c =
     let l = c .before .before .before .before in
     let a = l .before .before .args in
     c .skip-fours .ensures .1
-    ∙ next-on (now (a .rows)) (a .action) (l .loop .k) (omega (arith, c .before .before .before .loop-test .taken)) (sym (c .before .before .names-at .ensures) ∙ c .before .if1 .left) ∙ l .loop .inv
+    ∙ next-on (now (a .rows)) (a .action) (l .loop .k) (omega (arith, c .before .before .before .loop-test .taken)) (sym (c .before .before .is-rebuilt-for .ensures) ∙ c .before .if1 .left) ∙ l .loop .inv
 
 returns-2 : tie.Need-returns-2 Inv-loop μ-loop
 returns-2 c =
@@ -58,7 +58,7 @@ next-named-spec =
     Inv-loop
     μ-loop
     loop-holds
-    names-at-requires
+    is-rebuilt-for-requires
     returns
     add-skip-fours
     skip-fours-requires

@@ -1,7 +1,7 @@
--- `recovery::rows::names_at`: the mark and the action by their definition. Assumes nothing.
+-- `recovery::rows::is_rebuilt_for`: the mark and the action by their definition. Assumes nothing.
 use borrow.Author.Needs.{needs}
-use Rattle.recovery.proofs.rows.names_at.Statement.{statement}
-use Rattle.recovery.proofs.rows.names_at.Tie as tie
+use Rattle.recovery.proofs.rows.is_rebuilt_for.Statement.{statement}
+use Rattle.recovery.proofs.rows.is_rebuilt_for.Tie as tie
 
 mul-result : tie.Need-mul-result
 mul-result c = search needs
@@ -18,7 +18,7 @@ action-at-requires c κs = search needs
 returns : tie.Need-returns
 returns c = rw (c .action-at .ensures)
 
-pub names-at-spec : {M : Type 1} → statement M
-names-at-spec =
+pub is-rebuilt-for-spec : {M : Type 1} → statement M
+is-rebuilt-for-spec =
     tie.close
     (tie.spec mul-result mul-result-2 shared-slice-read-result action-at-requires returns)
