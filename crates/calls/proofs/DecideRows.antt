@@ -26,7 +26,7 @@ use Rattle.recovery.proofs.FlatRows.{rows-long, rows-flat, flat-rows, flat-long
 use Rattle.recovery.proofs.Lookups.{set-some}
 use Rattle.recovery.proofs.Named.{next-from, next-up, next-most, next-names}
 use Rattle.recovery.proofs.Held.{ofSought, under-action, lies-in, image-none, image-unsealed, image-sealed}
-use Rattle.calls.specs.Calls.{isTokenAt, holdsToken, decided, settled, eachRow}
+use Rattle.calls.specs.Calls.{holdsToken, decided, settled, eachRow}
 use Rattle.calls.specs.DecideSteps.{isTokenIn, settledRow, settledRows}
 
 -- ---- a token at a place
@@ -71,13 +71,13 @@ module _ (s : List ℕ) (files end a : ℕ) (c : Bool) (f : ℕ) (xs : List ℕ)
   by-holding b e = ap (λ (o : Bool). cond o (withRowOf xs f (decided c (rowOf xs f))) xs) e
 
   row-unnamed : isRebuiltFor a (rowOf xs f) ≡ false → xs ≡ settledRow s files end a c f xs
-  row-unnamed h = sym (by-holding false (ap (λ (o : Bool). o && isTokenAt (sheetWorld s files end) a f (rowOf xs f .token)) h))
+  row-unnamed h = sym (by-holding false (rw h))
 
   -- a row that names the action, by its token's place
   module _ (named : isRebuiltFor a (rowOf xs f) ≡ true) (t : ℕ) (ht : t ≡ rowOf xs f .token) (b : Bool) (hb : b ≡ isTokenIn s files end a f t) where
     held : holdsToken (sheetWorld s files end) a f (rowOf xs f) ≡ b
     unfolding isTokenIn
-    held = ap (λ (o : Bool). o && isTokenAt (sheetWorld s files end) a f (rowOf xs f .token)) named ∙ sym (rw ht at hb)
+    held = rw named (sym (rw ht at hb))
 
     pub row-same : b ≡ false → xs ≡ settledRow s files end a c f xs
     row-same h = sym (by-holding false (held ∙ h))
