@@ -1,4 +1,5 @@
 pub mod Logic
+pub mod CheckWord
 pub mod Runs
 pub mod Numbers
 pub mod Parts

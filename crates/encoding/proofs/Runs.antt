@@ -13,10 +13,6 @@ use lib.Seq.{sets, sets-eq, drop-cons, take-suc, take-suc-set, take-all, append-
 use Rattle.encoding.specs.Bytes.{bytes, zeros, checkFrom}
 use Rattle.encoding.proofs.Logic.{and-assoc, and-end}
 
-pub check-turn : (w : ℕ) (s : List ℕ) (i b : ℕ) → i < length s → b ≡ getD s i 0
-    → checkFrom w (drop i s) ≡ checkFrom ((257 * w + b) % 65521) (drop (i + 1) s)
-check-turn w s i b h e = rw (add-one, e, drop-cons s i 0)
-
 pub write-turn : (out t : List ℕ) (n i y : ℕ) → i < length out → length out ≡ n → take i out ++ bytes (n - i) y ≡ t
     → take (i + 1) (set out i (y % 256)) ++ bytes (n - (i + 1)) (y / 256) ≡ t
 write-turn out t n i y h l e = rw (add-one, take-suc-set out i (y % 256) h, append-snoc)

@@ -9,13 +9,7 @@ use lib.ListN.{length, take, drop, getD}
 use lib.Seq.{drop-cons, take-all}
 use Rattle.encoding.specs.Bytes.{part, checkFrom, check}
 use Rattle.encoding.specs.WordSteps.{weights, weighed, few}
-
-pub check-below : (w : ℕ) (s : List ℕ) → w < 65521 → checkFrom w s < 65521
-check-below w [] h = h
-check-below w (b ∷ s) h = check-below ((257 * w + b) % 65521) s (mod-lt (257 * w + b) (omega arith))
-
-pub check-small : (s : List ℕ) → check s < 65521
-check-small s = check-below 1 s (omega arith)
+use Rattle.encoding.proofs.CheckWord.{check-small}
 
 pub weighed-below : (w b : ℕ) → w < 65521 → b < 256 → w * b < 16777216
 weighed-below w b h k =

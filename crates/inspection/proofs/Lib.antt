@@ -1,4 +1,5 @@
 pub mod LowestUnlawful
+pub mod BadPages
 pub mod LawfulLogs
 pub mod Slots
 pub mod ArraysKnow

@@ -52,7 +52,7 @@ pub lowest-here : (g : Entry) (l : List Entry) → lawful l ≡ true → fitsBel
 unfolding lowestUnlawful
 lowest-here g l w e = rw (lowest-none l w, e)
 
-lowest-le : (l : List Entry) → lowestUnlawful l ≤ length l
+pub lowest-le : (l : List Entry) → lowestUnlawful l ≤ length l
 unfolding lowestUnlawful
 lowest-le [] = omega arith
 lowest-le (g ∷ l) = go (eqb (lowestUnlawful l) 0) (fitsBelow g l) (lowest-le l)

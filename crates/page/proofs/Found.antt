@@ -63,6 +63,19 @@ found s place files u e =
     go true false false true false true ea ez et ef e1 e2 = record { bounds = in-bounds _ _ _ ea; fits-is = ef; fields-are = refl; kind-is = eqb-true _ _ e2 }
     go true false false true false false ea ez et ef e1 e2 = record { bounds = in-bounds _ _ _ ea; fits-is = ef; fields-are = refl; kind-is = kind-three s place files ef e1 e2 }
 
+-- an answer with fields tells that the page fits
+pub told-fits : (s : List ℕ) (place files : ℕ) → isFitPage (tested s place files) ≡ true → InBounds (length s) place files × (fits s place files ≡ true)
+told-fits s place files = go (tested s place files) (found s place files _ refl)
+  where
+    go : (u : Unpacked) → Found s place files u → isFitPage u ≡ true → InBounds (length s) place files × (fits s place files ≡ true)
+    go Refused f h = absurd (false≢true h)
+    go Blank f h = absurd (false≢true h)
+    go Torn f h = absurd (false≢true h)
+    go (Opening p) f h = (f .bounds, f .fits-is)
+    go (Image p) f h = (f .bounds, f .fits-is)
+    go (Outcome p) f h = (f .bounds, f .fits-is)
+    go Unfit f h = absurd (false≢true h)
+
 -- ---- the numbers of a page that fits, by kind
 
 pub record ImageIs (p : Page) (place files : ℕ) : Type 0 where
@@ -147,7 +160,7 @@ fits-kind {s} {kind = kind} h =
 -- ---- an answer with fields, where the page fits
 
 module _ (s : List ℕ) (place files : ℕ) where
-  told-fields : isFitPage (tested s place files) ≡ true → tested s place files ≡ byKind (fieldsOf s)
+  pub told-fields : isFitPage (tested s place files) ≡ true → tested s place files ≡ byKind (fieldsOf s)
   unfolding tested
   told-fields = go (inBounds (length s) place files) (zeros s) (torn s) (fits s place files)
     where

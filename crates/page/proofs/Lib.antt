@@ -1,8 +1,10 @@
 pub mod Rules
+pub mod OneByte
 pub mod RoundTrip
 pub mod Quick
 pub mod Found
 pub mod Seek
+pub mod Spoiled
 pub mod Written
 pub mod Obeyed
 pub mod Opening

@@ -13,7 +13,7 @@ use Rattle.encoding.specs.WordSteps.{few}
 use Rattle.encoding.proofs.Logic.{and-true, and-both, bool-ext}
 use Rattle.encoding.proofs.Numbers.{bytes-join, number-bytes, zeros-are, same-refl, same-true}
 use Rattle.encoding.proofs.Parts.{length-part}
-use Rattle.encoding.proofs.Weighing.{check-small}
+use Rattle.encoding.proofs.CheckWord.{check-small}
 use Rattle.page.specs.declared.Page.{Page}
 use Rattle.page.specs.declared.Unpacked.{Unpacked}
 use Rattle.page.specs.declared.Unpacked.the-variants.{Refused, Blank, Torn, Opening, Image, Outcome, Unfit}

@@ -12,7 +12,7 @@ use Rattle.encoding.specs.Bytes.{AreBytes, part, number, bytes, zeros, same, ch
 use Rattle.encoding.proofs.Logic.{and-true, and-both, and-false, bool-ext, by-test}
 use Rattle.encoding.proofs.Numbers.{bytes-number, number-bytes, number-byte, part-bytes, same-refl, same-true, zeros-at, not-zeros}
 use Rattle.encoding.proofs.Parts.{length-part}
-use Rattle.encoding.proofs.Weighing.{check-small}
+use Rattle.encoding.proofs.CheckWord.{check-small}
 use Rattle.page.specs.declared.Page.{Page}
 use Rattle.page.specs.declared.Unpacked.{Unpacked}
 use Rattle.page.specs.declared.Unpacked.the-variants.{Blank, Torn, Opening, Image, Outcome, Unfit}
@@ -21,7 +21,8 @@ use Rattle.page.specs.Table.{cell, head, front, packed, field, fieldsOf,
 use Rattle.page.specs.Steps.{framed}
 use Rattle.page.specs.Answers.{inBounds, byKind, tested, isFitPage, isBlankPage}
 use Rattle.page.proofs.Rules.{within-true, InBounds, in-bounds}
-use Rattle.page.proofs.RoundTrip.{length-front, last-byte}
+use Rattle.page.proofs.OneByte.{closing, closing-word, whole, from-check}
+use Rattle.page.proofs.RoundTrip.{last-byte}
 
 -- what the code tests, in its order
 unfoldable pub quick : Page → List ℕ → ℕ → ℕ → Bool
@@ -86,44 +87,28 @@ module _ (s : List ℕ) (l : length s ≡ pageSize) (b : AreBytes s) where
 
   -- what a page that is packed holds
   module _ (p : Page) (v : List ℕ) (place : ℕ) (h : place ≤ mostPlaces) (k : length v ≡ valueSize) (e : s ≡ packed p v place) where
-    tail : List ℕ
-    tail = cell checkAt spareEndAt (check (front p v place)) ++ (cell spareEndAt markAt 0 ++ cell markAt pageSize endMark)
-
-    whole : s ≡ front p v place ++ tail
-    unfolding packed tail
-    whole = e ∙ simp append-assoc
-
-    before-check : take checkAt s ≡ front p v place
-    before-check = ap (take checkAt) whole ∙ take-at (front p v place) tail checkAt (length-front p v place k)
-
-    from-check : drop checkAt s ≡ tail
-    from-check = ap (drop checkAt) whole ∙ drop-at (front p v place) tail checkAt (length-front p v place k)
-
     spare-zero : field spareAt fileAt s ≡ 0
     unfolding packed front head
     spare-zero = ap (λ (t : List ℕ). field spareAt fileAt t) e
 
-    from-place : drop placeAt s ≡ cell placeAt checkAt place ++ tail
+    from-place : drop placeAt s ≡ cell placeAt checkAt place ++ closing (front p v place)
     unfolding front
     from-place =
-        let w : s ≡ (head p ++ v) ++ (cell placeAt checkAt place ++ tail) = whole ∙ append-assoc (head p ++ v) (cell placeAt checkAt place) tail in
-        ap (drop placeAt) w ∙ drop-at (head p ++ v) _ placeAt (length-value-end p v k)
+        ap (drop placeAt) (whole p v place k s e ∙ append-assoc (head p ++ v) (cell placeAt checkAt place) (closing (front p v place)))
+        ∙ drop-at (head p ++ v) _ placeAt (length-value-end p v k)
 
     place-is : field placeAt checkAt s ≡ place
     place-is = ap (λ (t : List ℕ). number (take 4 t)) from-place ∙ number-bytes 4 place (omega arith)
 
     end-zero : getD s spareEndAt 0 ≡ 0
-    unfolding tail
-    end-zero = sym (getD-drop checkAt s 2 0) ∙ ap (λ (t : List ℕ). getD t 2 0) from-check
+    unfolding closing
+    end-zero = sym (getD-drop checkAt s 2 0) ∙ ap (λ (t : List ℕ). getD t 2 0) (from-check p v place k s e)
 
     mark-is : getD s markAt 0 ≡ endMark
     mark-is = ap (λ (t : List ℕ). getD t markAt 0) e ∙ last-byte p v place k
 
     word-is : field checkAt spareEndAt s ≡ check (part kindAt checkAt s)
-    unfolding tail
-    word-is =
-        ap (λ (t : List ℕ). number (take 2 t)) from-check
-        ∙ number-bytes 2 (check (front p v place)) (omega (arith, check-small (front p v place))) ∙ ap check (sym before-check)
+    word-is = ap (λ (t : List ℕ). number (take 2 t)) (from-check p v place k s e) ∙ closing-word (take checkAt s)
 
   quick-fits : (place files : ℕ) → place ≤ mostPlaces → quick (fieldsOf s) s place files ≡ isPageOf (fieldsOf s) s place files
   unfolding quick isPageOf framed

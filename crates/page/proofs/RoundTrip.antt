@@ -20,6 +20,7 @@ use Rattle.page.specs.Layout.{kindAt, placeAt, checkAt, spareEndAt, mark
 use Rattle.page.specs.Table.{cell, head, front, packed, field, fieldsOf, valueOf, lowest, highest, within, meetsRules, isPageOf, fits, torn}
 use Rattle.page.specs.Answers.{inBounds, byKind, tested, packs, cut}
 use Rattle.page.proofs.Rules.{within-both, Between, between-true, InBounds, in-bounds, are-in-bounds}
+use Rattle.page.proofs.OneByte.{length-front, fits-packed}
 
 -- ---- numbers that fit the bytes of their field
 
@@ -61,13 +62,9 @@ first-of : (s a b c d : List ℕ) (n : ℕ) → length s ≡ n → take n (s ++ 
 first-of s a b c d n l = simp append-assoc (take-at s (a ++ (b ++ (c ++ d))) n l)
 
 module _ (p : Page) (value : List ℕ) (place : ℕ) (l : length value ≡ valueSize) where
-  pub length-front : length (front p value place) ≡ checkAt
-  unfolding front head
-  length-front = simp length-append (omega arith)
-
   pub length-packed : length (packed p value place) ≡ pageSize
   unfolding packed
-  length-packed = simp length-append (omega (arith, length-front))
+  length-packed = simp length-append (omega (arith, length-front p value place l))
 
   pub value-back : valueOf (packed p value place) ≡ value
   unfolding packed front head
@@ -77,7 +74,7 @@ module _ (p : Page) (value : List ℕ) (place : ℕ) (l : length value ≡ value
   unfolding packed
   last-byte =
       getD-at (front p value place ++ cell checkAt spareEndAt (check (front p value place)) ++ cell spareEndAt markAt 0) endMark [] 0 markAt
-      (simp length-append (omega (arith, length-front)))
+      (simp length-append (omega (arith, length-front p value place l)))
 
   -- the fields come back
   pub fields-back : InWidths p → fieldsOf (packed p value place) ≡ p
@@ -143,15 +140,11 @@ packed-unpacked p value out s place files l e = go (inBounds (length out) place 
 
 -- ---- the second: a page that fits, unpacked and packed, is the same 64 bytes
 
-pub fits-packed : (s : List ℕ) (place files : ℕ) → fits s place files ≡ true → packed (fieldsOf s) (valueOf s) place ≡ s
-unfolding isPageOf
-fits-packed s place files h = sym (same-true s _ (and-true (meetsRules (fieldsOf s) (valueOf s) place files) _ h .1))
-
 pub unpacked-packed : (s out : List ℕ) (place files : ℕ) → inBounds (length out) place files ≡ true → fits s place files ≡ true
     → packs (fieldsOf s) (valueOf s) place files out ≡ (Packing.Packed, s)
 unfolding packs isPageOf
 unpacked-packed s out place files b h =
-    simp (b, and-true (meetsRules (fieldsOf s) (valueOf s) place files) _ h .0) (ap (λ (t : List ℕ). (Packing.Packed, t)) (fits-packed s place files h))
+    simp (b, and-true (meetsRules (fieldsOf s) (valueOf s) place files) _ h .0) (ap (λ (t : List ℕ). (Packing.Packed, t)) (sym (fits-packed s place files h)))
 
 -- ---- an append that is cut
 
@@ -181,7 +174,7 @@ blank-tested : (s : List ℕ) (place files : ℕ) → inBounds (length s) place 
 unfolding tested
 blank-tested s place files a z = simp (a, z)
 
-torn-tested : (s : List ℕ) (place files : ℕ) → inBounds (length s) place files ≡ true → 1 ≤ getD s kindAt 0 → getD s kindAt 0 ≤ 3 → getD s markAt 0 ≡ 0
+pub torn-tested : (s : List ℕ) (place files : ℕ) → inBounds (length s) place files ≡ true → 1 ≤ getD s kindAt 0 → getD s kindAt 0 ≤ 3 → getD s markAt 0 ≡ 0
     → tested s place files ≡ Torn
 unfolding tested torn
 torn-tested s place files a l h z =

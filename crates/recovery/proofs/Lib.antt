@@ -17,6 +17,7 @@ pub mod OpeningFates
 pub mod OpeningPass
 pub mod OpeningSteps
 pub mod OpeningLaws
+pub mod BadPages
 pub mod LogFates
 pub mod Spots
 pub mod Refused

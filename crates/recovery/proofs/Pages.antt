@@ -1,12 +1,13 @@
 -- The page at a place, from its bytes and from what the page test answers. Assumes nothing.
 use Prim.Native.Nat.{ℕ, zero, suc, _*_, _+_, _-_, _/_, _<_, _≤_}
-use mathlib.Core.Path.{_≡_, refl, sym, ap}
+use mathlib.Core.Path.{_≡_, refl, sym, ap, _∙_}
 use mathlib.Core.List.{List, []}
 use mathlib.Core.Bool.{Bool, true, false, cond, false≢true}
 use native.Mathlib.Omega.{arith}
-use borrow.Author.Tests.{ne-eqb, leb-true, le-leb}
-use lib.Dec.{leb}
-use lib.ListN.{length, take, drop, getD, length-take, length-drop}
+use borrow.Author.Tests.{ne-eqb, leb-true, le-leb, ltb-true, ltb-false}
+use lib.Dec.{leb, ltb}
+use lib.ListN.{length, take, drop, getD, set, length-take, length-drop}
+use lib.Seq.{take-set-le, take-set-lt, drop-set-lt, drop-set-add}
 use Rattle.encoding.proofs.Logic.{by-test, and-true}
 use Rattle.page.specs.declared.Unpacked.{Unpacked}
 use Rattle.page.specs.declared.Unpacked.the-variants.{Refused, Blank, Torn, Opening, Image, Outcome, Unfit}
@@ -61,6 +62,31 @@ module _ (s : List ℕ) (p : ℕ) where
       go : (b : Bool) → hasPlace s p ≡ b → tested (cond b (pageBytes s p) []) p files ≡ tested (pageBytes s p) p files
       go true e = refl
       go false e = test-out s p files (place-out e)
+
+-- ---- one byte of a page changed
+
+module _ (s : List ℕ) (place i v : ℕ) (h : i < pageSize) where
+  pub byte-here : 1 ≤ place → pageBytes (set s (pageSize * (place - 1) + i) v) place ≡ set (pageBytes s place) i v
+  byte-here k = go place k
+    where
+      go : (p : ℕ) → 1 ≤ p → pageBytes (set s (pageSize * (p - 1) + i) v) p ≡ set (pageBytes s p) i v
+      go zero l = absurd (omega arith)
+      go (suc q) l = let e : suc q - 1 ≡ q = omega arith in rw e (ap (take pageSize) (drop-set-add (pageSize * q) s i v) ∙ take-set-lt pageSize (drop (pageSize * q) s) i v h)
+
+  -- the other pages keep their bytes
+  pub bytes-other : (p : ℕ) → 1 ≤ place → (p ≡ place → ⊥) → pageBytes (set s (pageSize * (place - 1) + i) v) p ≡ pageBytes s p
+  bytes-other zero k n = refl
+  bytes-other (suc q) k n = go (ltb (suc q) place) refl
+    where
+      j : ℕ
+      j = pageSize * (place - 1) + i
+
+      go : (b : Bool) → ltb (suc q) place ≡ b → take pageSize (drop (pageSize * q) (set s j v)) ≡ take pageSize (drop (pageSize * q) s)
+      go true e =
+          let at : j ≡ pageSize * q + (j - pageSize * q) = omega (arith, ltb-true (suc q) place e) in
+          ap (λ (x : ℕ). take pageSize (drop (pageSize * q) (set s x v))) at ∙ ap (take pageSize) (drop-set-add (pageSize * q) s (j - pageSize * q) v)
+          ∙ take-set-le pageSize (drop (pageSize * q) s) (j - pageSize * q) v (omega (arith, ltb-true (suc q) place e))
+      go false e = ap (take pageSize) (drop-set-lt (pageSize * q) s j v (omega (arith, ltb-false (suc q) place e)))
 
 pub pages-long : (files n : ℕ) (s : List ℕ) → length (pages files n s) ≡ n
 unfolding pages

@@ -1,6 +1,6 @@
 -- `encoding::check_any`. The invariant: the word so far, turned by the bytes that are left, is the check word. Assumes nothing.
 use Rattle.encoding.specs.Bytes.{checkFrom}
-use Rattle.encoding.proofs.Runs.{check-turn}
+use Rattle.encoding.proofs.CheckWord.{check-turn}
 use lib.ListN.{length, drop, drop-of-length-le}
 use denote.Ref.{now}
 use native.Mathlib.Omega.{arith}

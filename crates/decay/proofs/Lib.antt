@@ -1,0 +1,4 @@
+pub mod Pages
+pub mod Sheets
+pub mod Proved
+pub mod Examples
