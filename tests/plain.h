@@ -26,8 +26,8 @@ static void plain_put(uint8_t *page, int from, int to, uint64_t x) {
         page[i] = (uint8_t)x;
 }
 
-static void plain_pack(uint8_t *page, int kind, int small, uint64_t file, uint64_t action, uint64_t link, uint64_t start,
-                       const uint8_t *value, uint64_t place) {
+__attribute__((unused)) static void plain_pack(uint8_t *page, int kind, int small, uint64_t file, uint64_t action, uint64_t link,
+                                               uint64_t start, const uint8_t *value, uint64_t place) {
     memset(page, 0, PAGE);
     plain_put(page, 0, 1, (uint64_t)kind);
     plain_put(page, 1, 2, (uint64_t)small);

@@ -1,5 +1,5 @@
 /* A sheet in plain C, read page by page as documents 01 and 02 say it: what is sealed, the fates, where an outcome lies, the highest start,
-   a file's row, an opening. Places are counted from 1. */
+   a file's row, an opening, an inspection. Places are counted from 1. */
 #ifndef PLAINSHEET_H
 #define PLAINSHEET_H
 #include "door.h"
@@ -149,6 +149,31 @@ static void plain_open(uint64_t a[TOLD], struct kept *k) {
     answer(a, OPENED, end, k->undecided, 0);
 }
 
+/* Whether a page fits those below it. */
+static int page_fits(uint64_t place) {
+    if (is_bad(place))
+        return 0;
+    if (is_torn(place) || is_kind(place, 1))
+        return 1;
+    if (fate_of(action_of(place), place - 1) != 1)
+        return 0;
+    if (is_kind(place, 3))
+        return 1;
+    uint64_t row[ROW_LENGTH];
+    row_of(file_of(place), NULL, place - 1, row);
+    int is_free = row[TOKEN] == 0 || action_of(row[TOKEN]) == action_of(place);
+    return is_free && link_of(place) == row[CURRENT] && start_of(place) > row[CURRENT_END];
+}
+
+/* The lowest place that is bad or does not fit, 0 if there is none. */
+__attribute__((unused)) static uint64_t inspected(void) {
+    uint64_t end = end_of();
+    for (uint64_t p = 1; p <= end; p++)
+        if (!page_fits(p))
+            return p;
+    return 0;
+}
+
 /* A cold row is rebuilt; then line 7. */
 static int warm(uint64_t a[TOLD], struct kept *k, uint64_t file) {
     uint64_t *row = row_in(k, file);
@@ -158,7 +183,7 @@ static int warm(uint64_t a[TOLD], struct kept *k, uint64_t file) {
 }
 
 /* It answers the row's numbers after the mark. */
-static void plain_rebuild(uint64_t a[TOLD], struct kept *k, uint64_t file) {
+__attribute__((unused)) static void plain_rebuild(uint64_t a[TOLD], struct kept *k, uint64_t file) {
     if (k->end > pages || k->undecided > k->end)
         return no(a, 1, 0);
     if (file < 1 || file > file_count)
@@ -189,7 +214,7 @@ static int called_alike(struct call c, const uint8_t *before, struct kept was, u
 
 /* A cut while the page at a place was stored: its bytes from n on are as before, or any are but byte 0, and byte 63 is. Answers n, or
    65 for the second. */
-static int cut_page(uint64_t place, const uint8_t *before) {
+__attribute__((unused)) static int cut_page(uint64_t place, const uint8_t *before) {
     static const int often[] = {0, 1, 62, 63, 64};
     uint8_t *page = page_at(place);
     if (below(3) == 0) {

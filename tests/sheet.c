@@ -4,29 +4,6 @@
 
 enum { SHEETS = 8000, LARGE_SHEETS = 40 };
 
-static int page_fits(uint64_t place) {
-    if (is_bad(place))
-        return 0;
-    if (is_torn(place) || is_kind(place, 1))
-        return 1;
-    if (fate_of(action_of(place), place - 1) != 1)
-        return 0;
-    if (is_kind(place, 3))
-        return 1;
-    uint64_t row[ROW_LENGTH];
-    row_of(file_of(place), NULL, place - 1, row);
-    int is_free = row[TOKEN] == 0 || action_of(row[TOKEN]) == action_of(place);
-    return is_free && link_of(place) == row[CURRENT] && start_of(place) > row[CURRENT_END];
-}
-
-static uint64_t inspected(void) {
-    uint64_t end = end_of();
-    for (uint64_t p = 1; p <= end; p++)
-        if (!page_fits(p))
-            return p;
-    return 0;
-}
-
 /* ---- random sheets */
 
 /* A start above another: mostly a little, now and then by any power of two, so that each of its bytes tells. Far up there is none. */

@@ -2,12 +2,11 @@
 -- (`…-met`); then what is answered where an opening or an end mark is spoiled. Assumes nothing.
 use Prim.Native.Nat.{ℕ, _*_, _≤_}
 use mathlib.Core.Path.{_≡_, refl}
-use mathlib.Core.Bool.{true, false}
+use mathlib.Core.Bool.{true}
 use mathlib.Core.List.{List, [], _∷_, _++_}
 use native.Mathlib.Omega.{arith}
-use lib.ListN.{length, replicate}
-use Rattle.page.specs.declared.Unpacked.the-variants.{Torn, Unfit}
-use Rattle.page.specs.declared.Packing.{Packing}
+use lib.ListN.{replicate}
+use Rattle.page.specs.declared.Unpacked.the-variants.{Unfit}
 use Rattle.page.specs.Layout.{markAt, pageSize, valueSize}
 use Rattle.page.specs.Table.{head, front, packed, fieldsOf, lowest, highest, within, between, meetsRules, isPageOf, torn, opening, image, outcome}
 use Rattle.page.specs.Answers.{inBounds, tested, packs}
@@ -16,7 +15,7 @@ use Rattle.recovery.specs.Log as log
 use Rattle.recovery.specs.Log.{fateOf, imagesOf, notBy, effective, versionsOf, tokenOf}
 use Rattle.recovery.specs.Sheet.{pageBytes, decoded, sealed, pages}
 use Rattle.recovery.specs.World.{down, endOf, highestBad, undecidedOf, coldRows, warmRow, rowHolds, lentRight, rebuilt, opened}
-use Rattle.recovery.specs.Lent.{rowLength, rowsOf, flat, putRow, Left, refused, closed, openLeaves, rebuildLeaves, sizesRight}
+use Rattle.recovery.specs.Lent.{rowLength, rowsOf, flat, Left, refused, closed, openLeaves, rebuildLeaves, sizesRight}
 use Rattle.recovery.specs.declared.Answer.the-variants.{Refused, Opened, Rebuilt}
 use Rattle.inspection.specs.declared.Inspected.the-variants.{Lowest}
 use Rattle.inspection.specs.Lawful.{lowestUnlawful}

@@ -1,20 +1,17 @@
 -- One spoiled byte of a page that fits, or was packed: torn where byte 63 became 0, else unfit. Assumes nothing.
 use Prim.Native.Nat.{ℕ}
 use mathlib.Core.Path.{_≡_, refl, ap, _∙_}
-use mathlib.Core.Bool.{Bool, true, false, cond, _&&_, true≢false}
+use mathlib.Core.Bool.{Bool, true, false, cond, _&&_}
 use mathlib.Core.List.{List}
-use native.Mathlib.Omega.{arith}
 use borrow.Author.Tests.{eqb-true, eqb-false}
 use lib.Dec.{eqb}
 use lib.ListN.{length, set}
-use Rattle.encoding.proofs.Logic.{by-test}
 use Rattle.page.specs.declared.Page.{Page}
-use Rattle.page.specs.declared.Unpacked.{Unpacked}
 use Rattle.page.specs.declared.Unpacked.the-variants.{Torn, Unfit, Opening, Image, Outcome}
 use Rattle.page.specs.declared.Packing.{Packing}
 use Rattle.page.specs.Layout.{markAt, mostFiles, valueSize}
 use Rattle.page.specs.Table.{within}
-use Rattle.page.specs.Answers.{inBounds, byKind, tested, isFitPage, packs}
+use Rattle.page.specs.Answers.{inBounds, tested, isFitPage, packs}
 use Rattle.page.proofs.Rules.{InBounds, within-true, are-in-bounds}
 use Rattle.page.proofs.RoundTrip.{packed-unpacked}
 use Rattle.page.proofs.Found.{told-fits}

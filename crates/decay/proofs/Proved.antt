@@ -19,7 +19,7 @@ use Rattle.inspection.specs.Lawful.{lawful}
 use Rattle.inspection.specs.Inspected.{inspectable, inspected}
 use Rattle.inspection.specs.declared.Inspected.the-variants.{Lowest}
 use Rattle.inspection.proofs.BadPages.{files-within, bad-unlawful, bad-named, lawful-inspectable, lawful-below}
-use Rattle.decay.specs.Decay.{isSealed, OtherByte, losesMark, spoiled, Spoiled, Decay}
+use Rattle.decay.specs.Decay.{isSealed, OtherByte, losesMark, spoiled, Decay}
 use Rattle.decay.proofs.Pages.{page-spoiled, packed-fits}
 use Rattle.decay.proofs.Sheets.{low, room, torn-or-bad, not-sealed, action-bad, others-stay, below-stays}
 

@@ -6,7 +6,7 @@ use mathlib.Core.List.{List}
 use native.Mathlib.Omega.{arith}
 use borrow.Author.Tests.{eqb-true, eqb-false}
 use lib.Dec.{eqb}
-use lib.ListN.{length, take, drop, set, length-take, length-drop}
+use lib.ListN.{length, drop, set, length-take, length-drop}
 use Rattle.encoding.proofs.Logic.{by-test, and-false, is-false}
 use Rattle.page.specs.declared.Unpacked.{Unpacked}
 use Rattle.page.specs.declared.Unpacked.the-variants.{Refused, Blank, Torn, Opening, Image as AnImage, Outcome, Unfit}
@@ -43,7 +43,7 @@ no-opening opening e = e
 no-opening (image i) e = refl
 no-opening (outcome a c) e = refl
 
--- a page of an action names it, and lies above it
+-- a page of an action lies above its opening, and is bad wherever that is no opening
 module _ (s : List ℕ) (files p a : ℕ) where
   names : (b : Bool) (x : ℕ) (g : Entry) → isOf a g ≡ eqb x a → isOf a (cond b g bad) ≡ true → x ≡ a
   names true x g e h = eqb-true x a (sym e ∙ h)
@@ -71,6 +71,9 @@ module _ (s : List ℕ) (files p a : ℕ) where
   named-by h = names-it _ refl (ap (isOf a) (sealed-is s p files _ refl) ∙ h)
 
 module _ (s : List ℕ) (files place i v : ℕ) (was : isSealed (sealed files s place) ≡ true) (c : OtherByte (pageBytes s place) i v) where
+  abbrev t : List ℕ
+  t = spoiled s place i v
+
   fit : isFitPage (tested (pageBytes s place) place files) ≡ true
   fit = sealed-fits s files place was
 
@@ -92,14 +95,14 @@ module _ (s : List ℕ) (files place i v : ℕ) (was : isSealed (sealed files s 
 
   -- by what the page test says of its bytes
   sealed-by : (files′ : ℕ) (u : Unpacked) → tested (set (pageBytes s place) i v) place files′ ≡ u
-      → sealed files′ (spoiled s place i v) place ≡ seal (decoded files′ (spoiled s place i v)) (entryOf (pageBytes (spoiled s place i v) place) u)
+      → sealed files′ t place ≡ seal (decoded files′ t) (entryOf (pageBytes t place) u)
   sealed-by files′ u e =
-      sym (sealed-is (spoiled s place i v) place files′ u (sym (ap (λ (b : List ℕ). tested b place files′) (byte-here s place i v (c .inside) low) ∙ e)))
+      sym (sealed-is t place files′ u (sym (ap (λ (b : List ℕ). tested b place files′) (byte-here s place i v (c .inside) low) ∙ e)))
 
-  pub torn-or-bad : (files′ : ℕ) → within files′ 1 mostFiles ≡ true → sealed files′ (spoiled s place i v) place ≡ cond (losesMark i v) torn bad
+  pub torn-or-bad : (files′ : ℕ) → within files′ 1 mostFiles ≡ true → sealed files′ t place ≡ cond (losesMark i v) torn bad
   torn-or-bad files′ w = go (losesMark i v) (page-spoiled (pageBytes s place) place files files′ i v fit c w)
     where
-      go : (b : Bool) → tested (set (pageBytes s place) i v) place files′ ≡ cond b Torn Unfit → sealed files′ (spoiled s place i v) place ≡ cond b torn bad
+      go : (b : Bool) → tested (set (pageBytes s place) i v) place files′ ≡ cond b Torn Unfit → sealed files′ t place ≡ cond b torn bad
       go true e = sealed-by files′ Torn e
       go false e = sealed-by files′ Unfit e
 
@@ -107,41 +110,41 @@ module _ (s : List ℕ) (files place i v : ℕ) (was : isSealed (sealed files s 
   unfolding tested inBounds
   refused-out files′ w = rw (and-false (eqb (length (set (pageBytes s place) i v)) pageSize && within place 1 mostPlaces) (within files′ 1 mostFiles) w)
 
-  pub not-sealed : (files′ : ℕ) → isSealed (sealed files′ (spoiled s place i v) place) ≡ false
+  pub not-sealed : (files′ : ℕ) → isSealed (sealed files′ t place) ≡ false
   not-sealed files′ = go (within files′ 1 mostFiles) refl
     where
-      go : (b : Bool) → within files′ 1 mostFiles ≡ b → isSealed (sealed files′ (spoiled s place i v) place) ≡ false
+      go : (b : Bool) → within files′ 1 mostFiles ≡ b → isSealed (sealed files′ t place) ≡ false
       go true w = ap isSealed (torn-or-bad files′ w) ∙ by-test (λ (g : Entry). isSealed g ≡ false) (losesMark i v) (λ e. refl) (λ e. refl)
       go false w = ap isSealed (sealed-by files′ Refused (refused-out files′ w))
 
   -- ---- the other pages, for one file count
 
   module _ (files′ : ℕ) where
-    no-opening-here : isOpening (decoded files′ (spoiled s place i v) place) ≡ false
+    no-opening-here : isOpening (decoded files′ t place) ≡ false
     unfolding sealed
     no-opening-here =
-        sym (opening-sealed (decoded files′ (spoiled s place i v)) (decoded files′ (spoiled s place i v) place)) ∙ no-opening (sealed files′ (spoiled s place i v) place) (not-sealed files′)
+        sym (opening-sealed (decoded files′ t) (decoded files′ t place)) ∙ no-opening (sealed files′ t place) (not-sealed files′)
 
-    decoded-other : (p : ℕ) → (p ≡ place → ⊥) → decoded files′ (spoiled s place i v) p ≡ decoded files′ s p
+    decoded-other : (p : ℕ) → (p ≡ place → ⊥) → decoded files′ t p ≡ decoded files′ s p
     unfolding decoded
     decoded-other p n = rw (bytes-other s place i v (c .inside) p low n)
 
     -- a page of an action: sealed as before, unless the action was the spoiled page's
     by-opening : (a : ℕ) (g : Entry) → isOf place g ≡ eqb a place → isOf place (cond (isOpening (decoded files′ s a)) g bad) ≡ false
-        → cond (isOpening (decoded files′ (spoiled s place i v) a)) g bad ≡ cond (isOpening (decoded files′ s a)) g bad
+        → cond (isOpening (decoded files′ t a)) g bad ≡ cond (isOpening (decoded files′ s a)) g bad
     by-opening a g e h = go (eqb a place) refl
       where
         gone : (b : Bool) → isOf place g ≡ true → isOf place (cond b g bad) ≡ false → bad ≡ cond b g bad
         gone true x y = absurd (true≢false (sym x ∙ y))
         gone false x y = refl
 
-        go : (b : Bool) → eqb a place ≡ b → cond (isOpening (decoded files′ (spoiled s place i v) a)) g bad ≡ cond (isOpening (decoded files′ s a)) g bad
+        go : (b : Bool) → eqb a place ≡ b → cond (isOpening (decoded files′ t a)) g bad ≡ cond (isOpening (decoded files′ s a)) g bad
         go true x =
             let y : a ≡ place = eqb-true a place x in
-            ap (λ (k : ℕ). cond (isOpening (decoded files′ (spoiled s place i v) k)) g bad) y ∙ rw no-opening-here (gone (isOpening (decoded files′ s a)) (e ∙ x) h)
+            ap (λ (k : ℕ). cond (isOpening (decoded files′ t k)) g bad) y ∙ rw no-opening-here (gone (isOpening (decoded files′ s a)) (e ∙ x) h)
         go false x = rw (decoded-other a (eqb-false a place x))
 
-    resealed : (g : Entry) → isOf place (seal (decoded files′ s) g) ≡ false → seal (decoded files′ (spoiled s place i v)) g ≡ seal (decoded files′ s) g
+    resealed : (g : Entry) → isOf place (seal (decoded files′ s) g) ≡ false → seal (decoded files′ t) g ≡ seal (decoded files′ s) g
     resealed blank h = refl
     resealed torn h = refl
     resealed bad h = refl
@@ -149,23 +152,23 @@ module _ (s : List ℕ) (files place i v : ℕ) (was : isSealed (sealed files s 
     resealed (image j) h = by-opening (j .action) (image j) refl h
     resealed (outcome a d) h = by-opening a (outcome a d) refl h
 
-    pub others-stay : (p : ℕ) → (p ≡ place → ⊥) → isOf place (sealed files′ s p) ≡ false → sealed files′ (spoiled s place i v) p ≡ sealed files′ s p
+    pub others-stay : (p : ℕ) → (p ≡ place → ⊥) → isOf place (sealed files′ s p) ≡ false → sealed files′ t p ≡ sealed files′ s p
     unfolding sealed
-    others-stay p n h = ap (seal (decoded files′ (spoiled s place i v))) (decoded-other p n) ∙ resealed (decoded files′ s p) h
+    others-stay p n h = ap (seal (decoded files′ t)) (decoded-other p n) ∙ resealed (decoded files′ s p) h
 
     -- ---- the pages of its action, which for another file count are the same or none
 
-    pub action-bad : (p : ℕ) → isOf place (sealed files s p) ≡ true → sealed files′ (spoiled s place i v) p ≡ bad
+    pub action-bad : (p : ℕ) → isOf place (sealed files s p) ≡ true → sealed files′ t p ≡ bad
     unfolding sealed decoded
     action-bad p h =
         let k : Names s files p place (tested (pageBytes s p) p files) = named-by s files p place h in
         let b : List ℕ = pageBytes s p in
-        let r : ℕ → Entry = decoded files′ (spoiled s place i v) in
+        let r : ℕ → Entry = decoded files′ t in
         ap (seal r) (decoded-other p (λ e. omega (arith, k .above))) ∙ ap (λ (u : Unpacked). seal r (entryOf b u)) (other-count b p files (k .fit-is) files′)
         ∙ by-test (λ (u : Unpacked). seal r (entryOf b u) ≡ bad) (inBounds (length b) p files′)
         (λ x. by-test (λ (u : Unpacked). seal r (entryOf b u) ≡ bad) (fits b p files′) (λ y. k .under r no-opening-here) (λ y. refl)) (λ x. refl)
 
     -- ---- the pages below
 
-    pub below-stays : (p : ℕ) → p < place → sealed files′ (spoiled s place i v) p ≡ sealed files′ s p
+    pub below-stays : (p : ℕ) → p < place → sealed files′ t p ≡ sealed files′ s p
     below-stays p h = others-stay p (λ e. omega arith) (is-false _ (λ e. let k = named-by s files′ p place e .above in omega arith))

@@ -1,5 +1,5 @@
 -- One turn of each loop over a run of bytes, and the loop's end; a run that is filled by stores. Assumes nothing.
-use Prim.Native.Nat.{ℕ, suc, _+_, _*_, _-_, _/_, _%_, _≤_, _<_}
+use Prim.Native.Nat.{ℕ, suc, _+_, _-_, _/_, _%_, _≤_, _<_}
 use mathlib.Core.Path.{_≡_, refl, sym, ap, _∙_}
 use mathlib.Core.Bool.{Bool, true, false, _&&_}
 use mathlib.Core.List.{List, [], _++_, append-nil}
@@ -10,7 +10,7 @@ use lib.Dec.{eqb}
 use lib.Bits.{bitOr, or-zero-l, or-add-and, and-le-r}
 use lib.ListN.{length, take, drop, getD, set, drop-of-length-le}
 use lib.Seq.{sets, sets-eq, drop-cons, take-suc, take-suc-set, take-all, append-snoc}
-use Rattle.encoding.specs.Bytes.{bytes, zeros, checkFrom}
+use Rattle.encoding.specs.Bytes.{bytes, zeros}
 use Rattle.encoding.proofs.Logic.{and-assoc, and-end}
 
 pub write-turn : (out t : List ℕ) (n i y : ℕ) → i < length out → length out ≡ n → take i out ++ bytes (n - i) y ≡ t

@@ -4,7 +4,7 @@ use mathlib.Core.Path.{_≡_, refl, sym, ap, _∙_}
 use mathlib.Core.List.{List, [], _∷_, _++_}
 use native.Mathlib.Omega.{arith}
 use native.Mathlib.Numerals.{add-one}
-use native.Mathlib.Nat.{pow-succ', mul-assoc, mul-comm, mul-left-comm, add-mul, add-zero, div-add-mod, mod-add-mod, mod-lt, mod-eq-of-lt, mul-add-mod-self-left, mul-le-mul}
+use native.Mathlib.Nat.{pow-succ', mul-assoc, mul-comm, mul-left-comm, add-mul, add-zero, div-add-mod, mod-add-mod, mod-eq-of-lt, mul-add-mod-self-left, mul-le-mul}
 use lib.ListN.{length, take, drop, getD}
 use lib.Seq.{drop-cons, take-all}
 use Rattle.encoding.specs.Bytes.{part, checkFrom, check}

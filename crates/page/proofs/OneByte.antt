@@ -1,5 +1,6 @@
 -- The last four bytes of a page follow from the sixty before them; so no two pages of the table at one place differ in one byte alone,
--- whatever the file counts. Shuts out a check word over bytes 0 to 58, and an end mark that is not compared. Assumes nothing.
+-- whatever the file counts. Shuts out a check word over bytes 0 to 54, which leaves out the last byte of a value, and an end mark that is not
+-- compared. Assumes nothing.
 use Prim.Native.Nat.{ℕ, _+_, _-_, _≤_, _<_}
 use mathlib.Core.Path.{_≡_, refl, sym, ap, _∙_}
 use mathlib.Core.Bool.{Bool, true, false}

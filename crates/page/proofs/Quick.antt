@@ -7,12 +7,11 @@ use native.Mathlib.Omega.{arith}
 use borrow.Author.Tests.{eqb-true, eqb-false, eq-eqb, ne-eqb}
 use lib.Dec.{eqb}
 use lib.ListN.{length, take, drop, getD, length-append}
-use lib.Seq.{take-at, drop-at, take-all, take-add, getD-drop}
+use lib.Seq.{drop-at, take-all, take-add, getD-drop}
 use Rattle.encoding.specs.Bytes.{AreBytes, part, number, bytes, zeros, same, check}
 use Rattle.encoding.proofs.Logic.{and-true, and-both, and-false, bool-ext, by-test}
 use Rattle.encoding.proofs.Numbers.{bytes-number, number-bytes, number-byte, part-bytes, same-refl, same-true, zeros-at, not-zeros}
 use Rattle.encoding.proofs.Parts.{length-part}
-use Rattle.encoding.proofs.CheckWord.{check-small}
 use Rattle.page.specs.declared.Page.{Page}
 use Rattle.page.specs.declared.Unpacked.{Unpacked}
 use Rattle.page.specs.declared.Unpacked.the-variants.{Blank, Torn, Opening, Image, Outcome, Unfit}

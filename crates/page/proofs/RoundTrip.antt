@@ -12,7 +12,7 @@ use lib.ListN.{length, take, getD, replicate, length-append, length-replicate, L
 use lib.Seq.{take-at, take-all, getD-append-add, getD-take, length-take-le, getD-at}
 use Rattle.encoding.specs.Bytes.{bytes, zeros, same, check}
 use Rattle.encoding.proofs.Logic.{and-true, and-end, and-false, by-test}
-use Rattle.encoding.proofs.Numbers.{number-bytes, number-byte, same-refl, same-true, zeros-replicate, not-zeros}
+use Rattle.encoding.proofs.Numbers.{number-bytes, number-byte, same-refl, zeros-replicate, not-zeros}
 use Rattle.page.specs.declared.Page.{Page}
 use Rattle.page.specs.declared.Unpacked.the-variants.{Blank, Torn, Unfit}
 use Rattle.page.specs.declared.Packing.{Packing}

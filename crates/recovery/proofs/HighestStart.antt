@@ -1,7 +1,7 @@
 -- The highest start of a sheet, as the code walks down to it; and no image of the sheet starts above it. Shuts out one that goes by the
 -- newest image, or by the committed ones alone. Assumes nothing.
 use Prim.Native.Nat.{ℕ, zero, suc, _-_, _/_, _<_, _≤_}
-use mathlib.Core.Path.{_≡_, refl, sym, ap, _∙_}
+use mathlib.Core.Path.{_≡_, refl, ap, _∙_}
 use mathlib.Core.Bool.{Bool, true, false, cond}
 use mathlib.Core.List.{List, [], _∷_}
 use native.Mathlib.Omega.{arith}

@@ -39,7 +39,6 @@ use denote.Triple.Table.{entered, cited}
 use denote.Triple.Walked.{says, Stays, stay-ref, stay-none, walkOf, AllGo, goes-none, goes-ref, Walks, ends-at, walked, walk-meets}
 use denote.Exit.{yes}
 use Rattle.recovery.specs.declared.Row.{Row}
-use Rattle.recovery.specs.RollSteps.{raised}
 use Rattle.recovery.proofs.Row as T
 use Rattle.recovery.proofs.Row.Laws as T′
 use Rattle.recovery.proofs.rolling.later as later-fn
