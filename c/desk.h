@@ -54,7 +54,8 @@ enum { DESK_PACKED = 0, DESK_PACK_REFUSED = 1, DESK_NO_SUCH_PAGE = 2 };
    DESK_UNFIT         none of the others
    DESK_BLANK         all bytes are 0
    DESK_TORN          the supply was cut while it was stored
-   Unless DESK_FITS is answered, fields are untouched. */
+   Unless DESK_FITS is answered, fields are untouched. A page that fits, and of which one byte then becomes another, is DESK_UNFIT for
+   every file count, or DESK_TORN if its byte 63 became 0. */
 uint64_t desk_test(const uint8_t *part, size_t part_len, uint64_t place, uint64_t files, uint64_t *fields, size_t fields_len);
 enum { DESK_FITS = 0, DESK_TEST_REFUSED = 1, DESK_UNFIT = 2, DESK_BLANK = 3, DESK_TORN = 4 };
 

@@ -7,7 +7,7 @@ use mathlib.Core.List.{List, [], _∷_, _++_}
 use native.Mathlib.Omega.{arith}
 use lib.ListN.{replicate}
 use Rattle.page.specs.declared.Unpacked.the-variants.{Unfit}
-use Rattle.page.specs.Layout.{markAt, pageSize, valueSize}
+use Rattle.page.specs.Layout.{valueAt, markAt, pageSize, valueSize}
 use Rattle.page.specs.Table.{head, front, packed, fieldsOf, lowest, highest, within, between, meetsRules, isPageOf, torn, opening, image, outcome}
 use Rattle.page.specs.Answers.{inBounds, tested, packs}
 use Rattle.recovery.specs.Places.{tabulate}
@@ -116,3 +116,15 @@ rebuilds file = rebuildLeaves halved (opens halved .fates) (opens halved .rows) 
 pub half-shown : (rebuilds 1 .answer ≡ Rebuilt 2 10 0 0 0) × (rebuilds 2 .answer ≡ Rebuilt 0 0 0 0 0)
 unfolding packed head front fieldsOf lowest highest within between meetsRules isPageOf torn inBounds tested tabulate fateOf imagesOf notBy effective versionsOf tokenOf decoded sealed pages down endOf highestBad undecidedOf rowsOf flat coldRows opened openLeaves warmRow rowHolds lentRight rebuilt rebuildLeaves
 half-shown = (refl, refl)
+
+-- ---- two bytes: a value that begins with 0 and 14 becomes one that begins with 255 and 0, and nobody can tell. So the theorem is of one byte
+
+abbrev twice : List ℕ
+twice = packed (opening 1) (replicate valueSize 0) 1 ++ packed (image 2 1 1 0 10) (0 ∷ 14 ∷ replicate 30 0) 2
+
+abbrev valued : List ℕ → log.Entry
+valued value = log.image (record { file = 1; action = 1; link = 0; start = 10; value = value })
+
+pub two-unseen : (sealed 1 twice 2 ≡ valued (0 ∷ 14 ∷ [])) × (sealed 1 (spoiled (spoiled twice 2 valueAt 255) 2 25 0) 2 ≡ valued (255 ∷ 0 ∷ []))
+unfolding packed head front fieldsOf lowest highest within between meetsRules isPageOf torn inBounds tested decoded sealed
+two-unseen = (refl, refl)
