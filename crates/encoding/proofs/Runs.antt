@@ -1,4 +1,4 @@
--- One turn of each loop over a run of bytes, and the loop's end; a run that is filled by stores. Assumes nothing.
+-- One turn of a loop that writes, copies or looks for zeros, and the loop's end; a run that is filled by stores. Assumes nothing.
 use Prim.Native.Nat.{ℕ, suc, _+_, _-_, _/_, _%_, _≤_, _<_}
 use mathlib.Core.Path.{_≡_, refl, sym, ap, _∙_}
 use mathlib.Core.Bool.{Bool, true, false, _&&_}

@@ -17,40 +17,51 @@ use Rattle.encoding.proofs.Parts.{length-part}
 use Rattle.encoding.proofs.CheckWord.{check-small, word-tells}
 use Rattle.page.specs.declared.Page.{Page}
 use Rattle.page.specs.Layout.{placeAt, valueAt, checkAt, spareEndAt, markAt, pageSize, endMark, valueSize}
-use Rattle.page.specs.Table.{cell, head, front, packed, fieldsOf, valueOf, meetsRules, isPageOf, fits}
+use Rattle.page.specs.Table.{cell, head, front, closing, packed, fieldsOf, valueOf, meetsRules, isPageOf, fits}
 
--- ---- bytes 60 to 63: the check word, the spare byte and the end mark
-
-unfoldable pub closing : List ℕ → List ℕ
-closing f = cell checkAt spareEndAt (check f) ++ (cell spareEndAt markAt 0 ++ cell markAt pageSize endMark)
+-- ---- bytes 60 to 63 of a page
 
 pub closing-word : (f : List ℕ) → number (take (spareEndAt - checkAt) (closing f)) ≡ check f
-unfolding closing
 closing-word f = number-bytes 2 (check f) (omega (arith, check-small f))
 
 pub length-front : (p : Page) (value : List ℕ) (place : ℕ) → length value ≡ valueSize → length (front p value place) ≡ checkAt
 unfolding front head
 length-front p value place l = simp length-append (omega arith)
 
-module _ (p : Page) (value : List ℕ) (place : ℕ) (l : length value ≡ valueSize) (s : List ℕ) (e : s ≡ packed p value place) where
-  pub whole : s ≡ front p value place ++ closing (front p value place)
-  unfolding packed closing
-  whole = e ∙ simp append-assoc
+-- field by field, as it is written
+pub by-field : (p : Page) (value : List ℕ) (place : ℕ)
+    → packed p value place ≡ front p value place ++ cell checkAt spareEndAt (check (front p value place)) ++ cell spareEndAt markAt 0 ++ cell markAt pageSize endMark
+unfolding packed
+by-field p value place = simp append-assoc
 
-  pub before-check : take checkAt s ≡ front p value place
-  before-check = ap (take checkAt) whole ∙ take-at (front p value place) _ checkAt (length-front p value place l)
+module _ (p : Page) (value : List ℕ) (place : ℕ) (l : length value ≡ valueSize) (s : List ℕ) (e : s ≡ packed p value place) where
+  before-check : take checkAt s ≡ front p value place
+  unfolding packed
+  before-check = ap (take checkAt) e ∙ take-at (front p value place) _ checkAt (length-front p value place l)
 
   pub from-check : drop checkAt s ≡ closing (take checkAt s)
-  from-check = ap (drop checkAt) whole ∙ drop-at (front p value place) _ checkAt (length-front p value place l) ∙ ap closing (sym before-check)
+  unfolding packed
+  from-check = ap (drop checkAt) e ∙ drop-at (front p value place) _ checkAt (length-front p value place l) ∙ ap closing (sym before-check)
+
+  pub mark-is : getD s markAt 0 ≡ endMark
+  mark-is = sym (getD-drop checkAt s 3 0) ∙ ap (λ (t : List ℕ). getD t 3 0) from-check
 
 -- ---- a page that fits is the page of its own fields
 
-pub fits-packed : (s : List ℕ) (place files : ℕ) → fits s place files ≡ true → s ≡ packed (fieldsOf s) (valueOf s) place
-unfolding isPageOf
-fits-packed s place files h = same-true s _ (and-true (meetsRules (fieldsOf s) (valueOf s) place files) _ h .1)
+module _ (s : List ℕ) (place files : ℕ) (h : fits s place files ≡ true) where
+  pub fits-packed : s ≡ packed (fieldsOf s) (valueOf s) place
+  unfolding isPageOf
+  fits-packed = same-true s _ (and-true (meetsRules (fieldsOf s) (valueOf s) place files) _ h .1)
 
-pub fits-closed : (s : List ℕ) (place files : ℕ) → length s ≡ pageSize → fits s place files ≡ true → drop checkAt s ≡ closing (take checkAt s)
-fits-closed s place files l h = from-check (fieldsOf s) (valueOf s) place (length-part valueAt placeAt s (omega arith)) s (fits-packed s place files h)
+  module _ (l : length s ≡ pageSize) where
+    value-long : length (valueOf s) ≡ valueSize
+    value-long = length-part valueAt placeAt s (omega arith)
+
+    fits-closed : drop checkAt s ≡ closing (take checkAt s)
+    fits-closed = from-check (fieldsOf s) (valueOf s) place value-long s fits-packed
+
+    pub fits-marked : getD s markAt 0 ≡ endMark
+    fits-marked = mark-is (fieldsOf s) (valueOf s) place value-long s fits-packed
 
 -- ---- two pages that fit and differ in one byte at most do not differ
 
@@ -76,10 +87,10 @@ pub one-byte : (s : List ℕ) (place files files′ i v : ℕ) → length s ≡ 
 one-byte s place files files′ i v l inside old new h k = go (ltb i checkAt) refl
   where
     a : drop checkAt s ≡ closing (take checkAt s)
-    a = fits-closed s place files l h
+    a = fits-closed s place files h l
 
     b : drop checkAt (set s i v) ≡ closing (take checkAt (set s i v))
-    b = fits-closed (set s i v) place files′ (length-set s i v ∙ l) k
+    b = fits-closed (set s i v) place files′ k (length-set s i v ∙ l)
 
     go : (t : Bool) → ltb i checkAt ≡ t → v ≡ getD s i 0
     go true e = below-word s i v a b (omega arith) (ltb-true i checkAt e) old new

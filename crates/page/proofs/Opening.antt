@@ -21,6 +21,7 @@ use Rattle.page.specs.Layout.{kindAt, actionAt, startAt, valueAt, placeA
 use Rattle.page.specs.Table.{cell, head, front, packed, field, fieldsOf, valueOf, opening, lowest, highest, between, meetsRules, isPageOf}
 use Rattle.page.specs.Answers.{tested, isOpeningPage}
 use Rattle.page.proofs.Rules.{InBounds}
+use Rattle.page.proofs.OneByte.{by-field}
 use Rattle.page.proofs.RoundTrip.{packed-tested, ruled}
 use Rattle.page.proofs.Quick.{cell-as, on}
 use Rattle.page.proofs.Found.{found, opening-is}
@@ -69,9 +70,10 @@ module _ (place : ℕ) (h : place ≤ mostPlaces) where
   front-eights = ap (λ (t : List ℕ). cell kindAt actionAt 1 ++ t ++ cell startAt valueAt 0 ++ replicate valueSize 0 ++ cell placeAt checkAt place) (wide-place place h)
 
   in-eights : the-page ≡ eights place word
-  unfolding packed the-page word
+  unfolding the-page word
   in-eights =
-      ap (λ (t : List ℕ). t ++ cell checkAt spareEndAt word ++ cell spareEndAt markAt 0 ++ cell markAt pageSize endMark) front-eights
+      by-field (opening place) (replicate valueSize 0) place
+      ∙ ap (λ (t : List ℕ). t ++ cell checkAt spareEndAt word ++ cell spareEndAt markAt 0 ++ cell markAt pageSize endMark) front-eights
       ∙ ap (λ (t : List ℕ). cell kindAt actionAt 1 ++ cell actionAt startAt place ++ cell startAt valueAt 0 ++ replicate valueSize 0 ++ t)
       (last-eight place word h (check-small (front (opening place) (replicate valueSize 0) place)))
 

@@ -16,12 +16,11 @@ use Rattle.page.specs.declared.Page.{Page}
 use Rattle.page.specs.declared.Unpacked.{Unpacked}
 use Rattle.page.specs.declared.Unpacked.the-variants.{Blank, Torn, Opening, Image, Outcome, Unfit}
 use Rattle.page.specs.Layout.{kindAt, smallAt, spareAt, fileAt, actionAt, linkAt, startAt, valueAt, placeAt, checkAt, spareEndAt, markAt, pageSize, endMark, mostPlaces, valueSize}
-use Rattle.page.specs.Table.{cell, head, front, packed, field, fieldsOf, valueOf, within, meetsRules, isPageOf, fits, torn}
+use Rattle.page.specs.Table.{cell, head, front, closing, packed, field, fieldsOf, valueOf, within, meetsRules, isPageOf, fits, torn}
 use Rattle.page.specs.Steps.{framed}
 use Rattle.page.specs.Answers.{inBounds, byKind, tested, isFitPage, isBlankPage}
 use Rattle.page.proofs.Rules.{within-true, InBounds, in-bounds}
-use Rattle.page.proofs.OneByte.{closing, closing-word, whole, from-check}
-use Rattle.page.proofs.RoundTrip.{last-byte}
+use Rattle.page.proofs.OneByte.{closing-word, by-field, from-check, mark-is}
 
 -- what the code tests, in its order
 unfoldable pub quick : Page → List ℕ → ℕ → ℕ → Bool
@@ -74,10 +73,10 @@ module _ (s : List ℕ) (l : length s ≡ pageSize) (b : AreBytes s) where
 
   packed-is : (place : ℕ) → field spareAt fileAt s ≡ 0 → field placeAt checkAt s ≡ place → getD s spareEndAt 0 ≡ 0 → getD s markAt 0 ≡ endMark
       → field checkAt spareEndAt s ≡ check (part kindAt checkAt s) → packed (fieldsOf s) (valueOf s) place ≡ s
-  unfolding packed
   packed-is place z e y m w =
       let f = front-is place z e in
-      on markAt pageSize (omega arith)
+      by-field (fieldsOf s) (valueOf s) place
+      ∙ on markAt pageSize (omega arith)
       (on spareEndAt markAt (omega arith)
       (on checkAt spareEndAt (omega arith) f (cell-as checkAt spareEndAt _ (omega arith) (omega arith) (w ∙ ap check (sym f))))
       (byte-cell spareEndAt 0 (omega arith) y))
@@ -91,20 +90,16 @@ module _ (s : List ℕ) (l : length s ≡ pageSize) (b : AreBytes s) where
     spare-zero = ap (λ (t : List ℕ). field spareAt fileAt t) e
 
     from-place : drop placeAt s ≡ cell placeAt checkAt place ++ closing (front p v place)
-    unfolding front
+    unfolding packed front
     from-place =
-        ap (drop placeAt) (whole p v place k s e ∙ append-assoc (head p ++ v) (cell placeAt checkAt place) (closing (front p v place)))
+        ap (drop placeAt) (e ∙ append-assoc (head p ++ v) (cell placeAt checkAt place) (closing (front p v place)))
         ∙ drop-at (head p ++ v) _ placeAt (length-value-end p v k)
 
     place-is : field placeAt checkAt s ≡ place
     place-is = ap (λ (t : List ℕ). number (take 4 t)) from-place ∙ number-bytes 4 place (omega arith)
 
     end-zero : getD s spareEndAt 0 ≡ 0
-    unfolding closing
     end-zero = sym (getD-drop checkAt s 2 0) ∙ ap (λ (t : List ℕ). getD t 2 0) (from-check p v place k s e)
-
-    mark-is : getD s markAt 0 ≡ endMark
-    mark-is = ap (λ (t : List ℕ). getD t markAt 0) e ∙ last-byte p v place k
 
     word-is : field checkAt spareEndAt s ≡ check (part kindAt checkAt s)
     word-is = ap (λ (t : List ℕ). number (take 2 t)) (from-check p v place k s e) ∙ closing-word (take checkAt s)
@@ -131,7 +126,7 @@ module _ (s : List ℕ) (l : length s ≡ pageSize) (b : AreBytes s) where
           let p = fieldsOf s in
           let v = valueOf s in
           and-both _ _
-          (and-both _ _ (and-both _ _ (and-both _ _ (eq-eqb _ _ (mark-is p v place h k e)) (eq-eqb _ _ (place-is p v place h k e))) (eq-eqb _ _ (spare-zero p v place h k e))) (eq-eqb _ _ (end-zero p v place h k e)))
+          (and-both _ _ (and-both _ _ (and-both _ _ (eq-eqb _ _ (mark-is p v place k s e)) (eq-eqb _ _ (place-is p v place h k e))) (eq-eqb _ _ (spare-zero p v place h k e))) (eq-eqb _ _ (end-zero p v place h k e)))
           (and-both _ _ (t .0) (eq-eqb _ _ (word-is p v place h k e)))
 
   -- an answer by the cheap tests is the answer

@@ -17,10 +17,10 @@ use Rattle.page.specs.declared.Page.{Page}
 use Rattle.page.specs.declared.Unpacked.the-variants.{Blank, Torn, Unfit}
 use Rattle.page.specs.declared.Packing.{Packing}
 use Rattle.page.specs.Layout.{kindAt, placeAt, checkAt, spareEndAt, markAt, pageSize, endMark, valueSize}
-use Rattle.page.specs.Table.{cell, head, front, packed, field, fieldsOf, valueOf, lowest, highest, within, meetsRules, isPageOf, fits, torn}
+use Rattle.page.specs.Table.{cell, head, front, closing, packed, field, fieldsOf, valueOf, lowest, highest, within, meetsRules, isPageOf, fits, torn}
 use Rattle.page.specs.Answers.{inBounds, byKind, tested, packs, cut}
 use Rattle.page.proofs.Rules.{within-both, Between, between-true, InBounds, in-bounds, are-in-bounds}
-use Rattle.page.proofs.OneByte.{length-front, fits-packed}
+use Rattle.page.proofs.OneByte.{length-front, mark-is, fits-packed}
 
 -- ---- numbers that fit the bytes of their field
 
@@ -58,9 +58,6 @@ module _ (p : Page) (value : List ℕ) (place files : ℕ) (q : InBounds pageSiz
 
 -- ---- a page that was packed
 
-first-of : (s a b c d : List ℕ) (n : ℕ) → length s ≡ n → take n (s ++ a ++ b ++ c ++ d) ≡ s
-first-of s a b c d n l = simp append-assoc (take-at s (a ++ (b ++ (c ++ d))) n l)
-
 module _ (p : Page) (value : List ℕ) (place : ℕ) (l : length value ≡ valueSize) where
   pub length-packed : length (packed p value place) ≡ pageSize
   unfolding packed
@@ -68,13 +65,12 @@ module _ (p : Page) (value : List ℕ) (place : ℕ) (l : length value ≡ value
 
   pub value-back : valueOf (packed p value place) ≡ value
   unfolding packed front head
-  value-back = first-of value (cell placeAt checkAt place) (cell checkAt spareEndAt (check (front p value place))) (cell spareEndAt markAt 0) (cell markAt pageSize endMark) 32 l
+  value-back =
+      ap (take valueSize) (append-assoc value (cell placeAt checkAt place) (closing (front p value place)))
+      ∙ take-at value (cell placeAt checkAt place ++ closing (front p value place)) valueSize l
 
   pub last-byte : getD (packed p value place) markAt 0 ≡ endMark
-  unfolding packed
-  last-byte =
-      getD-at (front p value place ++ cell checkAt spareEndAt (check (front p value place)) ++ cell spareEndAt markAt 0) endMark [] 0 markAt
-      (simp length-append (omega (arith, length-front p value place l)))
+  last-byte = mark-is p value place l (packed p value place) refl
 
   -- the fields come back
   pub fields-back : InWidths p → fieldsOf (packed p value place) ≡ p

@@ -11,14 +11,13 @@ use lib.ListN.{length, getD, set, length-set}
 use lib.Seq.{getD-set-same, getD-set-other}
 use Rattle.encoding.proofs.Logic.{is-false, and-true}
 use Rattle.encoding.proofs.Numbers.{number-byte}
-use Rattle.encoding.proofs.Parts.{length-part}
 use Rattle.page.specs.declared.Unpacked.the-variants.{Refused, Torn, Unfit}
-use Rattle.page.specs.Layout.{kindAt, valueAt, placeAt, markAt, pageSize, endMark}
+use Rattle.page.specs.Layout.{kindAt, markAt, pageSize, endMark}
 use Rattle.page.specs.Table.{fieldsOf, valueOf, meetsRules, isPageOf, fits}
 use Rattle.page.specs.Answers.{inBounds, tested, isFitPage}
 use Rattle.page.proofs.Rules.{InBounds}
-use Rattle.page.proofs.OneByte.{fits-packed, one-byte}
-use Rattle.page.proofs.RoundTrip.{ruled, last-byte, torn-tested}
+use Rattle.page.proofs.OneByte.{fits-marked, one-byte}
+use Rattle.page.proofs.RoundTrip.{ruled, torn-tested}
 use Rattle.page.proofs.Quick.{marked-tested}
 use Rattle.page.proofs.Found.{told-fits, told-fields}
 
@@ -38,9 +37,7 @@ module _ (s : List ℕ) (place files : ℕ) (h : isFitPage (tested s place files
       (omega arith, omega arith)
 
   mark-is : getD s markAt 0 ≡ endMark
-  mark-is =
-      ap (λ (t : List ℕ). getD t markAt 0) (fits-packed s place files fit)
-      ∙ last-byte (fieldsOf s) (valueOf s) place (length-part valueAt placeAt s (omega (arith, long)))
+  mark-is = fits-marked s place files fit long
 
   -- for another file count it is the same page, or none
   pub other-count : (files′ : ℕ) → tested s place files′ ≡ cond (inBounds (length s) place files′) (cond (fits s place files′) (tested s place files) Unfit) Refused

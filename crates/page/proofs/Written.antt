@@ -9,6 +9,7 @@ use Rattle.encoding.specs.Bytes.{check}
 use Rattle.page.specs.declared.Page.{Page}
 use Rattle.page.specs.Layout.{valueAt, placeAt, checkAt, spareEndAt, markAt, pageSize, endMark}
 use Rattle.page.specs.Table.{cell, head, front, packed}
+use Rattle.page.proofs.OneByte.{by-field}
 
 pub written : (p : Page) (value : List ℕ) (place word : ℕ) (o1 o2 o3 o4 o5 o6 : List ℕ)
     → take valueAt o1 ≡ head p
@@ -20,6 +21,6 @@ pub written : (p : Page) (value : List ℕ) (place word : ℕ) (o1 o2 o3 o4 o5 o
     → take pageSize o6 ≡ take markAt o5 ++ cell markAt pageSize endMark
     → length o6 ≡ pageSize
     → o6 ≡ packed p value place
-unfolding packed front
+unfolding front
 written p value place word o1 o2 o3 o4 o5 o6 e1 e2 e3 ew e4 e5 e6 l =
-    sym (take-all pageSize o6 (omega arith)) ∙ rw (e6, e5, e4, ew, e3, e2, e1)
+    sym (take-all pageSize o6 (omega arith)) ∙ rw (e6, e5, e4, ew, e3, e2, e1) (sym (by-field p value place))

@@ -31,13 +31,13 @@ head p =
 unfoldable pub front : Page → List ℕ → ℕ → List ℕ
 front p value place = head p ++ value ++ cell placeAt checkAt place
 
+-- bytes 60 to 63, by those before them: the check word, a spare byte and the end mark
+abbrev pub closing : List ℕ → List ℕ
+closing s = cell checkAt spareEndAt (check s) ++ cell spareEndAt markAt 0 ++ cell markAt pageSize endMark
+
 -- all 64
 unfoldable pub packed : Page → List ℕ → ℕ → List ℕ
-packed p value place =
-    front p value place
-    ++ cell checkAt spareEndAt (check (front p value place))
-    ++ cell spareEndAt markAt 0
-    ++ cell markAt pageSize endMark
+packed p value place = front p value place ++ closing (front p value place)
 
 -- ---- the fields read back
 
