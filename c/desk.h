@@ -51,11 +51,10 @@ enum { DESK_PACKED = 0, DESK_PACK_REFUSED = 1, DESK_NO_SUCH_PAGE = 2 };
 
    DESK_FITS          the page is whole; its six numbers are at fields, in desk_pack's order; its value is at part + 24
    DESK_TEST_REFUSED  part_len is not 64, fields_len not 6, place not 1 to 65,536 or files not 1 to 256
-   DESK_UNFIT         none of the others
+   DESK_UNFIT         none of the others: so also a page that fitted until one of its bytes became another, unless that is byte 63, and 0
    DESK_BLANK         all bytes are 0
-   DESK_TORN          the supply was cut while it was stored
-   Unless DESK_FITS is answered, fields are untouched. A page that fits, and of which one byte then becomes another, is DESK_UNFIT for
-   every file count, or DESK_TORN if its byte 63 became 0. */
+   DESK_TORN          the supply was cut while it was stored, or its byte 63 became 0
+   Unless DESK_FITS is answered, fields are untouched. */
 uint64_t desk_test(const uint8_t *part, size_t part_len, uint64_t place, uint64_t files, uint64_t *fields, size_t fields_len);
 enum { DESK_FITS = 0, DESK_TEST_REFUSED = 1, DESK_UNFIT = 2, DESK_BLANK = 3, DESK_TORN = 4 };
 

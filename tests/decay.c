@@ -7,24 +7,29 @@
 
 enum { CHANGES = 64 * 255, RANDOM_PAGES = 100000, RANDOM_SHEETS = 20000 };
 
-/* Whether each other value of each byte of a page has what it should have; the byte is put back. */
-static int each_change(uint8_t *page, int (*is_right)(uint64_t place, int is_torn), uint64_t place) {
-    int right = 0;
+/* What is expected of a page at a place, once a byte of it is spoiled; `zeroed` if that is byte 63, and it became 0. */
+typedef int (*claim)(uint64_t place, int zeroed);
+
+/* Whether each other value of each byte of a page is as claimed; the byte is put back. */
+static int each_change(uint8_t *page, uint64_t place, claim is_right) {
+    int changes = 0;
     for (int i = 0; i < PAGE; i++)
-        for (int step = 1; step < 256; step++) {
-            uint8_t was = page[i];
-            page[i] = (uint8_t)(was + step);
-            right += is_right(place, i == 63 && page[i] == 0);
+        for (int step = 1; step < 256; step++, changes++) {
+            uint8_t was = page[i], now = (uint8_t)(was + step);
+            page[i] = now;
+            int right = is_right(place, i == 63 && now == 0);
             page[i] = was;
+            if (!right)
+                return printf("place %llu: byte %d from %d to %d\n", (unsigned long long)place, i, was, now), 0;
         }
-    return right == CHANGES;
+    return changes == CHANGES;
 }
 
-/* A byte becomes another one, often 0: a random one, or the end mark. Answers its number. */
+/* A byte becomes another one, often 0: a random one, or the end mark. Answers whether that became 0. */
 static int spoil(uint8_t *page) {
     int i = below(8) ? (int)below(PAGE) : 63;
     page[i] = below(2) && page[i] ? 0 : (uint8_t)(page[i] + 1 + below(255));
-    return i;
+    return i == 63 && page[i] == 0;
 }
 
 /* ---- pages */
@@ -69,56 +74,59 @@ static uint64_t tested(uint64_t place, uint64_t files) {
     return answer == DESK_FITS || !memcmp(fields, none, sizeof none) ? answer : UINT64_MAX;
 }
 
-/* Alike for every file count; 0 and 257 are none. */
-static int is_spoiled(uint64_t place, int is_torn) {
-    static const uint64_t counts[] = {1, 8, 255, 256};
-    for (size_t i = 0; i < sizeof counts / sizeof *counts; i++)
-        if (tested(place, counts[i]) != (is_torn ? DESK_TORN : DESK_UNFIT))
+/* Alike for the file counts 1 to 256, all or, by a step of 85, four of them; 0 and 257 are none. */
+static uint64_t count_step;
+
+static int is_spoiled(uint64_t place, int zeroed) {
+    for (uint64_t files = 1; files <= 256; files += count_step)
+        if (tested(place, files) != (zeroed ? DESK_TORN : DESK_UNFIT))
             return 0;
     return tested(place, 0) == DESK_TEST_REFUSED && tested(place, 257) == DESK_TEST_REFUSED;
 }
 
 static int pages_are_spoiled(int k) {
     static const uint64_t places[] = {1, 2, 255, 256, 1000, 65535, 65536};
-    for (size_t i = each_kind[k].kind != 1; i < sizeof places / sizeof *places; i++)
-        if (!pack_any(page, k, places[i], 256) || tested(places[i], 256) != DESK_FITS || !each_change(page, is_spoiled, places[i]))
+    for (size_t i = each_kind[k].kind != 1; i < sizeof places / sizeof *places; i++) {
+        count_step = places[i] == 1000 ? 1 : 85;
+        if (!pack_any(page, k, places[i], 256) || tested(places[i], 256) != DESK_FITS || !each_change(page, places[i], is_spoiled))
             return 0;
+    }
     return 1;
 }
 
 static int random_pages_are_spoiled(void) {
-    int torn = 0;
+    int all_zeroed = 0;
+    count_step = 85;
     for (int n = 0; n < RANDOM_PAGES; n++) {
         uint64_t place = 1 + below(below(2) ? 20 : 65536), files = 1 + below(256);
         if (!pack_any(page, place == 1 ? 0 : (int)below(KINDS), place, files) || tested(place, files) != DESK_FITS)
             return 0;
-        int i = spoil(page), is_torn = i == 63 && page[i] == 0;
-        if (!is_spoiled(place, is_torn))
+        int zeroed = spoil(page);
+        if (!is_spoiled(place, zeroed))
             return 0;
-        torn += is_torn;
+        all_zeroed += zeroed;
     }
-    return torn > RANDOM_PAGES / 100;
+    return all_zeroed > RANDOM_PAGES / 100;
 }
 
 /* ---- sheets */
 
-/* What open and inspect name, 0 for nothing; all that open leaves, and the highest start, are as the plain ones say. */
+/* What open and inspect name, 0 for nothing; and whether all that open leaves, and the highest start, are as the plain ones say. */
 struct named {
     uint64_t open, inspect;
+    int alike;
 };
-static int are_alike;
 
 static struct named ask(void) {
     struct kept was, left;
-    uint64_t a[TOLD];
+    uint64_t a[TOLD], lowest = desk_inspect(sheet, PAGE * pages, file_count);
     memset(&was, UNTOUCHED, sizeof was);
     was.floor = 9;
     left = was;
     plain_open(a, &left);
-    struct named n = {a[WHICH] == REFUSED && a[FIRST] == 2 ? a[SECOND] : 0, desk_inspect(sheet, PAGE * pages, file_count)};
-    are_alike = called_alike((struct call){.kind = OPEN}, sheet, was, a, &left) && n.inspect == inspected()
+    int alike = called_alike((struct call){.kind = OPEN}, sheet, was, a, &left) && lowest == inspected()
                 && door_highest_start(sheet, PAGE * pages, file_count) == highest_start(pages, file_count);
-    return n;
+    return (struct named){a[WHICH] == REFUSED && a[FIRST] == 2 ? a[SECOND] : 0, lowest, alike};
 }
 
 /* A sheet with pages of each kind: an action over three files, committed; another on the first of them, aborted; one that has nothing yet;
@@ -134,33 +142,34 @@ static int pack_sheet(void) {
 }
 
 /* For a file count by which the sheet is lawful. Inspect names the spoiled page; open too, but of an opening the last page of its action.
-   With byte 63 at 0, open refuses only if it was the opening of other pages, and inspect only where a later page does not fit any more. */
+   With byte 63 at 0, open names something only of the opening of other pages, and inspect only a later page that goes on no more. */
 static const struct {
-    uint64_t open;
-    struct named torn;
-} names[USED + 1] = {[1] = {5, {5, 2}}, [2] = {2, {0, 7}}, [3] = {3, {0, 0}}, [4] = {4, {0, 0}}, [5] = {5, {0, 7}},
-                     [6] = {8, {8, 7}}, [7] = {7, {0, 0}}, [8] = {8, {0, 0}}, [9] = {9, {0, 0}}};
+    uint64_t open, zeroed_open, zeroed_inspect;
+} names[USED + 1] = {[1] = {5, 5, 2}, [2] = {2, 0, 7}, [3] = {3, 0, 0}, [4] = {4, 0, 0}, [5] = {5, 0, 7},
+                     [6] = {8, 8, 7}, [7] = {7, 0, 0}, [8] = {8, 0, 0}, [9] = {9, 0, 0}};
 
-static int is_named(uint64_t place, int is_torn) {
-    struct named n = ask(), expected = is_torn ? names[place].torn : (struct named){names[place].open, place};
-    return are_alike && n.open == expected.open && n.inspect == expected.inspect;
+static int is_named(uint64_t place, int zeroed) {
+    struct named n = ask();
+    return n.alike && n.open == (zeroed ? names[place].zeroed_open : names[place].open)
+           && n.inspect == (zeroed ? names[place].zeroed_inspect : place);
 }
 
-/* For any file count, on any sheet. */
-static int holds(struct named n, uint64_t place, int is_torn) {
-    return are_alike && (is_torn || (n.open >= place && n.inspect >= 1 && n.inspect <= place));
+/* On any sheet, for any file count. */
+static int holds(struct named n, uint64_t place, int zeroed) {
+    return n.alike && (zeroed || (n.open >= place && n.inspect >= 1 && n.inspect <= place));
 }
-static int is_refused(uint64_t place, int is_torn) { return holds(ask(), place, is_torn); }
+static int is_refused(uint64_t place, int zeroed) { return holds(ask(), place, zeroed); }
 
-static int sheet_is_spoiled(uint64_t files, int (*is_right)(uint64_t place, int is_torn)) {
+/* Every page that is sealed for so many files. For one file pages 3 and 4 are bad before. */
+static int sheet_is_spoiled(uint64_t files, int is_lawful, claim is_right) {
     file_count = files;
     if (!pack_sheet())
         return 0;
     struct named before = ask();
-    if (!are_alike || (is_right == is_named && (before.open || before.inspect)))
+    if (!before.alike || before.open != (is_lawful ? 0 : 4) || before.inspect != (is_lawful ? 0 : 3))
         return 0;
     for (uint64_t p = 1; p <= USED; p++)
-        if (!each_change(page_at(p), is_right, p))
+        if (is_sealed(p) && !each_change(page_at(p), p, is_right))
             return 0;
     return 1;
 }
@@ -179,7 +188,7 @@ static void fill_random(void) {
 }
 
 /* What must come: byte 63 at 0, with open refused or not; else open names a higher place, the page itself, and inspect a lower place. */
-enum { TORN_OPENS, TORN_REFUSED, OPEN_HIGHER, OPEN_HERE, INSPECT_LOWER, SORTS };
+enum { ZEROED_OPENS, ZEROED_REFUSED, OPEN_HIGHER, OPEN_HERE, INSPECT_LOWER, SORTS };
 
 /* One byte of each sealed page in turn. */
 static int pages_are_refused(int sorts[SORTS]) {
@@ -188,12 +197,12 @@ static int pages_are_refused(int sorts[SORTS]) {
         if (!is_sealed(p))
             continue;
         memcpy(was, page_at(p), PAGE);
-        int i = spoil(page_at(p)), is_torn = i == 63 && page_at(p)[i] == 0;
+        int zeroed = spoil(page_at(p));
         struct named n = ask();
-        if (!holds(n, p, is_torn))
+        if (!holds(n, p, zeroed))
             return 0;
-        sorts[is_torn ? n.open ? TORN_REFUSED : TORN_OPENS : n.open > p ? OPEN_HIGHER : OPEN_HERE]++;
-        sorts[INSPECT_LOWER] += !is_torn && n.inspect < p;
+        sorts[zeroed ? n.open ? ZEROED_REFUSED : ZEROED_OPENS : n.open > p ? OPEN_HIGHER : OPEN_HERE]++;
+        sorts[INSPECT_LOWER] += !zeroed && n.inspect < p;
         memcpy(page_at(p), was, PAGE);
     }
     return 1;
@@ -221,9 +230,9 @@ int main(int count, char **words) {
         told(name, pages_are_spoiled(k));
     }
     told("a byte of random pages", random_pages_are_spoiled());
-    told("every byte of a sheet's pages, open and inspect", sheet_is_spoiled(3, is_named));
-    told("every byte of a sheet's pages, for more files", sheet_is_spoiled(MOST_FILES, is_named));
-    told("every byte of a sheet's pages, for too few files", sheet_is_spoiled(1, is_refused));
+    told("every byte of a sheet's pages, open and inspect", sheet_is_spoiled(3, 1, is_named));
+    told("every byte of a sheet's pages, for more files", sheet_is_spoiled(MOST_FILES, 1, is_named));
+    told("every byte of a sheet's pages, for too few files", sheet_is_spoiled(1, 0, is_refused));
     told("a byte of random sheets, open and inspect", random_sheets_are_spoiled());
     printf("%d passed, %d failed\n", passed, failed);
     return failed != 0;

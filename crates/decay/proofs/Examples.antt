@@ -16,6 +16,7 @@ use Rattle.recovery.specs.Log.{fateOf, imagesOf, notBy, effective, versionsOf, 
 use Rattle.recovery.specs.Sheet.{pageBytes, decoded, sealed, pages}
 use Rattle.recovery.specs.World.{down, endOf, highestBad, undecidedOf, coldRows, warmRow, rowHolds, lentRight, rebuilt, opened}
 use Rattle.recovery.specs.Lent.{rowLength, rowsOf, flat, Left, refused, closed, openLeaves, rebuildLeaves, sizesRight}
+use Rattle.recovery.specs.declared.Answer.{Answer}
 use Rattle.recovery.specs.declared.Answer.the-variants.{Refused, Opened, Rebuilt}
 use Rattle.inspection.specs.declared.Inspected.the-variants.{Lowest}
 use Rattle.inspection.specs.Lawful.{lowestUnlawful}
@@ -45,38 +46,62 @@ pub as-stored : pages 2 4 change ≡ log.opening ∷ seven ∷ eight ∷ log.out
 unfolding packed head front fieldsOf lowest highest within between meetsRules isPageOf torn inBounds tested tabulate decoded sealed pages
 as-stored = refl
 
+pub is-lawful : inspected change 2 ≡ Lowest 0
+unfolding packed head front fieldsOf lowest highest within between meetsRules isPageOf torn inBounds tested tabulate fateOf imagesOf notBy effective versionsOf tokenOf decoded sealed pages down endOf lowestUnlawful inspectable inspected
+is-lawful = refl
+
 -- ---- the verdict of the outcome, from committed to aborted: the page is bad, and no abort
+
+abbrev other-verdict : List ℕ
+other-verdict = spoiled change 4 1 2
 
 to-two : OtherByte (pageBytes change 4) 1 2
 unfolding packed head front
 to-two = record { inside = omega arith; old = omega arith; new = omega arith; other = λ e. omega arith }
 
-pub verdict-met : Spoiled change 2 4 1 2
+verdict-met : Spoiled change 4 1 2
 unfolding packed head front fieldsOf lowest highest within between meetsRules isPageOf torn inBounds tested decoded sealed
 verdict-met = decay .sheet-spoiled change 2 4 1 2 refl to-two
 
-pub verdict-bad : pages 2 4 (spoiled change 4 1 2) ≡ log.opening ∷ seven ∷ eight ∷ log.bad ∷ []
-unfolding packed head front fieldsOf lowest highest within between meetsRules isPageOf torn inBounds tested tabulate decoded sealed pages
-verdict-bad = refl
+pub torn-or-bad-met : sealed 256 other-verdict 4 ≡ log.bad
+unfolding within
+torn-or-bad-met = verdict-met .torn-or-bad 256 refl
 
-pub not-opened-met : (p : ℕ) × (4 ≤ p) × (opens (spoiled change 4 1 2) ≡ refused 2 p (spoiled change 4 1 2) (replicate 4 0) (replicate (rowLength * 2) 0) closed)
+pub others-stay-met : sealed 9 other-verdict 3 ≡ sealed 9 change 3
+unfolding packed head front fieldsOf lowest highest within between meetsRules isPageOf torn inBounds tested decoded sealed
+others-stay-met = verdict-met .others-stay 3 9 (λ e. omega arith) refl
+
+pub not-opened-met : (p : ℕ) × (4 ≤ p) × (opens other-verdict ≡ refused 2 p other-verdict (replicate 4 0) (replicate (rowLength * 2) 0) closed)
 unfolding packed head front sizesRight
 not-opened-met = verdict-met .not-opened refl (replicate 4 0) (replicate (rowLength * 2) 0) 0 refl
 
-pub not-lawful-met : (p : ℕ) × (1 ≤ p) × (p ≤ 4) × (inspected (spoiled change 4 1 2) 2 ≡ Lowest p)
+pub not-lawful-met : (p : ℕ) × (1 ≤ p) × (p ≤ 4) × (inspected other-verdict 2 ≡ Lowest p)
 unfolding packed head front inspectable
 not-lawful-met = verdict-met .not-lawful refl 2 refl
 
-pub verdict-named : (opens (spoiled change 4 1 2) .answer ≡ Refused 2 4) × (inspected (spoiled change 4 1 2) 2 ≡ Lowest 4)
-unfolding packed head front fieldsOf lowest highest within between meetsRules isPageOf torn inBounds tested tabulate fateOf imagesOf notBy effective versionsOf tokenOf decoded sealed pages down endOf highestBad rowsOf opened openLeaves lowestUnlawful inspectable inspected
-verdict-named = (refl, refl)
+pub named-met : inspected other-verdict 2 ≡ Lowest 4
+named-met = verdict-met .named refl 2 is-lawful
 
--- the page test on the page that pack wrote
-pub packed-met : tested (pageBytes (spoiled change 4 1 2) 4) 4 256 ≡ Unfit
+-- the page test on the page that pack wrote, by its bytes and by what pack was given
+pub page-spoiled-met : tested (pageBytes other-verdict 4) 4 256 ≡ Unfit
+unfolding packed head front fieldsOf lowest highest within between meetsRules isPageOf torn inBounds tested
+page-spoiled-met = decay .page-spoiled (pageBytes change 4) 4 2 256 1 2 refl to-two refl
+
+pub packed-spoiled-met : tested (pageBytes other-verdict 4) 4 256 ≡ Unfit
 unfolding packed head front within lowest highest between meetsRules inBounds packs
-packed-met = decay .packed-spoiled (outcome 1 1) (replicate valueSize 0) (replicate pageSize 0) (pageBytes change 4) 4 2 256 1 2 refl refl to-two refl
+packed-spoiled-met = decay .packed-spoiled (outcome 1 1) (replicate valueSize 0) (replicate pageSize 0) (pageBytes change 4) 4 2 256 1 2 refl refl to-two refl
 
--- ---- the opening: all that the action did is bad, and open names the highest of it, inspect the opening itself
+-- and computed
+pub verdict-bad : (pages 2 4 other-verdict ≡ log.opening ∷ seven ∷ eight ∷ log.bad ∷ []) × (opens other-verdict .answer ≡ Refused 2 4)
+unfolding packed head front fieldsOf lowest highest within between meetsRules isPageOf torn inBounds tested tabulate decoded sealed pages down endOf highestBad rowsOf opened openLeaves
+verdict-bad = (refl, refl)
+
+-- the kind at 0 is bad too, and not blank
+pub kind-bad : sealed 2 (spoiled change 4 0 0) 4 ≡ log.bad
+unfolding packed head front fieldsOf lowest highest within between meetsRules isPageOf torn inBounds tested decoded sealed
+kind-bad = refl
+
+-- ---- the opening: all that the action did is bad; open names the highest of it, inspect the opening itself
 
 to-one : OtherByte (pageBytes change 1) 59 1
 unfolding packed head front
@@ -84,38 +109,64 @@ to-one = record { inside = omega arith; old = omega arith; new = omega arith; ot
 
 pub action-bad-met : sealed 9 (spoiled change 1 59 1) 3 ≡ log.bad
 unfolding packed head front fieldsOf lowest highest within between meetsRules isPageOf torn inBounds tested decoded sealed
-action-bad-met = decay .sheet-spoiled change 2 1 59 1 refl to-one .action-bad 3 9 refl
+action-bad-met = decay .sheet-spoiled change 2 1 59 1 refl to-one .action-bad 3 2 9 refl
 
 pub opening-spoiled : (opens (spoiled change 1 59 1) .answer ≡ Refused 2 4) × (inspected (spoiled change 1 59 1) 2 ≡ Lowest 1)
 unfolding packed head front fieldsOf lowest highest within between meetsRules isPageOf torn inBounds tested tabulate fateOf imagesOf notBy effective versionsOf tokenOf decoded sealed pages down endOf highestBad rowsOf opened openLeaves lowestUnlawful inspectable inspected
 opening-spoiled = (refl, refl)
 
--- and so it is if its end mark is gone
-pub opening-torn : (sealed 2 (spoiled change 1 markAt 0) 1 ≡ log.torn) × (opens (spoiled change 1 markAt 0) .answer ≡ Refused 2 4)
-unfolding packed head front fieldsOf lowest highest within between meetsRules isPageOf torn inBounds tested tabulate decoded sealed pages down endOf highestBad rowsOf opened openLeaves
-opening-torn = (refl, refl)
+-- with its end mark at 0 it is torn, and inspect names the lowest page of the action
+pub opening-torn : (sealed 2 (spoiled change 1 markAt 0) 1 ≡ log.torn)
+    × (opens (spoiled change 1 markAt 0) .answer ≡ Refused 2 4) × (inspected (spoiled change 1 markAt 0) 2 ≡ Lowest 2)
+unfolding packed head front fieldsOf lowest highest within between meetsRules isPageOf torn inBounds tested tabulate fateOf imagesOf notBy effective versionsOf tokenOf decoded sealed pages down endOf highestBad rowsOf opened openLeaves lowestUnlawful inspectable inspected
+opening-torn = (refl, refl, refl)
 
--- ---- the end mark of the second image, byte 63, at 0: open and inspect find nothing, and the action shows without it. So what is said of
--- open and inspect needs its premise
+-- ---- the end mark of the second image at 0: open and inspect find nothing, and the action shows without it. So what is said of open and
+-- inspect needs its premise
 
 abbrev halved : List ℕ
 halved = spoiled change 3 markAt 0
 
-pub image-torn : pages 2 4 halved ≡ log.opening ∷ seven ∷ log.torn ∷ log.outcome 1 true ∷ []
-unfolding packed head front fieldsOf lowest highest within between meetsRules isPageOf torn inBounds tested tabulate decoded sealed pages
-image-torn = refl
+to-zero : OtherByte (pageBytes change 3) markAt 0
+unfolding packed head front
+to-zero = record { inside = omega arith; old = omega arith; new = omega arith; other = λ e. omega arith }
+
+pub torn-met : sealed 2 halved 3 ≡ log.torn
+unfolding packed head front fieldsOf lowest highest within between meetsRules isPageOf torn inBounds tested decoded sealed
+torn-met = decay .sheet-spoiled change 2 3 markAt 0 refl to-zero .torn-or-bad 2 refl
 
 pub unseen : (opens halved .answer ≡ Opened 4 0) × (inspected halved 2 ≡ Lowest 0)
 unfolding packed head front fieldsOf lowest highest within between meetsRules isPageOf torn inBounds tested tabulate fateOf imagesOf notBy effective versionsOf tokenOf decoded sealed pages down endOf highestBad undecidedOf rowsOf opened openLeaves lowestUnlawful inspectable inspected
 unseen = (refl, refl)
 
--- the rows of the two files after that opening: file 1 has its version, file 2 has none
-abbrev rebuilds : ℕ → Left
-rebuilds file = rebuildLeaves halved (opens halved .fates) (opens halved .rows) (opens halved .state) file
+-- what rebuild answers of a file on a sheet, opened as it was before
+abbrev rebuilds : List ℕ → List ℕ → ℕ → Answer
+rebuilds before s file = rebuildLeaves s (opens before .fates) (opens before .rows) (opens before .state) file .answer
 
-pub half-shown : (rebuilds 1 .answer ≡ Rebuilt 2 10 0 0 0) × (rebuilds 2 .answer ≡ Rebuilt 0 0 0 0 0)
-unfolding packed head front fieldsOf lowest highest within between meetsRules isPageOf torn inBounds tested tabulate fateOf imagesOf notBy effective versionsOf tokenOf decoded sealed pages down endOf highestBad undecidedOf rowsOf flat coldRows opened openLeaves warmRow rowHolds lentRight rebuilt rebuildLeaves
+-- after that opening file 1 has its version, and file 2 has none
+pub half-shown : (rebuilds halved halved 1 ≡ Rebuilt 2 10 0 0 0) × (rebuilds halved halved 2 ≡ Rebuilt 0 0 0 0 0)
+unfolding packed head front fieldsOf lowest highest within between meetsRules isPageOf torn inBounds tested tabulate fateOf imagesOf notBy effective versionsOf tokenOf decoded sealed pages down endOf highestBad undecidedOf rowsOf opened openLeaves flat coldRows warmRow rowHolds lentRight rebuilt rebuildLeaves
 half-shown = (refl, refl)
+
+-- ---- the same of an image that mends another: the mistyped one, which it overtook, is the version again
+
+abbrev mended : List ℕ
+mended =
+    packed (opening 1) (replicate valueSize 0) 1
+    ++ packed (image 1 1 1 0 100) (7 ∷ replicate 31 0) 2
+    ++ packed (image 1 1 1 0 10) (8 ∷ replicate 31 0) 3
+    ++ packed (outcome 1 1) (replicate valueSize 0) 4
+
+pub mistyped-again : (rebuilds mended mended 1 ≡ Rebuilt 3 10 0 0 0)
+    × (rebuilds (spoiled mended 3 markAt 0) (spoiled mended 3 markAt 0) 1 ≡ Rebuilt 2 100 0 0 0) × (inspected (spoiled mended 3 markAt 0) 2 ≡ Lowest 0)
+unfolding packed head front fieldsOf lowest highest within between meetsRules isPageOf torn inBounds tested tabulate fateOf imagesOf notBy effective versionsOf tokenOf decoded sealed pages down endOf highestBad undecidedOf rowsOf opened openLeaves flat coldRows warmRow rowHolds lentRight rebuilt rebuildLeaves lowestUnlawful inspectable inspected
+mistyped-again = (refl, refl, refl)
+
+-- ---- a byte that is spoiled while the sheet is open, here of the second image's value: a row that is rebuilt then goes on without the page
+
+pub while-open : rebuilds change (spoiled change 3 valueAt 9) 2 ≡ Rebuilt 0 0 0 0 0
+unfolding packed head front fieldsOf lowest highest within between meetsRules isPageOf torn inBounds tested tabulate fateOf imagesOf notBy effective versionsOf tokenOf decoded sealed pages down endOf highestBad undecidedOf rowsOf opened openLeaves flat coldRows warmRow rowHolds lentRight rebuilt rebuildLeaves
+while-open = refl
 
 -- ---- two bytes: a value that begins with 0 and 14 becomes one that begins with 255 and 0, and nobody can tell. So the theorem is of one byte
 

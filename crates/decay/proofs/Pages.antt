@@ -1,22 +1,19 @@
--- One spoiled byte of a page that fits, or was packed: torn where byte 63 became 0, else unfit. Assumes nothing.
+-- One spoiled byte of a page that fits: torn where byte 63 became 0, else unfit. Assumes nothing.
 use Prim.Native.Nat.{ℕ}
-use mathlib.Core.Path.{_≡_, refl, ap, _∙_}
+use mathlib.Core.Path.{_≡_, refl}
 use mathlib.Core.Bool.{Bool, true, false, cond, _&&_}
 use mathlib.Core.List.{List}
 use borrow.Author.Tests.{eqb-true, eqb-false}
 use lib.Dec.{eqb}
 use lib.ListN.{length, set}
-use Rattle.page.specs.declared.Page.{Page}
-use Rattle.page.specs.declared.Unpacked.the-variants.{Torn, Unfit, Opening, Image, Outcome}
-use Rattle.page.specs.declared.Packing.{Packing}
-use Rattle.page.specs.Layout.{markAt, mostFiles, valueSize}
+use Rattle.page.specs.declared.Unpacked.the-variants.{Torn, Unfit}
+use Rattle.page.specs.Layout.{markAt, mostFiles}
 use Rattle.page.specs.Table.{within}
-use Rattle.page.specs.Answers.{inBounds, tested, isFitPage, packs}
+use Rattle.page.specs.Answers.{inBounds, tested, isFitPage}
 use Rattle.page.proofs.Rules.{InBounds, within-true, are-in-bounds}
-use Rattle.page.proofs.RoundTrip.{packed-unpacked}
 use Rattle.page.proofs.Found.{told-fits}
 use Rattle.page.proofs.Spoiled.{mark-lost, spoiled-unfit}
-use Rattle.decay.specs.Decay.{OtherByte, losesMark}
+use Rattle.decay.specs.Decay.{OtherByte, zeroesMark}
 
 module _ (s : List ℕ) (place files files′ i v : ℕ) (h : isFitPage (tested s place files) ≡ true) (c : OtherByte s i v) (w : within files′ 1 mostFiles ≡ true) where
   bounds : inBounds (length s) place files′ ≡ true
@@ -27,7 +24,7 @@ module _ (s : List ℕ) (place files files′ i v : ℕ) (h : isFitPage (tested 
   unfit : (i ≡ markAt → v ≡ 0 → ⊥) → tested (set s i v) place files′ ≡ Unfit
   unfit = spoiled-unfit s place files h files′ bounds i v (c .inside) (c .old) (c .new) (c .other)
 
-  pub page-spoiled : tested (set s i v) place files′ ≡ cond (losesMark i v) Torn Unfit
+  pub page-spoiled : tested (set s i v) place files′ ≡ cond (zeroesMark i v) Torn Unfit
   page-spoiled = go (eqb i markAt) (eqb v 0) refl refl
     where
       go : (m z : Bool) → eqb i markAt ≡ m → eqb v 0 ≡ z → tested (set s i v) place files′ ≡ cond (m && z) Torn Unfit
@@ -37,13 +34,3 @@ module _ (s : List ℕ) (place files files′ i v : ℕ) (h : isFitPage (tested 
           rw (x, y) (mark-lost s place files h files′ bounds)
       go true false e f = unfit (λ x y. eqb-false v 0 f y)
       go false z e f = unfit (λ x y. eqb-false i markAt e x)
-
--- what pack wrote fits
-pub packed-fits : (p : Page) (value out s : List ℕ) (place files : ℕ) → length value ≡ valueSize → packs p value place files out ≡ (Packing.Packed, s)
-    → isFitPage (tested s place files) ≡ true
-packed-fits p value out s place files l e = ap isFitPage (packed-unpacked p value out s place files l e .0) ∙ go (eqb (p .kind) 1) (eqb (p .kind) 2)
-  where
-    go : (a b : Bool) → isFitPage (cond a (Opening p) (cond b (Image p) (Outcome p))) ≡ true
-    go true b = refl
-    go false true = refl
-    go false false = refl

@@ -12,14 +12,15 @@ use Rattle.page.specs.declared.Unpacked.{Unpacked}
 use Rattle.page.specs.declared.Unpacked.the-variants.{Refused, Blank, Torn, Opening, Image as AnImage, Outcome, Unfit}
 use Rattle.page.specs.Layout.{pageSize, mostPlaces, mostFiles}
 use Rattle.page.specs.Table.{within, fits}
-use Rattle.page.specs.Answers.{inBounds, tested, isFitPage}
+use Rattle.page.specs.Answers.{inBounds, tested, isFitPage, isBlankPage}
 use Rattle.page.proofs.Rules.{InBounds}
 use Rattle.page.proofs.Found.{told-fits, image-is, outcome-is}
 use Rattle.page.proofs.Spoiled.{other-count}
 use Rattle.recovery.specs.Log.{Entry, blank, torn, bad, opening, image, outcome}
 use Rattle.recovery.specs.Sheet.{pageBytes, imageFrom, entryOf, isOpening, seal, decoded, sealed}
-use Rattle.recovery.proofs.Pages.{byte-here, bytes-other, sealed-is, opening-sealed}
-use Rattle.decay.specs.Decay.{isSealed, isOf, OtherByte, losesMark, spoiled}
+use Rattle.recovery.specs.World.{isBlank}
+use Rattle.recovery.proofs.Pages.{byte-here, bytes-other, sealed-is, opening-sealed, blank-sealed}
+use Rattle.decay.specs.Decay.{isSealed, isOf, OtherByte, zeroesMark, spoiled}
 use Rattle.decay.proofs.Pages.{page-spoiled}
 
 -- a page that is sealed fits
@@ -34,6 +35,15 @@ sealed-fits s files place h = go (tested (pageBytes s place) place files) (ap is
     go (AnImage p) x = refl
     go (Outcome p) x = refl
     go Unfit x = x
+
+not-blank : (u : Unpacked) → isFitPage u ≡ true → isBlankPage u ≡ false
+not-blank Refused h = refl
+not-blank Blank h = sym h
+not-blank Torn h = refl
+not-blank (Opening p) h = refl
+not-blank (AnImage p) h = refl
+not-blank (Outcome p) h = refl
+not-blank Unfit h = refl
 
 no-opening : (g : Entry) → isSealed g ≡ false → isOpening g ≡ false
 no-opening blank e = refl
@@ -99,8 +109,8 @@ module _ (s : List ℕ) (files place i v : ℕ) (was : isSealed (sealed files s 
   sealed-by files′ u e =
       sym (sealed-is t place files′ u (sym (ap (λ (b : List ℕ). tested b place files′) (byte-here s place i v (c .inside) low) ∙ e)))
 
-  pub torn-or-bad : (files′ : ℕ) → within files′ 1 mostFiles ≡ true → sealed files′ t place ≡ cond (losesMark i v) torn bad
-  torn-or-bad files′ w = go (losesMark i v) (page-spoiled (pageBytes s place) place files files′ i v fit c w)
+  pub torn-or-bad : (files′ : ℕ) → within files′ 1 mostFiles ≡ true → sealed files′ t place ≡ cond (zeroesMark i v) torn bad
+  torn-or-bad files′ w = go (zeroesMark i v) (page-spoiled (pageBytes s place) place files files′ i v fit c w)
     where
       go : (b : Bool) → tested (set (pageBytes s place) i v) place files′ ≡ cond b Torn Unfit → sealed files′ t place ≡ cond b torn bad
       go true e = sealed-by files′ Torn e
@@ -114,7 +124,7 @@ module _ (s : List ℕ) (files place i v : ℕ) (was : isSealed (sealed files s 
   not-sealed files′ = go (within files′ 1 mostFiles) refl
     where
       go : (b : Bool) → within files′ 1 mostFiles ≡ b → isSealed (sealed files′ t place) ≡ false
-      go true w = ap isSealed (torn-or-bad files′ w) ∙ by-test (λ (g : Entry). isSealed g ≡ false) (losesMark i v) (λ e. refl) (λ e. refl)
+      go true w = ap isSealed (torn-or-bad files′ w) ∙ by-test (λ (g : Entry). isSealed g ≡ false) (zeroesMark i v) (λ e. refl) (λ e. refl)
       go false w = ap isSealed (sealed-by files′ Refused (refused-out files′ w))
 
   -- ---- the other pages, for one file count
@@ -158,17 +168,24 @@ module _ (s : List ℕ) (files place i v : ℕ) (was : isSealed (sealed files s 
 
     -- ---- the pages of its action, which for another file count are the same or none
 
-    pub action-bad : (p : ℕ) → isOf place (sealed files s p) ≡ true → sealed files′ t p ≡ bad
+    pub action-bad : (p count : ℕ) → isOf place (sealed count s p) ≡ true → sealed files′ t p ≡ bad
     unfolding sealed decoded
-    action-bad p h =
-        let k : Names s files p place (tested (pageBytes s p) p files) = named-by s files p place h in
+    action-bad p count h =
+        let k : Names s count p place (tested (pageBytes s p) p count) = named-by s count p place h in
         let b : List ℕ = pageBytes s p in
         let r : ℕ → Entry = decoded files′ t in
-        ap (seal r) (decoded-other p (λ e. omega (arith, k .above))) ∙ ap (λ (u : Unpacked). seal r (entryOf b u)) (other-count b p files (k .fit-is) files′)
+        ap (seal r) (decoded-other p (λ e. omega (arith, k .above))) ∙ ap (λ (u : Unpacked). seal r (entryOf b u)) (other-count b p count (k .fit-is) files′)
         ∙ by-test (λ (u : Unpacked). seal r (entryOf b u) ≡ bad) (inBounds (length b) p files′)
         (λ x. by-test (λ (u : Unpacked). seal r (entryOf b u) ≡ bad) (fits b p files′) (λ y. k .under r no-opening-here) (λ y. refl)) (λ x. refl)
 
-    -- ---- the pages below
+    -- ---- before it was spoiled: the page was not blank, for any file count, and the pages below stay
+
+    pub used : isBlank (sealed files′ s place) ≡ false
+    used =
+        let b : List ℕ = pageBytes s place in
+        ap isBlank (sym (sealed-is s place files′ _ refl)) ∙ blank-sealed (decoded files′ s) b (tested b place files′) ∙ ap isBlankPage (other-count b place files fit files′)
+        ∙ by-test (λ (u : Unpacked). isBlankPage u ≡ false) (inBounds (length b) place files′)
+        (λ x. by-test (λ (u : Unpacked). isBlankPage u ≡ false) (fits b place files′) (λ y. not-blank (tested b place files) fit) (λ y. refl)) (λ x. refl)
 
     pub below-stays : (p : ℕ) → p < place → sealed files′ t p ≡ sealed files′ s p
     below-stays p h = others-stay p (λ e. omega arith) (is-false _ (λ e. let k = named-by s files′ p place e .above in omega arith))

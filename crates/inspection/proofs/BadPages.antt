@@ -1,91 +1,90 @@
 -- A sheet with a bad page is not lawful: inspect answers a place not above it. Shuts out an inspection that passes a damaged page over.
 -- Assumes nothing.
-use Prim.Native.Nat.{ℕ, suc, _*_, _/_, _%_, _≤_, _<_}
+use Prim.Native.Nat.{ℕ, zero, suc, pred, _*_, _/_, _%_, _≤_}
 use mathlib.Core.Path.{_≡_, refl, sym, ap, _∙_}
 use mathlib.Core.Bool.{Bool, true, false, cond, _&&_}
 use mathlib.Core.List.{List, _∷_}
 use native.Mathlib.Omega.{arith}
 use borrow.Author.Tests.{eqb-false, leb-true}
 use lib.Dec.{eqb, leb}
-use lib.ListN.{length, getD}
+use lib.ListN.{length}
 use Rattle.encoding.proofs.Logic.{by-test, and-true, clash}
 use Rattle.page.specs.Layout.{pageSize, mostPlaces, mostFiles}
 use Rattle.page.specs.Table.{within}
 use Rattle.page.proofs.Rules.{within-both}
+use Rattle.recovery.specs.Places.{nth}
 use Rattle.recovery.specs.Log.{Entry, blank, bad}
 use Rattle.recovery.specs.Sheet.{sealed}
 use Rattle.recovery.specs.World.{down, isBlank, endOf}
 use Rattle.recovery.specs.Lent.{pagesOf}
-use Rattle.recovery.proofs.Pages.{page-here, length-down}
-use Rattle.recovery.proofs.BadPages.{end-above}
+use Rattle.recovery.proofs.Pages.{page-at-place, length-down}
+use Rattle.recovery.proofs.BadPages.{used-end}
 use Rattle.inspection.specs.Lawful.{lawful, lowestUnlawful}
 use Rattle.inspection.specs.Inspected.{inspectable, inspected, inspectPlace}
 use Rattle.inspection.specs.declared.Inspected.the-variants.{Refused, Lowest}
 use Rattle.inspection.proofs.LowestUnlawful.{none-lawful, lowest-here, lowest-le, lowest-stays, lowest-cut}
 
-module _ (P : List Entry) (p : ℕ) (here : getD P p blank ≡ bad) where
-  lowest-up-to : (1 ≤ lowestUnlawful (down P (suc p))) × (lowestUnlawful (down P (suc p)) ≤ suc p)
+-- up to a bad page, and further up
+module _ (P : List Entry) where
+  lowest-up-to : (p : ℕ) → 1 ≤ p → nth blank P p ≡ bad → (1 ≤ lowestUnlawful (down P p)) × (lowestUnlawful (down P p) ≤ p)
   unfolding down lowestUnlawful
-  lowest-up-to =
+  lowest-up-to zero low here = absurd (omega arith)
+  lowest-up-to (suc q) low here =
       rw here
-      (by-test (λ (x : ℕ). (1 ≤ x) × (x ≤ suc p)) (eqb (lowestUnlawful (down P p)) 0)
-      (λ e. (omega arith, omega (arith, length-down P p)))
-      (λ e. (omega (arith, eqb-false (lowestUnlawful (down P p)) 0 e), omega (arith, lowest-le (down P p), length-down P p))))
+      (by-test (λ (x : ℕ). (1 ≤ x) × (x ≤ suc q)) (eqb (lowestUnlawful (down P q)) 0)
+      (λ e. (omega arith, omega (arith, length-down P q)))
+      (λ e. (omega (arith, eqb-false (lowestUnlawful (down P q)) 0 e), omega (arith, lowest-le (down P q), length-down P q))))
 
-  lowest-below : (e : ℕ) → p < e → (1 ≤ lowestUnlawful (down P e)) × (lowestUnlawful (down P e) ≤ suc p)
-  lowest-below e h =
-      let k = lowest-stays P (suc p) e h (lowest-up-to .0) in
-      (omega (arith, lowest-up-to), omega (arith, lowest-up-to))
+  lowest-at : (p : ℕ) → 1 ≤ p → nth blank P p ≡ bad → lawful (down P (pred p)) ≡ true → lowestUnlawful (down P p) ≡ p
+  unfolding down
+  lowest-at zero low here w = absurd (omega arith)
+  lowest-at (suc q) low here w = ap (λ (x : Entry). lowestUnlawful (x ∷ down P q)) here ∙ lowest-here bad (down P q) w refl ∙ ap suc (length-down P q)
 
-module _ (s : List ℕ) (files : ℕ) (ok : inspectable (length s) files ≡ true) where
-  pub files-within : within files 1 mostFiles ≡ true
-  unfolding inspectable
-  files-within =
-      let sized : Bool = eqb (length s % pageSize) 0 && leb pageSize (length s) && leb (length s) (mostPlaces * pageSize) in
-      let a = and-true (sized && leb 1 files) (leb files mostFiles) ok in
-      let b = and-true sized (leb 1 files) (a .0) in
-      within-both files 1 mostFiles (leb-true 1 files (b .1)) (leb-true files mostFiles (a .1))
+-- ---- what is inspected
 
-  -- the page that is bad is given by its index, one below its place
-  pub bad-unlawful : (p : ℕ) → pageSize * suc p ≤ length s → sealed files s (suc p) ≡ bad → (q : ℕ) × (1 ≤ q) × (q ≤ suc p) × (inspected s files ≡ Lowest q)
-  unfolding inspected
-  bad-unlawful p room e =
-      let n : ℕ = length s / pageSize in
-      let P : List Entry = pagesOf s files in
-      let l : p < n = omega arith in
-      let g : getD P p blank ≡ bad = page-here files n s p l ∙ e in
-      let h = lowest-below P p g (endOf P n) (end-above P p (ap isBlank g) n l) in
-      (lowestUnlawful (down P (endOf P n)), h .0, h .1, rw ok)
+module _ (s : List ℕ) (files : ℕ) where
+  abbrev sheet : List Entry
+  sheet = pagesOf s files
 
-  -- if all below it is lawful, that page itself
-  pub bad-named : (p : ℕ) → pageSize * suc p ≤ length s → sealed files s (suc p) ≡ bad → lawful (down (pagesOf s files) p) ≡ true → inspected s files ≡ Lowest (suc p)
-  unfolding inspected down
-  bad-named p room e w =
-      let n : ℕ = length s / pageSize in
-      let P : List Entry = pagesOf s files in
-      let l : p < n = omega arith in
-      let g : getD P p blank ≡ bad = page-here files n s p l ∙ e in
-      let here : lowestUnlawful (down P (suc p)) ≡ suc p =
-      ap (λ (x : Entry). lowestUnlawful (x ∷ down P p)) g ∙ lowest-here bad (down P p) w refl ∙ ap suc (length-down P p) in
-      rw ok (ap Lowest (lowest-stays P (suc p) (endOf P n) (end-above P p (ap isBlank g) n l) (omega arith) ∙ here))
+  abbrev end : ℕ
+  end = endOf sheet (length s / pageSize)
 
--- ---- a lawful sheet
+  module _ (ok : inspectable (length s) files ≡ true) where
+    pub files-within : within files 1 mostFiles ≡ true
+    unfolding inspectable
+    files-within =
+        let sized : Bool = eqb (length s % pageSize) 0 && leb pageSize (length s) && leb (length s) (mostPlaces * pageSize) in
+        let a = and-true (sized && leb 1 files) (leb files mostFiles) ok in
+        let b = and-true sized (leb 1 files) (a .0) in
+        within-both files 1 mostFiles (leb-true 1 files (b .1)) (leb-true files mostFiles (a .1))
 
-module _ (s : List ℕ) (files : ℕ) (e : inspected s files ≡ Lowest 0) where
-  pub lawful-inspectable : inspectable (length s) files ≡ true
-  unfolding inspected
-  lawful-inspectable = go (inspectable (length s) files) e
-    where
-      go : (t : Bool) → cond t (Lowest (lowestUnlawful (down (pagesOf s files) (endOf (pagesOf s files) (length s / pageSize))))) Refused ≡ Lowest 0 → t ≡ true
-      go true x = refl
-      go false x = clash cc
+    inspected-is : inspected s files ≡ Lowest (lowestUnlawful (down sheet end))
+    unfolding inspected
+    inspected-is = rw ok
 
-  -- all below a page that is not blank is lawful
-  pub lawful-below : (p : ℕ) → p < length s / pageSize → isBlank (sealed files s (suc p)) ≡ false → lawful (down (pagesOf s files) p) ≡ true
-  unfolding inspected
-  lawful-below p l b =
-      let P : List Entry = pagesOf s files in
-      let n : ℕ = length s / pageSize in
-      let up : p < endOf P n = end-above P p (ap isBlank (page-here files n s p l) ∙ b) n l in
-      let zero-is : lowestUnlawful (down P (endOf P n)) ≡ 0 = ap inspectPlace (rw lawful-inspectable at e) in
-      none-lawful (down P p) (sym (lowest-cut P p (endOf P n) (omega arith) zero-is))
+    module _ (p : ℕ) (low : 1 ≤ p) (room : pageSize * p ≤ length s) (e : sealed files s p ≡ bad) where
+      here : nth blank sheet p ≡ bad
+      here = page-at-place files (length s / pageSize) s p low (omega arith) ∙ e
+
+      stays : lowestUnlawful (down sheet end) ≡ lowestUnlawful (down sheet p)
+      stays = lowest-stays sheet p end (used-end sheet p (ap isBlank here) (length s / pageSize) (omega arith)) (lowest-up-to sheet p low here .0)
+
+      pub bad-unlawful : (q : ℕ) × (1 ≤ q) × (q ≤ p) × (inspected s files ≡ Lowest q)
+      bad-unlawful = let h = lowest-up-to sheet p low here in (lowestUnlawful (down sheet p), h .0, h .1, inspected-is ∙ ap Lowest stays)
+
+      -- if all below it is lawful, that page itself
+      pub bad-named : lawful (down sheet (pred p)) ≡ true → inspected s files ≡ Lowest p
+      bad-named w = inspected-is ∙ ap Lowest (stays ∙ lowest-at sheet p low here w)
+
+  module _ (e : inspected s files ≡ Lowest 0) where
+    -- what is lawful can be inspected, and has no place that does not fit
+    pub lawful-is : (inspectable (length s) files ≡ true) × (lowestUnlawful (down sheet end) ≡ 0)
+    unfolding inspected
+    lawful-is = go (inspectable (length s) files) e
+      where
+        go : (b : Bool) → cond b (Lowest (lowestUnlawful (down sheet end))) Refused ≡ Lowest 0 → (b ≡ true) × (lowestUnlawful (down sheet end) ≡ 0)
+        go true q = (refl, ap inspectPlace q)
+        go false q = clash cc
+
+    pub lawful-below : (p : ℕ) → p ≤ end → lawful (down sheet p) ≡ true
+    lawful-below p h = none-lawful (down sheet p) (sym (lowest-cut sheet p end h (lawful-is .1)))

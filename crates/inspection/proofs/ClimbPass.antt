@@ -7,7 +7,7 @@ use native.Mathlib.Omega.{arith}
 use native.Mathlib.Numerals.{add-one}
 use lib.ListN.{length, getD}
 use lib.Dec.{eqb, leb}
-use borrow.Author.Tests.{eqb-true, eqb-false, leb-true, leb-false, le-leb, lt-leb}
+use borrow.Author.Tests.{leb-true, leb-false, le-leb, lt-leb}
 use Rattle.encoding.proofs.Logic.{and-true, refused, passed}
 use Rattle.page.specs.declared.Unpacked.{Unpacked}
 use Rattle.page.specs.declared.Unpacked.the-variants.{Refused, Blank, Torn, Opening, Image, Outcome, Unfit}
@@ -20,6 +20,7 @@ use Rattle.recovery.specs.Sheet.{pageBytes, entryOf, isOpening, seal, decoded, 
 use Rattle.recovery.specs.World.{down, isBlank, endOf, fateNumber}
 use Rattle.recovery.specs.Lent.{pagesOf}
 use Rattle.recovery.proofs.OpeningEnds.{end-le}
+use Rattle.recovery.proofs.BadPages.{used-end}
 use Rattle.recovery.proofs.Spots.{entry-down}
 use Rattle.recovery.proofs.Pages.{page-here, page-at-place, length-down, sealed-is, opening-sealed, blank-sealed}
 use Rattle.inspection.specs.Lawful.{fitsBelow, lowestUnlawful}
@@ -118,17 +119,6 @@ module _ (s : List Entry) where
       go true e r h = r h
       go false e r h = e
 
-  pub used-end : (n p : ℕ) → p ≤ n → 1 ≤ p → isBlank (nth blank s p) ≡ false → p ≤ endOf s n
-  unfolding endOf
-  used-end zero p h k e = absurd (omega arith)
-  used-end (suc n) p h k e = go (isBlank (getD s n blank)) refl (used-end n p) (eqb p (suc n)) refl
-    where
-      go : (b : Bool) → isBlank (getD s n blank) ≡ b → (p ≤ n → 1 ≤ p → isBlank (nth blank s p) ≡ false → p ≤ endOf s n)
-          → (c : Bool) → eqb p (suc n) ≡ c → p ≤ cond b (endOf s n) (suc n)
-      go false q r c t = h
-      go true q r true t = absurd (false≢true (sym e ∙ ap (λ (x : ℕ). isBlank (nth blank s x)) (eqb-true p (suc n) t) ∙ q))
-      go true q r false t = r (omega (arith, eqb-false p (suc n) t)) k e
-
   pub up-end : (n p : ℕ) → n < p → false ≡ leb p (endOf s n)
   up-end n p h = sym (lt-leb p (endOf s n) (omega (arith, end-le s n)))
 
@@ -150,7 +140,7 @@ module _ (s : List ℕ) (files m p : ℕ) (u : Unpacked) (b : Bool) (hm : m ≡ 
       ∙ ap isBlank (sealed-is s p files u e ∙ sym (page-at-place files (length s / pageSize) s p low (omega arith)))
 
   pub up-hit : not b ≡ true → true ≡ leb p (endOf (pagesOf s files) m)
-  up-hit t = sym (le-leb p (endOf (pagesOf s files) m) (used-end (pagesOf s files) m p high low (refused blank-is t)))
+  up-hit t = sym (le-leb p (endOf (pagesOf s files) m) (used-end (pagesOf s files) p (refused blank-is t) m high))
 
   pub up-miss : not b ≡ false → leb (p + 1) (endOf (pagesOf s files) m) ≡ leb p (endOf (pagesOf s files) m)
   up-miss t = up-more (pagesOf s files) m p low (passed blank-is t)

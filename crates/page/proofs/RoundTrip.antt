@@ -4,21 +4,21 @@
 use Prim.Native.Nat.{ℕ, zero, suc, _+_, _-_, _^_, _≤_, _<_}
 use mathlib.Core.Path.{_≡_, refl, sym, ap, _∙_}
 use mathlib.Core.Bool.{Bool, true, false, cond}
-use mathlib.Core.List.{List, [], _++_, append-assoc, append-nil}
+use mathlib.Core.List.{List, _++_, append-assoc, append-nil}
 use native.Mathlib.Omega.{arith}
 use borrow.Author.Tests.{eqb-true, eqb-false, ltb-true, ltb-false, ne-eqb}
 use lib.Dec.{eqb, ltb}
 use lib.ListN.{length, take, getD, replicate, length-append, length-replicate, List·getD-append}
-use lib.Seq.{take-at, take-all, getD-append-add, getD-take, length-take-le, getD-at}
-use Rattle.encoding.specs.Bytes.{bytes, zeros, same, check}
+use lib.Seq.{take-at, take-all, getD-append-add, getD-take, length-take-le}
+use Rattle.encoding.specs.Bytes.{bytes, zeros, same}
 use Rattle.encoding.proofs.Logic.{and-true, and-end, and-false, by-test}
 use Rattle.encoding.proofs.Numbers.{number-bytes, number-byte, same-refl, zeros-replicate, not-zeros}
 use Rattle.page.specs.declared.Page.{Page}
-use Rattle.page.specs.declared.Unpacked.the-variants.{Blank, Torn, Unfit}
+use Rattle.page.specs.declared.Unpacked.the-variants.{Blank, Torn, Opening, Image, Outcome, Unfit}
 use Rattle.page.specs.declared.Packing.{Packing}
-use Rattle.page.specs.Layout.{kindAt, placeAt, checkAt, spareEndAt, markAt, pageSize, endMark, valueSize}
+use Rattle.page.specs.Layout.{kindAt, placeAt, checkAt, markAt, pageSize, endMark, valueSize}
 use Rattle.page.specs.Table.{cell, head, front, closing, packed, field, fieldsOf, valueOf, lowest, highest, within, meetsRules, isPageOf, fits, torn}
-use Rattle.page.specs.Answers.{inBounds, byKind, tested, packs, cut}
+use Rattle.page.specs.Answers.{inBounds, byKind, tested, isFitPage, packs, cut}
 use Rattle.page.proofs.Rules.{within-both, Between, between-true, InBounds, in-bounds, are-in-bounds}
 use Rattle.page.proofs.OneByte.{length-front, mark-is, fits-packed}
 
@@ -133,6 +133,16 @@ packed-unpacked p value out s place files l e = go (inBounds (length out) place 
         let q64 : InBounds pageSize place files = record { size-is = refl; place-is = q .place-is; files-are = q .files-are } in
         let s-is : packed p value place ≡ s = ap (λ (y : Packing × List ℕ). y .1) (simp (eb, em) at e) in
         (rw (← s-is) (packed-tested p value place l files q64 (ruled p value place files q64 em .widths) ∙ simp em), rw (← s-is) (value-back p value place l))
+
+-- what pack wrote fits
+pub packed-fits : (p : Page) (value out s : List ℕ) (place files : ℕ) → length value ≡ valueSize → packs p value place files out ≡ (Packing.Packed, s)
+    → isFitPage (tested s place files) ≡ true
+packed-fits p value out s place files l e = ap isFitPage (packed-unpacked p value out s place files l e .0) ∙ go (eqb (p .kind) 1) (eqb (p .kind) 2)
+  where
+    go : (a b : Bool) → isFitPage (cond a (Opening p) (cond b (Image p) (Outcome p))) ≡ true
+    go true b = refl
+    go false true = refl
+    go false false = refl
 
 -- ---- the second: a page that fits, unpacked and packed, is the same 64 bytes
 

@@ -2,12 +2,11 @@
 use Prim.Native.Nat.{ℕ, zero, suc, _*_, _/_, _≤_, _<_}
 use mathlib.Core.Path.{_≡_, refl, ap, subst}
 use mathlib.Core.List.{List}
-use mathlib.Core.Bool.{Bool, true, false, cond, false≢true}
+use mathlib.Core.Bool.{Bool, true, false, false≢true}
 use native.Mathlib.Omega.{arith}
 use lib.ListN.{length, List·getD-eq-default}
 use lib.Dec.{leb}
 use borrow.Author.Tests.{leb-true, leb-false}
-use Rattle.encoding.proofs.Logic.{clash}
 use Rattle.page.specs.Layout.{pageSize}
 use Rattle.recovery.specs.Places.{nth}
 use Rattle.recovery.specs.Log.{Entry, blank, torn, bad, opening, image, outcome, undecided}
@@ -15,12 +14,11 @@ use Rattle.recovery.specs.Sheet.{pages}
 use Rattle.recovery.specs.World.{sizes, down, endOf, isBlank}
 use Rattle.recovery.specs.Lent.{pagesOf}
 use Rattle.recovery.proofs.Pages.{pages-long, length-down}
+use Rattle.recovery.proofs.BadPages.{used-end}
 use Rattle.recovery.proofs.OpeningEnds.{end-le}
-use Rattle.inspection.specs.Lawful.{lowestUnlawful}
-use Rattle.inspection.specs.Inspected.{inspectable, inspected}
-use Rattle.inspection.specs.declared.Inspected as inspection
+use Rattle.inspection.specs.Inspected.{inspected}
 use Rattle.inspection.specs.declared.Inspected.the-variants.{Lowest}
-use Rattle.inspection.proofs.ClimbPass.{used-end}
+use Rattle.inspection.proofs.BadPages.{lawful-is}
 use Rattle.inspection.proofs.LowestUnlawful.{none-lawful}
 use Rattle.promises.specs.Runs.{off, Event, heard, AllAllowed}
 use Rattle.promises.specs.Model.{modelHeard}
@@ -44,7 +42,7 @@ clean-above P n p h k = go (isBlank (nth blank P p)) refl
   where
     go : (b : Bool) → isBlank (nth blank P p) ≡ b → nth blank P p ≡ blank
     go true e = blank-is (nth blank P p) e
-    go false e = absurd (omega (arith, used-end P n p k (omega arith) e))
+    go false e = absurd (omega (arith, used-end P p e n k))
 
 module _ (n files : ℕ) (s : List ℕ) (long : length s ≡ pageSize * n) (sz : sizes n n files ≡ true) (h : inspected s files ≡ Lowest 0) where
   abbrev P : List Entry
@@ -56,14 +54,6 @@ module _ (n files : ℕ) (s : List ℕ) (long : length s ≡ pageSize * n) (sz :
   abbrev l : List Entry
   l = logIn files s
 
-  nothing-bad : lowestUnlawful l ≡ 0
-  unfolding inspected
-  nothing-bad = go (inspectable (length s) files) h
-    where
-      go : (b : Bool) → cond b (Lowest (lowestUnlawful l)) inspection.Inspected.Refused ≡ Lowest 0 → lowestUnlawful l ≡ 0
-      go true q = cc
-      go false q = clash cc
-
   n-is : length s / pageSize ≡ n
   n-is = omega arith
 
@@ -73,7 +63,7 @@ module _ (n files : ℕ) (s : List ℕ) (long : length s ≡ pageSize * n) (sz :
   holds : Holds P (length s / pageSize) l
   holds = record {
     long = pages-long files (length s / pageSize) s;
-    lawful = test-lawful l (none-lawful l nothing-bad);
+    lawful = test-lawful l (none-lawful l (lawful-is s files h .1));
     room = omega (arith, l-long, end-le P (length s / pageSize));
     log = ap (down P) l-long;
     clean = λ p k. go p (omega (arith, l-long)) (leb p (length s / pageSize)) refl;
