@@ -20,6 +20,7 @@ use Rattle.inspection.specs.Inspected.{inspectable, inspected}
 
 -- ---- words of the statement
 
+-- sealed (valid), of a page decoded
 abbrev pub isSealed : Entry → Bool
 isSealed blank = false
 isSealed torn = false
