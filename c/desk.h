@@ -51,16 +51,16 @@ enum { DESK_PACKED = 0, DESK_PACK_REFUSED = 1, DESK_NO_SUCH_PAGE = 2 };
 
    DESK_FITS          the page is whole; its six numbers are at fields, in desk_pack's order; its value is at part + 24
    DESK_TEST_REFUSED  part_len is not 64, fields_len not 6, place not 1 to 65,536 or files not 1 to 256
-   DESK_UNFIT         none of the others: so also a page that fitted until one of its bytes became another, unless that is byte 63, and 0
+   DESK_UNFIT         none of the others; so is a page that fitted, once one of its bytes is another, but for byte 63 at 0
    DESK_BLANK         all bytes are 0
-   DESK_TORN          the supply was cut while it was stored, or its byte 63 became 0
+   DESK_TORN          byte 0 is 1 to 3 and byte 63 is 0: the supply was cut while it was stored, or byte 63 decayed to 0
    Unless DESK_FITS is answered, fields are untouched. */
 uint64_t desk_test(const uint8_t *part, size_t part_len, uint64_t place, uint64_t files, uint64_t *fields, size_t fields_len);
 enum { DESK_FITS = 0, DESK_TEST_REFUSED = 1, DESK_UNFIT = 2, DESK_BLANK = 3, DESK_TORN = 4 };
 
 /* Inspects a sheet: one pass, in a time that grows with its pages alone. It takes 78 KB of stack; the other two less than 1 KB.
 
-   0             the sheet is lawful: what the store can have written
+   0             the sheet is lawful: what the store can have written. A page whose byte 63 decayed to 0 is torn, and may pass
    1 to 65,536   the lowest place whose page is bad or does not go on from those below it
    DESK_REFUSED  sheet_len is not a multiple of 64 from 64 to 4,194,304, or files not 1 to 256 */
 uint64_t desk_inspect(const uint8_t *sheet, size_t sheet_len, uint64_t files);

@@ -148,7 +148,7 @@ pub half-shown : (rebuilds halved halved 1 ≡ Rebuilt 2 10 0 0 0) × (rebuilds 
 unfolding packed head front fieldsOf lowest highest within between meetsRules isPageOf torn inBounds tested tabulate fateOf imagesOf notBy effective versionsOf tokenOf decoded sealed pages down endOf highestBad undecidedOf rowsOf opened openLeaves flat coldRows warmRow rowHolds lentRight rebuilt rebuildLeaves
 half-shown = (refl, refl)
 
--- ---- the same of an image that mends another: the mistyped one, which it overtook, is the version again
+-- ---- the same of an image that mends another: the mistyped one, which it overtook, is the version now
 
 abbrev mended : List ℕ
 mended =

@@ -12,7 +12,7 @@ use Rattle.page.specs.Table.{within}
 use Rattle.page.specs.Answers.{inBounds, tested, isFitPage}
 use Rattle.page.proofs.Rules.{InBounds, within-true, are-in-bounds}
 use Rattle.page.proofs.Found.{told-fits}
-use Rattle.page.proofs.Spoiled.{mark-lost, spoiled-unfit}
+use Rattle.page.proofs.Spoiled.{mark-zeroed, spoiled-unfit}
 use Rattle.decay.specs.Decay.{OtherByte, zeroesMark}
 
 module _ (s : List ℕ) (place files files′ i v : ℕ) (h : isFitPage (tested s place files) ≡ true) (c : OtherByte s i v) (w : within files′ 1 mostFiles ≡ true) where
@@ -31,6 +31,6 @@ module _ (s : List ℕ) (place files files′ i v : ℕ) (h : isFitPage (tested 
       go true true e f =
           let x : i ≡ markAt = eqb-true i markAt e in
           let y : v ≡ 0 = eqb-true v 0 f in
-          rw (x, y) (mark-lost s place files h files′ bounds)
+          rw (x, y) (mark-zeroed s place files h files′ bounds)
       go true false e f = unfit (λ x y. eqb-false v 0 f y)
       go false z e f = unfit (λ x y. eqb-false i markAt e x)

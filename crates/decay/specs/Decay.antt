@@ -64,10 +64,10 @@ pub record Spoiled (s : List ℕ) (place i v : ℕ) : Type 0 where
   pub action-bad : (p files files′ : ℕ) → isOf place (sealed files s p) ≡ true → sealed files′ (spoiled s place i v) p ≡ bad
   -- every other page is as it was
   pub others-stay : (p files : ℕ) → (p ≡ place → ⊥) → isOf place (sealed files s p) ≡ false → sealed files (spoiled s place i v) p ≡ sealed files s p
-  -- unless byte 63 became 0, open is refused past line 1: by 2, with a place not below the page, and all that is lent is left as it was
+  -- unless byte 63 became 0: past line 1 open is refused 2 and names a place not below the page; all that is lent is left as it was
   pub not-opened : zeroesMark i v ≡ false → (fates rows : List ℕ) (floor : ℕ) → sizesRight (length s) (length fates) (length rows) ≡ true
       → (p : ℕ) × (place ≤ p) × (openLeaves (spoiled s place i v) fates rows floor ≡ refused 2 p (spoiled s place i v) fates rows closed)
-  -- and inspect answers a place not above it
+  -- and past line 1 inspect does not say lawful: it answers a place not above the page
   pub not-lawful : zeroesMark i v ≡ false → (files : ℕ) → inspectable (length s) files ≡ true
       → (p : ℕ) × (1 ≤ p) × (p ≤ place) × (inspected (spoiled s place i v) files ≡ Lowest p)
   -- the place itself, if the sheet was lawful

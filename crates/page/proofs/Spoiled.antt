@@ -52,8 +52,8 @@ module _ (s : List ℕ) (place files : ℕ) (h : isFitPage (tested s place files
     still : (i v : ℕ) → inBounds (length (set s i v)) place files′ ≡ true
     still i v = ap (λ (n : ℕ). inBounds n place files′) (length-set s i v) ∙ b
 
-    pub mark-lost : tested (set s markAt 0) place files′ ≡ Torn
-    mark-lost =
+    pub mark-zeroed : tested (set s markAt 0) place files′ ≡ Torn
+    mark-zeroed =
         let same : getD (set s markAt 0) kindAt 0 ≡ getD s kindAt 0 = getD-set-other s markAt kindAt 0 0 (λ y. omega arith) in
         torn-tested (set s markAt 0) place files′ (still markAt 0) (omega (arith, kind-is)) (omega (arith, kind-is)) (getD-set-same s markAt 0 0 (omega (arith, long)))
 

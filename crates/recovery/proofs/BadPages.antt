@@ -1,5 +1,5 @@
--- A sheet with a bad page: the end is not below it, and an opening is refused 2 and names a place not below it. Shuts out an opening that
--- passes a damaged page over. Assumes nothing.
+-- A sheet with a bad page: the end is not below it, and past line 1 open is refused 2 and names a place not below it. Shuts out an opening
+-- that passes a damaged page over. Assumes nothing.
 use Prim.Native.Nat.{ℕ, zero, suc, _*_, _/_, _≤_}
 use mathlib.Core.Path.{_≡_, refl, sym, ap, _∙_}
 use mathlib.Core.Bool.{Bool, true, false, true≢false, false≢true}
