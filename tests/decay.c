@@ -142,7 +142,8 @@ static int pack_sheet(void) {
 }
 
 /* For a file count by which the sheet is lawful. Inspect names the spoiled page; open too, but of an opening the last page of its action.
-   With byte 63 at 0, open names something only of the opening of other pages, and inspect only a later page that goes on no more. */
+   With byte 63 at 0, open names something only of the opening of other pages, and inspect a later page that is bad with it or goes on no
+   more. */
 static const struct {
     uint64_t open, zeroed_open, zeroed_inspect;
 } names[USED + 1] = {[1] = {5, 5, 2}, [2] = {2, 0, 7}, [3] = {3, 0, 0}, [4] = {4, 0, 0}, [5] = {5, 0, 7},
