@@ -4,7 +4,7 @@
 #include "plain.h"
 #include "tell.h"
 
-enum { MOST = 40, SHEETS = 20000 };
+enum { MOST = 40, SHEETS = 20000, PLACES = 65536, WORDS = 65521 };
 static uint8_t sheet[MOST * PAGE];
 
 /* A number near a bound, or any. */
@@ -118,6 +118,48 @@ static int packs_alike(void) {
     return 1;
 }
 
+/* The page test of the page at place 2, with this number where its word stands. */
+static uint64_t fits_with(uint32_t word) {
+    plain_put(sheet + PAGE, 60, 62, word);
+    return bench_test(sheet, 2 * PAGE, 256);
+}
+
+/* Images with each of the 65,521 words: the word itself fits, and no other number, nor one that leaves the same by 65,521, does. */
+static int every_word(void) {
+    static uint8_t seen[WORDS];
+    uint64_t words = 0;
+    memset(sheet, 0, sizeof sheet);
+    for (uint32_t k = 0; k < 4 * PLACES; k++) {
+        uint8_t value[32];
+        memset(value, k < PLACES ? 0 : k < 2 * PLACES ? 255 : (int)below(256), 32);
+        plain_put(value, 30, 32, k % PLACES);
+        plain_pack(sheet + PAGE, 2, 32, 256, 1, 1, UINT64_MAX, value, 2);
+        uint32_t word = plain_word(sheet + PAGE);
+        words += !seen[word];
+        seen[word] = 1;
+        if (!fits_with(word) || fits_with(word ^ (1u << below(16))) || (word + WORDS < 65536 && fits_with(word + WORDS)))
+            return 0;
+    }
+    return words == WORDS;
+}
+
+/* The opening at each place but the last, by the image above it that counts only under an opening; not with another word. */
+static int every_opening(void) {
+    static uint8_t pages[PLACES * PAGE], fates[PLACES];
+    for (uint64_t place = 1; place < PLACES; place++) {
+        uint8_t *opening = pages + PAGE * (place - 1);
+        plain_pack(opening, 1, 0, 0, place, 0, 0, (const uint8_t[32]){0}, place);
+        plain_pack(opening + PAGE, 2, 0, 1, place, 0, 1, (const uint8_t[32]){0}, place + 1);
+        fates[place - 1] = 2;
+        if (bench_walk(pages, sizeof pages, fates, PLACES, 256, 1, place + 1) != place + 1)
+            return 0;
+        opening[60 + below(2)] ^= (uint8_t)(1 + below(255));
+        if ((place < 2048 || !below(64)) && bench_walk(pages, sizeof pages, fates, PLACES, 256, 1, place + 1) != 0)
+            return 0;
+    }
+    return 1;
+}
+
 int main(int count, char **words) {
     uint64_t fitting;
     seed = count > 1 ? strtoull(words[1], NULL, 10) | 1 : 20261115;
@@ -128,6 +170,8 @@ int main(int count, char **words) {
     told("fields on and beside every bound", agree(EDGES, &fitting) && fitting > SHEETS);
     told("random pages", agree(RANDOM, &fitting) && fitting > SHEETS);
     told("pack writes the plain page, or nothing", packs_alike());
+    told("images with every word", every_word());
+    told("the opening at every place", every_opening());
     printf("%d passed, %d failed\n", passed, failed);
     return failed != 0;
 }

@@ -4,3 +4,7 @@ pub mod Runs
 pub mod Numbers
 pub mod Parts
 pub mod Weighing
+pub mod Folds
+pub mod Halves
+pub mod Shifts
+pub mod Few

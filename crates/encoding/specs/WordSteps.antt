@@ -1,20 +1,34 @@
--- How the code works the check word out: each byte by its weight, a power of 257, and one remainder at the end.
--- A reader of document 01 can pass this file over: `check` is what the word is, and a law says that this gives the same.
-use Prim.Native.Nat.{ℕ, zero, suc, _+_, _*_, _%_, _^_}
-use mathlib.Core.List.{List, [], _∷_, _++_}
+-- How the code works the check word out, without a product: numbers that leave by 65,521 what the word's steps leave.
+-- A reader of document 01 can pass this file over: `check` is what the word is, and laws say that this gives the same.
+use Prim.Native.Nat.{ℕ, _+_, _*_, _/_, _%_}
+use mathlib.Core.List.{List, _++_}
 use lib.ListN.{getD, replicate}
 use Rattle.encoding.specs.Bytes.{bytes}
 
--- the weights of n bytes, by 65,521: the last byte's is 1
-unfoldable pub weights : ℕ → List ℕ
-weights zero = []
-weights (suc n) = 257 ^ n % 65521 ∷ weights n
+-- what lies above 16 bits comes back by 15, which 65,536 leaves by 65,521
+abbrev pub folded : ℕ → ℕ
+folded x = x % 65536 + 15 * (x / 65536)
 
--- the sum of the bytes from index i on, each by its weight
-abbrev pub weighed : List ℕ → List ℕ → ℕ → ℕ
-weighed [] s i = 0
-weighed (w ∷ ws) s i = w * getD s i 0 + weighed ws s (i + 1)
+-- four bytes by their weights, 528 for the square of 257
+abbrev pub four : List ℕ → ℕ → ℕ
+four s i = 135696 * getD s i 0 + 528 * getD s (i + 1) 0 + 257 * getD s (i + 2) 0 + getD s (i + 3) 0
 
--- 60 bytes that are 0 but for the first and a number, which stands there twice
-unfoldable pub few : ℕ → ℕ → List ℕ
-few first x = first ∷ replicate 7 0 ++ bytes 4 x ++ replicate 44 0 ++ bytes 4 x
+-- the same of the four bytes of a number
+abbrev pub fourOf : ℕ → ℕ
+fourOf x = 135696 * (x % 256) + 528 * (x / 256 % 256) + 257 * (x / 65536 % 256) + x / 16777216
+
+-- what came so far, 32 times, and what stands in front of it, 15 times both
+abbrev pub joined : ℕ → ℕ → ℕ
+joined a q = 15 * (32 * folded a + q)
+
+-- three groups of four bytes, eight bytes apart
+unfoldable pub three : List ℕ → ℕ → ℕ
+three s i = 15 * (four s i + 480 * (four s (i + 8) + 480 * four s (i + 16)))
+
+-- the first 56 bytes of 60
+unfoldable pub gathered : List ℕ → ℕ
+gathered s = 58132 * three s 32 + 39269 * three s 36 + 16953 * (480 * three s 8 + 15 * four s 0) + 42009 * (480 * three s 12 + 15 * four s 4)
+
+-- 60 bytes: 1 in byte 0, a number in bytes 8 to 11 and again in bytes 56 to 59, and zeros
+unfoldable pub few : ℕ → List ℕ
+few x = bytes 8 1 ++ bytes 4 x ++ replicate 44 0 ++ bytes 4 x

@@ -147,7 +147,7 @@ pub kind-size : (s : List ℕ) (kind : ℕ) → hasKind s kind ≡ true → leng
 unfolding hasKind
 kind-size s kind h = eqb-true (length s) pageSize (and-true (eqb (length s) pageSize) (eqb (fieldsOf s .kind) kind) h .0)
 
-kind-of : (s : List ℕ) (kind : ℕ) → hasKind s kind ≡ true → fieldsOf s .kind ≡ kind
+pub kind-of : (s : List ℕ) (kind : ℕ) → hasKind s kind ≡ true → fieldsOf s .kind ≡ kind
 unfolding hasKind
 kind-of s kind h = eqb-true (fieldsOf s .kind) kind (and-true (eqb (length s) pageSize) (eqb (fieldsOf s .kind) kind) h .1)
 

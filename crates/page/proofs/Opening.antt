@@ -1,5 +1,5 @@
 -- An opening is known by its place: the check word and all 64 bytes, eight at a time. Assumes nothing.
-use Prim.Native.Nat.{ℕ, _+_, _*_, _^_, _≤_, _<_}
+use Prim.Native.Nat.{ℕ, _+_, _*_, _%_, _^_, _≤_, _<_}
 use mathlib.Core.Path.{_≡_, refl, sym, ap, subst, _∙_}
 use mathlib.Core.Bool.{Bool, true, _&&_, false≢true}
 use mathlib.Core.List.{List, _++_}
@@ -29,7 +29,7 @@ use Rattle.page.proofs.Obeyed.{opening-rules}
 
 -- ---- the check word: the 60 bytes below it are few
 
-pub few-word : (place : ℕ) → check (few 1 place) ≡ check (front (opening place) (replicate valueSize 0) place)
+pub few-word : (place : ℕ) → check (few place) ≡ check (front (opening place) (replicate valueSize 0) place)
 unfolding front head few
 few-word place = refl
 
@@ -38,6 +38,10 @@ few-word place = refl
 -- the last eight as a number, by the check word
 abbrev end : ℕ → ℕ → ℕ
 end place word = place + 4294967296 * (word + 16777216 * endMark)
+
+-- as the code works it out, by shifts
+pub end-shifts : (place word : ℕ) → word < 65521 → place + word * 4294967296 % 18446744073709551616 + endMark * 72057594037927936 % 18446744073709551616 ≡ end place word
+end-shifts place word h = omega arith
 
 wide-place : (place : ℕ) → place ≤ mostPlaces → bytes 4 place ++ bytes 4 0 ≡ bytes 8 place
 wide-place place h =
@@ -96,11 +100,11 @@ module _ (place : ℕ) (h : place ≤ mostPlaces) where
         (cell-as s l b placeAt pageSize (end place word) (omega arith) (omega arith) e4)
         ∙ take-all pageSize s (omega arith))
 
-    pub opening-numbers : {n1 n2 n3 n4 w : ℕ} {z : Bool} → n1 ≡ field kindAt actionAt s → n2 ≡ field actionAt startAt s → n3 ≡ field startAt valueAt s
-        → z ≡ zeros (valueOf s) → n4 ≡ field placeAt pageSize s → w ≡ check (front (opening place) (replicate valueSize 0) place)
-        → (eqb n1 1 && eqb n2 place && eqb n3 0 && z && eqb n4 (end place w)) ≡ same s (packed (opening place) (replicate valueSize 0) place)
+    pub opening-numbers : {n1 n2 n3 n4 m w : ℕ} {z : Bool} → n1 ≡ field kindAt actionAt s → n2 ≡ field actionAt startAt s → n3 ≡ field startAt valueAt s
+        → z ≡ zeros (valueOf s) → n4 ≡ field placeAt pageSize s → m ≡ end place w → w ≡ check (front (opening place) (replicate valueSize 0) place)
+        → (eqb n1 1 && eqb n2 place && eqb n3 0 && z && eqb n4 m) ≡ same s (packed (opening place) (replicate valueSize 0) place)
     unfolding the-page word
-    opening-numbers {n1} {n2} {n3} {n4} {w} {z} e1 e2 e3 ez e4 ew = bool-ext _ _ there back
+    opening-numbers {n1} {n2} {n3} {n4} {m} {w} {z} e1 e2 e3 ez e4 em ew = rw em (bool-ext _ _ there back)
       where
         there : (eqb n1 1 && eqb n2 place && eqb n3 0 && z && eqb n4 (end place w)) ≡ true → same s (packed (opening place) (replicate valueSize 0) place) ≡ true
         there t =

@@ -70,9 +70,12 @@ module _ (s : List ℕ) (place files file : ℕ) where
   unfolding named imageOfFile
   unnamed h = no-image ofFile s place files (λ k f. false≢true (sym h ∙ and-both (hasKind s 2) (ofFile (fieldsOf s)) k f))
 
-  pub named-size : named s file ≡ true → length s ≡ pageSize
+  pub named-kind : named s file ≡ true → hasKind s 2 ≡ true
   unfolding named
-  named-size h = kind-size s 2 (and-true (hasKind s 2) (ofFile (fieldsOf s)) h .0)
+  named-kind h = and-true (hasKind s 2) (ofFile (fieldsOf s)) h .0
+
+  pub named-size : named s file ≡ true → length s ≡ pageSize
+  named-size h = kind-size s 2 (named-kind h)
 
   named-file : named s file ≡ true → ofFile (fieldsOf s) ≡ true
   unfolding named

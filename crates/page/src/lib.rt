@@ -8,7 +8,7 @@ use encoding::is_zero;
 use encoding::is_zero_from;
 use encoding::read_number;
 use encoding::write_number;
-ghost use mathlib.Core.Bool.{cond};
+ghost use mathlib.Core.Bool.{true, cond};
 ghost use mathlib.Core.List.{_++_};
 ghost use mathlib.Core.Path.{_≡_};
 ghost use Prim.Native.Nat.{_+_, _≤_, _<_, _-_};
@@ -233,6 +233,19 @@ impl Page {
         is_zero_from(value, self.used_bytes())
     }
 
+    // The rules of an image, for who knows the kind: those of the others need not be told apart.
+    fn is_image_by_rules(self, value: &[u8], place: u64, files: u64) -> bool
+        requires { ⌜ (1 ≤ place) × (self .kind ≡ 2) ⌝ }
+        ensures { λ r. ⌜ r ≡ meetsRules self (now (value .entry)) place files ⌝ }
+    {
+        let low = Page::lowest(2, place);
+        let high = Page::highest(2, place, files);
+        if !is_between(self, low, high) {
+            return false;
+        }
+        is_zero_from(value, self.small)
+    }
+
     // The fields of a part of 64 bytes.
     fn fields(part: &[u8]) -> Page
         requires { ⌜ length (now part) ≡ pageSize ⌝ }
@@ -361,6 +374,24 @@ impl Page {
         Page::fields(part).is_fit(part, place, files)
     }
 
+    // The same of a part with the kind of an image: the quick looks know it.
+    fn is_fit_image(part: &[u8], place: u64, files: u64) -> bool
+        requires { ⌜ hasKind (now part) 2 ≡ true ⌝ }
+        ensures { λ r. ⌜ r ≡ isFitPage (tested (now (part .entry)) place files) ⌝ }
+    {
+        if !is_in_bounds(part.len(), place, files) {
+            return false;
+        }
+        if !Page::is_framed(part, place) {
+            return false;
+        }
+        let p = Page::fields(part);
+        if !p.is_image_by_rules(&part[Page::VALUE..Page::PLACE], place, files) {
+            return false;
+        }
+        field(part, Page::CHECK, Page::SPARE_END) == check_word(&part[Page::KIND..Page::CHECK])
+    }
+
     // Whether the page test finds a blank page.
     pub fn is_blank(part: &[u8], place: u64, files: u64) -> bool
         ensures { λ r. ⌜ r ≡ isBlankPage (tested (now (part .entry)) place files) ⌝ }
@@ -376,7 +407,7 @@ impl Page {
         requires { ⌜ (length (now part) ≡ pageSize) × (place ≤ mostPlaces) ⌝ }
         ensures { λ r. ⌜ r ≡ same (now (part .entry)) (packed (opening place) (replicate valueSize 0) place) ⌝ }
     {
-        let end = place + 4294967296 * (check_few(1, place) + 16777216 * Page::END_MARK);
+        let end = place + (check_few(place) << 32) + (Page::END_MARK << 56);
         (field(part, Page::KIND, Page::ACTION) == 1)
             & (field(part, Page::ACTION, Page::START) == place)
             & (field(part, Page::START, Page::VALUE) == 0)
@@ -434,7 +465,7 @@ impl Page {
         if !Page::names(part, file) {
             return Sought::Other;
         }
-        if !Page::is_fit_page(part, place, files) {
+        if !Page::is_fit_image(part, place, files) {
             return Sought::Other;
         }
         Sought::Image(Page::fields(part))
@@ -450,7 +481,7 @@ impl Page {
         if field(part, Page::START, Page::VALUE) <= time {
             return Sought::Other;
         }
-        if !Page::is_fit_page(part, place, files) {
+        if !Page::is_fit_image(part, place, files) {
             return Sought::Other;
         }
         Sought::Image(Page::fields(part))

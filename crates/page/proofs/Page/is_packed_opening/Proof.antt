@@ -1,5 +1,5 @@
 -- `page::Page::is_packed_opening`: the bytes are the opening's exactly if their numbers are. Assumes nothing.
-use Rattle.page.proofs.Opening.{few-word, opening-numbers}
+use Rattle.page.proofs.Opening.{few-word, end-shifts, opening-numbers}
 use mathlib.Core.Path.{_∙_}
 use denote.Ref.{now}
 use borrow.Author.Needs.{needs}
@@ -9,14 +9,8 @@ use Rattle.page.proofs.Page.is_packed_opening.Tie as tie
 check-few-requires : tie.Need-check-few-requires
 check-few-requires c κs = search needs
 
-mul-end : tie.Need-mul-end
-mul-end c = search needs
-
 add-end : tie.Need-add-end
 add-end c = search needs
-
-mul-end-2 : tie.Need-mul-end-2
-mul-end-2 c = search needs
 
 add-end-2 : tie.Need-add-end-2
 add-end-2 c = search needs
@@ -50,18 +44,17 @@ returns c =
     let start = c .before .before .before .before .before .before .before in
     let a = start .before .args in
     let pre = start .before .pre in
+    let few = c .before .before .before .before .before .before .check-few in
     opening-numbers (a .place) (pre .1) (now (a .part)) (pre .0) (λ i. start .shared-slice-known .given i .fits)
     (c .before .before .before .before .before .field .ensures) (c .before .before .before .before .field2 .ensures) (c .before .before .before .field3 .ensures)
-    (c .before .is-zero-from .ensures) (c .field4 .ensures) (c .before .before .before .before .before .before .check-few .ensures .0 ∙ few-word (a .place))
+    (c .before .is-zero-from .ensures) (c .field4 .ensures) (end-shifts (a .place) _ (few .ensures .1)) (few .ensures .0 ∙ few-word (a .place))
 
 pub is-packed-opening-spec : {M : Type 1} → statement M
 is-packed-opening-spec =
     tie.close
     (tie.spec
     check-few-requires
-    mul-end
     add-end
-    mul-end-2
     add-end-2
     field-requires
     field-requires-2

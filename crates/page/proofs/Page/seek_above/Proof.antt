@@ -35,12 +35,12 @@ returns-2 c =
     let a = c .before .before .before .before .before .args in
     no-image (later (a .time)) (now (a .part)) _ _ (λ kind start. omega (arith, c .before .field .ensures, ltb-true (a .time) (fieldsOf (now (a .part)) .start) start))
 
-is-fit-page-requires : tie.Need-is-fit-page-requires
-is-fit-page-requires c κs = search needs
+is-fit-image-requires : tie.Need-is-fit-image-requires
+is-fit-image-requires c κs = let k = c .before .before in passed (k .before .has-kind .ensures) (k .if1 .left)
 
 returns-3 : tie.Need-returns-3
 unfolding imageAbove
-returns-3 c = unfit-image (later _) _ _ _ (refused (c .before .is-fit-page .ensures) (c .if3 .taken))
+returns-3 c = unfit-image (later _) _ _ _ (refused (c .before .is-fit-image .ensures) (c .if3 .taken))
 
 fields-requires : tie.Need-fields-requires
 fields-requires c κs = let k = c .before .before .before .before in kind-size _ 2 (passed (k .before .has-kind .ensures) (k .if1 .left))
@@ -52,7 +52,7 @@ returns-4 c =
     let k = t .before .before .before .before in
     let a = k .before .before .before .args in
     fit-image (later (a .time)) (now (a .part)) _ _ _ (c .fields .ensures) (passed (k .before .has-kind .ensures) (k .if1 .left))
-    (lt-ltb (a .time) (fieldsOf (now (a .part)) .start) (omega (arith, t .before .before .before .field .ensures))) (passed (t .before .is-fit-page .ensures) (t .if3 .left))
+    (lt-ltb (a .time) (fieldsOf (now (a .part)) .start) (omega (arith, t .before .before .before .field .ensures))) (passed (t .before .is-fit-image .ensures) (t .if3 .left))
 
 pub seek-above-spec : {M : Type 1} → statement M
 seek-above-spec =
@@ -62,7 +62,7 @@ seek-above-spec =
     returns
     field-requires
     returns-2
-    is-fit-page-requires
+    is-fit-image-requires
     returns-3
     fields-requires
     returns-4)
