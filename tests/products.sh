@@ -55,14 +55,16 @@ for control in $(nm "$folder/products.o" | sed -n 's/.* T //p'); do
 done
 test_that "the word in C" has "$(seen "$folder/plain.o")" "^[1-9][0-9]* plain_word\$"
 
-# What is linked. Both words must be worked out somewhere, or nothing was looked at.
+# What is linked. Both words must be worked out somewhere, or nothing was looked at; the three functions for C need no opening's.
+all=
 for file in "$@"; do
     lines=$(seen "$file")
+    all="$all $lines"
     test_that "$file has no word of 60 bytes" has "$lines" " BYTES"
-    test_that "$file has no word of an opening" has "$lines" " OPENING"
     for name in $(echo "$lines" | awk '{ print $2 }'); do
         test_that "$file: $name has a product or a division" has "$lines" "^0 $name( |\$)"
     done
 done
+test_that "no word of an opening" has "$all" " OPENING"
 echo "$passed passed, $failed failed"
 [ "$failed" = 0 ]

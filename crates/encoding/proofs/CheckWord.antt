@@ -46,7 +46,7 @@ tells-from (a ∷ s) w (suc i) v h b k e = tells-from s (nextWord w a) i v (omeg
 pub word-tells : (s : List ℕ) (i v : ℕ) → i < length s → getD s i 0 < 256 → v < 256 → check (set s i v) ≡ check s → v ≡ getD s i 0
 word-tells s i v h b k e = tells-from s 1 i v h b k e
 
--- ---- its size, and one turn of the plain loop
+-- ---- its size
 
 check-below : (w : ℕ) (s : List ℕ) → w < 65521 → checkFrom w s < 65521
 check-below w [] h = h
@@ -54,6 +54,3 @@ check-below w (b ∷ s) h = check-below (nextWord w b) s (next-below w b)
 
 pub check-small : (s : List ℕ) → check s < 65521
 check-small s = check-below 1 s (omega arith)
-
-pub check-turn : (w : ℕ) (s : List ℕ) (i b : ℕ) → i < length s → b ≡ getD s i 0 → checkFrom w (drop i s) ≡ checkFrom (nextWord w b) (drop (i + 1) s)
-check-turn w s i b h e = rw (add-one, e, drop-cons s i 0)

@@ -12,7 +12,7 @@ use Rattle.encoding.proofs.Numbers.{number-four, number-join}
 use Rattle.encoding.proofs.Folds.{shl-eq, mod-inside, folded-mod}
 
 -- four bytes by their weights, and four others
-pub fours-are : (a b c d x0 x1 x2 x3 y0 y1 y2 y3 : ℕ)
+fours-are : (a b c d x0 x1 x2 x3 y0 y1 y2 y3 : ℕ)
     → a ≡ 16 * x0 + 4294967296 * (16 * y0) → b ≡ 16 * x1 + 4294967296 * (16 * y1) → c ≡ x2 + 4294967296 * y2 → d ≡ x3 + 4294967296 * y3
     → (x0 < 256) × (y0 < 256) → (x1 < 256) × (y1 < 256) → (x2 < 256) × (y2 < 256)
     → (a * 256 % 18446744073709551616 + a + b) * 32 % 18446744073709551616 + (a * 256 % 18446744073709551616 + a + b) + c * 256 % 18446744073709551616 + c + d

@@ -5,7 +5,7 @@ use mathlib.Core.List.{List, _++_}
 use lib.ListN.{getD, replicate}
 use Rattle.encoding.specs.Bytes.{bytes}
 
--- what lies above 16 bits comes back by 15, which 65,536 leaves by 65,521
+-- what lies above 16 bits comes back 15 times, since 65,536 leaves 15 by 65,521
 abbrev pub folded : ℕ → ℕ
 folded x = x % 65536 + 15 * (x / 65536)
 
@@ -25,7 +25,7 @@ joined a q = 15 * (32 * folded a + q)
 unfoldable pub three : List ℕ → ℕ → ℕ
 three s i = 15 * (four s i + 480 * (four s (i + 8) + 480 * four s (i + 16)))
 
--- the first 56 bytes of 60
+-- the first 56 bytes of 60: each weight, 15 times, leaves the power of 257 that its first group has, of 24, 20, 56 and 52
 unfoldable pub gathered : List ℕ → ℕ
 gathered s = 58132 * three s 32 + 39269 * three s 36 + 16953 * (480 * three s 8 + 15 * four s 0) + 42009 * (480 * three s 12 + 15 * four s 4)
 

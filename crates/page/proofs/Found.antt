@@ -127,7 +127,7 @@ opening-is s place files p e =
     let start : p .start ≡ 0 = omega arith in
     λ i. record { kind = k i; small = small i; file = file i; action = action i; link = link i; start = start i }
 
--- ---- what `let Unpacked::Image(p) = u else { .. }` tells in its else: the tag is another's
+-- ---- what `let Unpacked::Image(p) = u else { .. }` tells in its else, or with an outcome: the tag is another's
 
 abbrev pub other-tags : List ℕ
 other-tags = 0 ∷ 1 ∷ 2 ∷ 3 ∷ 5 ∷ 6 ∷ []
@@ -140,6 +140,16 @@ off-image (Opening p) f d k = refl
 off-image (Image p) f d k = absurd (miss other-tags 4 tt k)
 off-image (Outcome p) f d k = refl
 off-image Unfit f d k = refl
+
+pub off-outcome : (a : ℕ) (u : Unpacked) → OneOf (0 ∷ 1 ∷ 2 ∷ 3 ∷ 4 ∷ 6 ∷ []) (tagOf the-type u) → false ≡ isOutcomeOf a u
+unfolding isOutcomeOf
+off-outcome a Refused k = refl
+off-outcome a Blank k = refl
+off-outcome a Torn k = refl
+off-outcome a (Opening p) k = refl
+off-outcome a (Image p) k = refl
+off-outcome a (Outcome p) k = absurd (miss (0 ∷ 1 ∷ 2 ∷ 3 ∷ 4 ∷ 6 ∷ []) 5 tt k)
+off-outcome a Unfit k = refl
 
 -- ---- the size and the kind
 
@@ -195,23 +205,3 @@ module _ (s : List ℕ) (place files : ℕ) where
         go (Outcome p) e =
             let f = found s place files (Outcome p) e in
             sym (ne-eqb (p .action) a (λ z. h (fits-kind f) (ap (λ (x : Page). x .action) (sym (f .fields-are)) ∙ z)))
-
-    -- one that has them is, if it fits
-    pub told-outcome : hasKind s 3 ≡ true → fieldsOf s .action ≡ a → isFitPage (tested s place files) ≡ isOutcomeOf a (tested s place files)
-    unfolding isOutcomeOf
-    told-outcome k act = go (isFitPage (tested s place files)) refl
-      where
-        unfit : (u : Unpacked) → isFitPage u ≡ false → false ≡ isOutcomeOf a u
-        unfit Refused e = refl
-        unfit Blank e = refl
-        unfit Torn e = refl
-        unfit (Opening p) e = refl
-        unfit (Image p) e = refl
-        unfit (Outcome p) e = absurd (true≢false e)
-        unfit Unfit e = refl
-
-        go : (b : Bool) → isFitPage (tested s place files) ≡ b → b ≡ isOutcomeOf a (tested s place files)
-        go true e =
-            let three : fieldsOf s .kind ≡ 3 = kind-of s 3 k in
-            rw (told-fields e, three) (sym (eq-eqb (fieldsOf s .action) a act))
-        go false e = unfit (tested s place files) e

@@ -364,17 +364,8 @@ impl Page {
         p.by_kind()
     }
 
-    // Whether the page test finds a page that fits, of any kind. For who needs no fields of its answer: none are stored on the way.
-    fn is_fit_page(part: &[u8], place: u64, files: u64) -> bool
-        ensures { λ r. ⌜ r ≡ isFitPage (tested (now (part .entry)) place files) ⌝ }
-    {
-        if !is_in_bounds(part.len(), place, files) {
-            return false;
-        }
-        Page::fields(part).is_fit(part, place, files)
-    }
-
-    // The same of a part with the kind of an image: the quick looks know it.
+    // Whether the page test finds a page that fits, of a part with the kind of an image. For the quick looks, which need no fields of its
+    // answer: none are stored on the way, and no other kind's rules are asked.
     fn is_fit_image(part: &[u8], place: u64, files: u64) -> bool
         requires { ⌜ hasKind (now part) 2 ≡ true ⌝ }
         ensures { λ r. ⌜ r ≡ isFitPage (tested (now (part .entry)) place files) ⌝ }
@@ -445,7 +436,10 @@ impl Page {
         if field(part, Page::ACTION, Page::LINK) != action {
             return false;
         }
-        Page::is_fit_page(part, place, files)
+        let Unpacked::Outcome(outcome) = Page::test(part, place, files) else {
+            return false;
+        };
+        outcome.action == action
     }
 
     // The cheap look: a part with the kind of an image and with this file. No other part is an image of the file.

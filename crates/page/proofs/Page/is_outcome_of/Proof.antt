@@ -1,10 +1,11 @@
--- `page::Page::is_outcome_of`: what is passed over at once is no outcome of this action, and all else is one if it fits. Assumes nothing.
+-- `page::Page::is_outcome_of`: what is passed over at once is no outcome of this action, and of all else the page test tells. Assumes nothing.
 use Rattle.page.specs.Table.{fieldsOf}
-use Rattle.page.proofs.Found.{kind-size, no-outcome, told-outcome}
+use Rattle.page.specs.Answers.{isOutcomeOf}
+use Rattle.page.proofs.Found.{kind-size, no-outcome, off-outcome}
 use Rattle.encoding.proofs.Logic.{refused, passed}
 use native.Mathlib.Omega.{arith}
 use mathlib.Core.Bool.{false≢true}
-use mathlib.Core.Path.{sym, _∙_}
+use mathlib.Core.Path.{sym, ap, _∙_}
 use borrow.Author.Needs.{needs}
 use Rattle.page.proofs.Page.is_outcome_of.Statement.{statement}
 use Rattle.page.proofs.Page.is_outcome_of.Tie as tie
@@ -22,14 +23,18 @@ returns-2 : tie.Need-returns-2
 unfolding fieldsOf
 returns-2 c = no-outcome _ _ _ _ (λ kind action. c .if2 .taken (c .before .field .ensures ∙ action))
 
-is-fit-page-requires : tie.Need-is-fit-page-requires
-is-fit-page-requires c κs = search needs
+test-requires : tie.Need-test-requires
+test-requires c κs = search needs
+
+enum-known-outcome : tie.Need-enum-known-outcome
+enum-known-outcome c = search needs
 
 returns-3 : tie.Need-returns-3
-unfolding fieldsOf
-returns-3 c =
-    let k = c .before .before .before in
-    c .is-fit-page .ensures ∙ told-outcome _ _ _ _ (passed (k .before .has-kind .ensures) (k .if1 .left)) (sym (c .before .before .field .ensures) ∙ c .before .if2 .left)
+returns-3 c = off-outcome _ _ (c .match .keys2) ∙ ap (isOutcomeOf _) (c .before .test .ensures)
+
+returns-4 : tie.Need-returns-4
+unfolding isOutcomeOf
+returns-4 c = ap (isOutcomeOf _) (sym (c .before .before .outcome .given .1) ∙ c .before .before .before .before .test .ensures)
 
 pub is-outcome-of-spec : {M : Type 1} → statement M
-is-outcome-of-spec = tie.close (tie.spec has-kind-requires returns field-requires returns-2 is-fit-page-requires returns-3)
+is-outcome-of-spec = tie.close (tie.spec has-kind-requires returns field-requires returns-2 test-requires enum-known-outcome returns-3 returns-4)
