@@ -29,22 +29,11 @@ static uint64_t run_word(struct sheet s) {
         sum += plain_word(s.bytes + PAGE * p);
     return sum;
 }
-/* The same word without multiplication: 257 times w is w and w shifted by eight bits, and since 65,536 leaves 15 by 65,521, what lies above
-   16 bits comes back 15 times. */
-__attribute__((noinline)) static uint32_t shifted_word(const uint8_t *page) {
-    uint32_t w = 1;
-    for (int i = 0; i < 60; i++) {
-        w = (w << 8) + w + page[i];
-        w = (w & 0xffff) + ((w >> 16) << 4) - (w >> 16);
-    }
-    return w < 65521 ? w : w - 65521;
-}
-/* How many pages have that word. */
 static uint64_t run_shifted_word(struct sheet s) {
-    uint64_t count = 0;
+    uint64_t sum = 0;
     for (uint64_t p = 0; p < s.pages; p++)
-        count += shifted_word(s.bytes + PAGE * p) == plain_get(s.bytes + PAGE * p, 60, 62);
-    return count;
+        sum += shifted_word(s.bytes + PAGE * p);
+    return sum;
 }
 /* One byte of each page, from the last down: what the memory alone takes. */
 static uint64_t run_touch(struct sheet s) {
@@ -312,7 +301,7 @@ static void table(const char *title, struct row *rows, int count, uint64_t pages
 static void time_page(void) {
     struct row page[] = {
         {"plain check word of 60 bytes in C", run_word, IMAGES, -1, 0, 0, {0}, 0},
-        {"the same without multiplication in C", run_shifted_word, IMAGES, -2, 0, 0, {0}, 0},
+        {"the same without multiplication in C", run_shifted_word, IMAGES, -1, 0, 0, {0}, 0},
         {"page test, image", run_test, IMAGES, -2, 0.16, 0, {0}, 0},
         {"page test, opening", run_test, OPENINGS, -2, 0, 0, {0}, 0},
         {"page test, blank", run_test, BLANK, 0, 0, 0, {0}, 0},

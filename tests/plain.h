@@ -14,6 +14,17 @@ __attribute__((noinline)) static uint32_t plain_word(const uint8_t *page) {
     return w;
 }
 
+/* The same word without multiplication: 257 times w is w and w shifted by eight bits, and since 65,536 leaves 15 by 65,521, what lies above
+   16 bits comes back 15 times. */
+__attribute__((noinline, unused)) static uint32_t shifted_word(const uint8_t *page) {
+    uint32_t w = 1;
+    for (int i = 0; i < 60; i++) {
+        w = (w << 8) + w + page[i];
+        w = (w & 0xffff) + ((w >> 16) << 4) - (w >> 16);
+    }
+    return w < 65521 ? w : w - 65521;
+}
+
 __attribute__((unused)) static uint64_t plain_get(const uint8_t *page, int from, int to) {
     uint64_t x = 0;
     for (int i = to; i > from; i--)

@@ -1,5 +1,5 @@
-# What tests/products.sh must find out: functions that have the number of a check word and one product or division each, of
-# every width and kind. The last has none.
+# What tests/products.sh must find out: functions that have the number of a check word and one product or division each, scalar and
+# vector ones, and calls of the compiler's routines for them. The last has none.
     .macro control name:req, instruction:vararg
     .globl control_\name
 control_\name:
@@ -9,6 +9,7 @@ control_\name:
     .endm
 
     control mul_byte, mul %cl
+    control mul_16, mul %cx
     control mul_wide, mul %rcx
     control imul_wide, imul %ecx
     control imul, imul %rcx, %rax
@@ -30,12 +31,18 @@ control_\name:
     control vpmullq, vpmullq %zmm2, %zmm1, %zmm0
     control vpmaddwd, vpmaddwd %ymm2, %ymm1, %ymm0
     control vpdpbusd, vpdpbusd %zmm2, %zmm1, %zmm0
+    control vpdpbusd_vex, {vex} vpdpbusd %ymm2, %ymm1, %ymm0
+    control vdpbf16ps, vdpbf16ps %zmm2, %zmm1, %zmm0
     control mulsd, mulsd %xmm1, %xmm0
     control divps, divps %xmm1, %xmm0
     control dpps, dpps $255, %xmm1, %xmm0
     control fmul, fmul %st(1), %st
+    control fprem, fprem
     control vfmadd, vfmadd213sd %xmm2, %xmm1, %xmm0
     control vfmsub, vfmsub213sd %xmm2, %xmm1, %xmm0
+    control multi3, call __multi3
+    control udivti3, call __udivti3
+    control umodti3, call __umodti3
     control none, addpd %xmm1, %xmm0
 
     .section .note.GNU-stack, "", @progbits

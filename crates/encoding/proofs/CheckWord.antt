@@ -4,10 +4,8 @@ use Prim.Native.Nat.{ℕ, zero, suc, _+_, _*_, _/_, _%_, _<_}
 use mathlib.Core.Path.{_≡_, sym, ap, _∙_}
 use mathlib.Core.List.{List, [], _∷_}
 use native.Mathlib.Omega.{arith}
-use native.Mathlib.Numerals.{add-one}
 use native.Mathlib.Nat.{mod-lt, mod-eq-of-lt, mul-add-mod-self-left}
-use lib.ListN.{length, drop, getD, set}
-use lib.Seq.{drop-cons}
+use lib.ListN.{length, getD, set}
 use Rattle.encoding.specs.Bytes.{nextWord, checkFrom, check}
 
 -- ---- the word after one byte more

@@ -19,19 +19,19 @@ passing-is zero x = refl
 passing-is (suc n) x = omega (arith, passing-is n x)
 
 -- four bytes by their weights, and the rest
-four : ℕ → ℕ → ℕ → ℕ → ℕ → ℕ → ℕ → ℕ → ℕ → ℕ
-four a b c d x y z t rest = a * x + (b * y + (c * z + (d * t + rest)))
+four-weighed : ℕ → ℕ → ℕ → ℕ → ℕ → ℕ → ℕ → ℕ → ℕ → ℕ
+four-weighed a b c d x y z t rest = a * x + (b * y + (c * z + (d * t + rest)))
 
 -- the 60 bytes by their weights, of the four bytes of the number
 summed : ℕ → ℕ → ℕ → ℕ → ℕ
-summed x y z t = 48406 + (48628 + passing 7 (four 15964 38049 14425 61498 x y z t (passing 44 (four 4654 528 257 1 x y z t 0))))
+summed x y z t = 48406 + (48628 + passing 7 (four-weighed 15964 38049 14425 61498 x y z t (passing 44 (four-weighed 4654 528 257 1 x y z t 0))))
 
 summed-is : (x y z t : ℕ) → 20618 * x + 38577 * y + 14682 * z + 61499 * t + 97034 ≡ summed x y z t
-unfolding summed four
+unfolding summed four-weighed
 summed-is x y z t = simp passing-is (omega arith)
 
 weighed-sum : (x : ℕ) → 48406 + weighed (weights 60) (few x) 0 ≡ summed (x % 256) (x / 256 % 256) (x / 256 / 256 % 256) (x / 256 / 256 / 256 % 256)
-unfolding few weights summed passing four
+unfolding few weights summed passing four-weighed
 weighed-sum x = refl
 
 few-word : (x : ℕ) → (20618 * (x % 256) + 38577 * (x / 256 % 256) + 14682 * (x / 256 / 256 % 256) + 61499 * (x / 256 / 256 / 256 % 256) + 97034) % 65521 ≡ check (few x)

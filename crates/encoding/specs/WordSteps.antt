@@ -1,4 +1,5 @@
--- How the code works the check word out, without a product: numbers that leave by 65,521 what the word's steps leave.
+-- How the code works the check word out: numbers that leave by 65,521 what the word's own steps leave. The products here are sums of
+-- shifts in the code.
 -- A reader of document 01 can pass this file over: `check` is what the word is, and laws say that this gives the same.
 use Prim.Native.Nat.{ℕ, _+_, _*_, _/_, _%_}
 use mathlib.Core.List.{List, _++_}
@@ -25,7 +26,7 @@ joined a q = 15 * (32 * folded a + q)
 unfoldable pub three : List ℕ → ℕ → ℕ
 three s i = 15 * (four s i + 480 * (four s (i + 8) + 480 * four s (i + 16)))
 
--- the first 56 bytes of 60: each weight, 15 times, leaves the power of 257 that its first group has, of 24, 20, 56 and 52
+-- the first 56 bytes of 60: 15 times each weight leaves a power of 257, that of its first group's last byte: 24, 20, 56, 52
 unfoldable pub gathered : List ℕ → ℕ
 gathered s = 58132 * three s 32 + 39269 * three s 36 + 16953 * (480 * three s 8 + 15 * four s 0) + 42009 * (480 * three s 12 + 15 * four s 4)
 

@@ -1,4 +1,4 @@
-// The check word (a checksum), by additions, shifts, masks and comparisons alone: no product, remainder or division.
+// The check word (a checksum), by sums, differences, shifts, masks and comparisons alone: no product, remainder or division.
 //
 // By 65,521, 65,536 leaves 15, the square of 257 leaves 528, which is 16 × 33, and 257⁸ × 480 leaves 1, where 480 is 15 × 32. So
 // what has been gathered counts 480 times where eight bytes more stand in front of it. Two sums of four bytes lie in one number,
@@ -22,6 +22,7 @@ fn fold(x: u64) -> u64
     (x & 0xffff) + (h << 4) - h
 }
 
+// The same of more bits.
 fn fold_long(x: u64) -> u64
     requires { ⌜ x < 549755813888 ⌝ }
     ensures { λ r. ⌜ r ≡ folded x ⌝ }
@@ -116,7 +117,7 @@ fn ahead(a: u64, q: u64) -> u64
 }
 
 // Bytes 32 to 55: three groups of four, eight bytes apart, and the three between them. Each of these two functions is called
-// once, with indices that the compiler knows.
+// once, so that the compiler puts it in place and knows its indices.
 fn late(s: &[u8]) -> u64
     requires { ⌜ length (now s) ≡ 60 ⌝ }
     ensures { λ r. ⌜ r % 4294967296 % 65521 ≡ three (now (s .entry)) 32 % 65521 ⌝ }
