@@ -118,16 +118,16 @@ static int packs_alike(void) {
     return 1;
 }
 
-/* The page at place 2 with this number where its word stands: 1 if it fits by the page test and by the quick look for its file, 0 if by neither, 2 if
-   they differ. */
+/* The page at place 2 with this number where its word stands: 1 if it fits by the page test and by the quick look for its file, 0 if
+   by neither, 2 if they differ. */
 static int fits_with(uint32_t word) {
     plain_put(sheet + PAGE, 60, 62, word);
     uint64_t test = bench_test(sheet, 2 * PAGE, 256), look = bench_seek(sheet, 2 * PAGE, 256, 256);
     return test == 1 && look == 1 ? 1 : test == 0 && look == 0 ? 0 : 2;
 }
 
-/* Images with each of the 65,521 words: it fits, and with another number, one bit of it changed, it does not, nor with the one that leaves the
-   same by 65,521, where two bytes have room for that. */
+/* Images with each of the 65,521 words: it fits, and with another number, one bit of it changed, it does not, nor with the one that
+   leaves the same by 65,521, where two bytes have room for that. */
 static int every_word(void) {
     static uint8_t seen[WORDS];
     uint64_t words = 0;
@@ -148,8 +148,8 @@ static int every_word(void) {
     return words == WORDS;
 }
 
-/* The opening at each place but the last, where no image can be under it: that image counts only under an opening, and not where the opening has
-   another word, which is tried at the lower places and at some of the others. The place's third and fourth byte are 0 here. */
+/* The opening at each place but the last, which no image lies above: that image counts only under an opening, and not where the
+   opening has another word, which is tried at the lower places and at some of the others. The place's third and fourth byte are 0. */
 static int every_opening(void) {
     static uint8_t pages[PLACES * PAGE], fates[PLACES];
     for (uint64_t place = 1; place < PLACES; place++) {

@@ -140,6 +140,7 @@ fn early(s: &[u8]) -> u64
     ahead(c, fours(s, 0, 8))
 }
 
+// Doubled, and one more number.
 fn twice(x: u64, y: u64) -> u64
     requires { ⌜ (x < 1099511627776) × (y < 1099511627776) ⌝ }
     ensures { λ r. ⌜ r ≡ 2 * x + y ⌝ }
@@ -178,6 +179,7 @@ fn weigh(a: u64, b: u64, c: u64, d: u64) -> u64
     (weigh_high(a, b, c, d) << 8) + weigh_low(a, b, c, d)
 }
 
+// The first of two halves.
 fn low_half(x: u64) -> u64
     ensures { λ r. ⌜ r ≡ x % 4294967296 ⌝ }
 {
@@ -223,6 +225,7 @@ pub fn check_word(s: &[u8]) -> u64
     check_any(s)
 }
 
+// The lowest byte.
 fn low_byte(x: u64) -> u64
     ensures { λ r. ⌜ r ≡ x % 256 ⌝ }
 {
@@ -253,7 +256,8 @@ fn weigh_few(a: u64, b: u64, c: u64, d: u64) -> u64
     turns(u, acd, 0, acd, bd)
 }
 
-// The check word of 60 bytes that are 0 but for 1 in byte 0 and a number in bytes 8 to 11 and again in bytes 56 to 59.
+// The check word of 60 bytes that are 0 but for 1 in byte 0 and a number in bytes 8 to 11 and again in bytes 56 to 59. 97,034 is what the
+// beginning and byte 0 come to.
 pub fn check_few(x: u64) -> u64
     ensures { λ r. ⌜ r ≡ check (few x) ⌝ }
     ensures fits { λ r. ⌜ r < 65521 ⌝ }
