@@ -1,7 +1,7 @@
 -- The ways begin and test end. Assumes nothing.
 use Prim.Native.Nat.{ℕ, suc, _+_, _-_, _*_, _/_, _≤_}
 use mathlib.Core.Path.{_≡_, refl, sym, _∙_}
-use mathlib.Core.Bool.{true, cond}
+use mathlib.Core.Bool.{true, false, cond}
 use mathlib.Core.List.{List}
 use native.Mathlib.Omega.{arith}
 use native.Mathlib.Numerals.{add-one}
@@ -43,11 +43,11 @@ module _ (s fs rs : List ℕ) (st : State) (fit : lineOne (length s) (length fs)
       ends-same s fs rs st (test a) fit (Told x p) (rw (k .acts-is, k .number, e))
 
   module _ (n : ℕ) (line-is : n ≡ roomLine s (st .end) (length rs / rowLength) (st .undecided + 2)) where
-    on-begin : on w begin ≡ cond (eqb n 0) (Stored (suc (st .end)), append w opening (put fs (suc (st .end)) 1) (rowsOf rs) (suc (st .undecided))) (refuse n 0 w)
+    on-begin : on w begin ≡ cond (eqb n 0) (Stored (suc (st .end)), append w (opening false) (put fs (suc (st .end)) 1) (rowsOf rs) (suc (st .undecided))) (refuse n 0 w)
     on-begin =
         rw line-is
         (room-by (length rs / rowLength) s fs (rowsOf rs) (st .end) (st .floor) (st .undecided) (st .undecided + 2) (omega arith)
-        (Stored (suc (st .end)), append w opening (put fs (suc (st .end)) 1) (rowsOf rs) (suc (st .undecided))))
+        (Stored (suc (st .end)), append w (opening false) (put fs (suc (st .end)) 1) (rowsOf rs) (suc (st .undecided))))
 
     pub begin-refused : (n ≡ 0 → ⊥) → refused n 0 s fs rs st ≡ callLeaves s fs rs st begin
     begin-refused z = ends-same s fs rs st begin fit (Refused n 0) (on-begin ∙ rw (ne-eqb n 0 z))
@@ -60,7 +60,7 @@ module _ (s fs rs : List ℕ) (st : State) (fit : lineOne (length s) (length fs)
           × (meetsRules (table.opening (st .end + 1)) (replicate valueSize 0) (suc (st .end)) (length rs / rowLength) ≡ true)
       begin-asked =
           let q = append-fits (length s) (length fs) (length rs) (st .end) (st .undecided) fit (omega (arith, begin-room)) in
-          (q .0, q .1, rw add-one (opening-rules (suc (st .end)) (length rs / rowLength)))
+          (q .0, q .1, rw add-one (opening-rules 0 (suc (st .end)) (length rs / rowLength) (omega arith)))
 
       pub begin-done : (s″ : List ℕ) → s″ ≡ withPage s (st .end) (packed (table.opening (st .end + 1)) (replicate valueSize 0) (suc (st .end)))
           → record { answer = Stored (st .end + 1); state = record { end = st .end + 1; floor = st .floor; undecided = st .undecided + 1 }; sheet = s″; fates = set fs (st .end) 1; rows = rs }
@@ -69,5 +69,5 @@ module _ (s fs rs : List ℕ) (st : State) (fit : lineOne (length s) (length fs)
       begin-done s″ hs =
           let a : st .end + 1 ≡ suc (st .end) = add-one (st .end) in
           let c : st .undecided + 1 ≡ suc (st .undecided) = add-one (st .undecided) in
-          rw (a, c) (ends-grown s fs rs st begin fit opening (put fs (suc (st .end)) 1) (rowsOf rs) (suc (st .undecided)) (on-begin ∙ rw z)
+          rw (a, c) (ends-grown s fs rs st begin fit (opening false) (put fs (suc (st .end)) 1) (rowsOf rs) (suc (st .undecided)) (on-begin ∙ rw z)
           (omega (arith, begin-room)) s″ (set fs (st .end) 1) rs (rw a at hs) refl (sym (rows-back s fs rs st (whole-is s fs rs st fit))))

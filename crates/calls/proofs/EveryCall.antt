@@ -18,7 +18,7 @@ use Rattle.recovery.specs.declared.Answer.{Answer}
 use Rattle.recovery.specs.declared.Answer.the-variants.{Rebuilt, Stored, Nothing, Told}
 use Rattle.recovery.specs.Numbers.{isRefused}
 use Rattle.recovery.specs.World.{World, Result, refuse, entryAt, isBlank, withRow, warmRow, rowHolds, lentRight, isFile, fateAt, outcomeAt, fateNumber, answerRow, rebuilt}
-use Rattle.calls.specs.Walk.{Walk, met, nothing, lost}
+use Rattle.calls.specs.Walk.{Walk, met, nothing, early, lost}
 use Rattle.calls.specs.Lines.{lines, among}
 use Rattle.calls.specs.Leaves.{padded, valueAt}
 use Rattle.calls.specs.Calls.{Call, begin, write, read, test, decide, rebuild, forFile, forAction, ifUndecided, forUndecided, hasAction, isDecided, hasRoom, append, store, onBegin, isFreeFor, written, onWrite, onRead, onToken, onVersions, answerWalk, versionAnswer, readCurrent, readToken, reaches, walkFrom, imageOf, settled, eachRow, onDecide, isDecidedAs, unlessDecided, on, call}
@@ -101,7 +101,7 @@ module _ (P : Result → Type 0) where
   module _ (w : World) where
     begins : Ways P begin w → P (onBegin w)
     begins h =
-        stores begin w h refl refl (w .undecided + 2) (omega arith) opening (put (w .fates) (suc (w .end)) 1) (w .rows) (suc (w .undecided))
+        stores begin w h refl refl (w .undecided + 2) (omega arith) (opening false) (put (w .fates) (suc (w .end)) 1) (w .rows) (suc (w .undecided))
         (length-replicate {A = ℕ} valueSize 0) refl tt
 
     decides : (a : ℕ) (c : Bool) → Ways P (decide a c) w → P (onDecide w a c)
@@ -133,6 +133,7 @@ module _ (P : Result → Type 0) where
       unfolding isRefused fileOf
       walks r (met x) = h .changing (versionAnswer x) r refl tt
       walks r nothing = h .changing Nothing r refl tt
+      walks r early = h .refusing 25 0 refl
       walks r (lost place) = h .refusing 13 place refl
 
       versions : (r : Row) → P (onVersions w f time r)

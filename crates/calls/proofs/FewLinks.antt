@@ -3,7 +3,7 @@
 -- nothing.
 use Prim.Native.Nat.{ℕ, zero, suc, _/_, _≤_, _<_}
 use mathlib.Core.Path.{_≡_, refl, sym, ap, _∙_}
-use mathlib.Core.Bool.{true}
+use mathlib.Core.Bool.{Bool, true}
 use mathlib.Core.List.{List}
 use native.Mathlib.Omega.{arith}
 use lib.ListN.{length}
@@ -21,6 +21,7 @@ use Rattle.recovery.specs.Steps.{sealedImage, isFound}
 use Rattle.recovery.proofs.Held.{held-in}
 use Rattle.calls.specs.Walk.{imagesBelow, follow}
 use Rattle.calls.specs.Links.{Links, here, on}
+use Rattle.calls.specs.ReadSteps.{carriedIn}
 use Rattle.calls.proofs.ReadImages.{met-at}
 use Rattle.calls.proofs.LinkByLink.{same-among, walk-ends}
 
@@ -56,10 +57,10 @@ module _ (files : ℕ) (s : List ℕ) where
   fewer-than-pages x y n e l = omega (arith, image-lies (x .place) (x .image) e .high, fewer-links x y n e l)
 
   -- a walk ends at an image that links lead to, and so follows no more
-  pub walk-few : (f t : ℕ) (x : Placed) → page (x .place) ≡ image (x .image) → walk-ends (pagesOf s files) f t x .count < x .place
-  walk-few f t x e = let w = walk-ends (pagesOf s files) f t x in fewer-links x (w .last) (w .count) e (w .led)
+  pub walk-few : (f t : ℕ) (b : Bool) (x : Placed) → page (x .place) ≡ image (x .image) → walk-ends (carriedIn files s) (pagesOf s files) f t b x .count < x .place
+  walk-few f t b x e = let w = walk-ends (carriedIn files s) (pagesOf s files) f t b x in fewer-links x (w .last) (w .count) e (w .led)
 
   -- among more of the file's images than those below its own place it comes to the same
-  pub same-walk : (f t : ℕ) (x : Placed) (n : ℕ) → page (x .place) ≡ image (x .image) → x .place ≤ n
-      → follow t x (imagesOf (down (pagesOf s files) n) f) ≡ follow t x (imagesBelow (pagesOf s files) (x .place) f)
-  same-walk f t x n e l = same-among (pagesOf s files) f t x n (image-lies (x .place) (x .image) e .link) l
+  pub same-walk : (f t : ℕ) (b : Bool) (x : Placed) (n : ℕ) → page (x .place) ≡ image (x .image) → x .place ≤ n
+      → follow (carriedIn files s) t b x (imagesOf (down (pagesOf s files) n) f) ≡ follow (carriedIn files s) t b x (imagesBelow (pagesOf s files) (x .place) f)
+  same-walk f t b x n e l = same-among (carriedIn files s) (pagesOf s files) f t b x n (image-lies (x .place) (x .image) e .link) l

@@ -22,10 +22,10 @@ use Rattle.recovery.specs.Steps.{lineOne, sealedImage, rowHoldsBy, rowHoldsIn, 
 use Rattle.recovery.proofs.Held.{row-held}
 use Rattle.recovery.proofs.FlatRows.{rows-long}
 use Rattle.calls.specs.declared.reading.Reading.{Reading}
-use Rattle.calls.specs.Walk.{Walk, met, nothing, lost, imagesBelow, follow}
+use Rattle.calls.specs.Walk.{Walk, met, nothing, early, lost, imagesBelow, follow}
 use Rattle.calls.specs.Calls.{read, on, onRead, onToken, answerWalk, imageOf, readCurrent, readToken}
 use Rattle.calls.specs.Leaves.{callLeaves}
-use Rattle.calls.specs.ReadSteps.{readLine, imageBy, Looked, walkAnswer, walkAt, world, Versions, Reads}
+use Rattle.calls.specs.ReadSteps.{readLine, imageBy, Looked, walkAnswer, carriedIn, walkAt, world, Versions, Reads}
 use Rattle.calls.proofs.Ends.{ends-same, ends-row}
 use Rattle.calls.proofs.ActionLines.{read-by}
 use Rattle.calls.proofs.ReadImages.{met-at, RowHeld, looked-token}
@@ -49,12 +49,12 @@ module _ {files : ℕ} {s : List ℕ} {f : ℕ} {u : Sought} (t : ℕ) (r : Row)
     newest = record { place = r .current; image = imageFrom (pageBytes s (r .current)) x }
 
     abbrev steps : Walk
-    steps = follow t newest (imagesBelow (pagesOf s files) (r .current) f)
+    steps = follow (carriedIn files s) t false newest (imagesBelow (pagesOf s files) (r .current) f)
 
     pub versions-met : (y : Row) → y ≡ readCurrent t true r → x .start ≤ t → Versions files s f t r (record { answer = Value (r .current) (x .start) (x .small); row = y })
     versions-met y hy b = record {
       is = λ e fs rs fl n h.
-          let k : steps ≡ met newest = reached (pagesOf s files) f t newest b in
+          let k : steps ≡ met newest = reached (carriedIn files s) (pagesOf s files) f t false newest b in
           rw (current-is (sought.Sought.Image x) i, le-leb (x .start) t b, k, met-long files s f (r .current) x (met-at files s f (r .current) x (sym (l .found) ∙ i)))
           (ap (λ (z : Row). (Value (r .current) (x .start) (x .small), withRow (world files s e fs rs fl n) f z)) (sym hy));
     }
@@ -63,9 +63,10 @@ module _ {files : ℕ} {s : List ℕ} {f : ℕ} {u : Sought} (t : ℕ) (r : Row)
         → answerWalk (world files s e fs rs fl n) f r k ≡ (walkAnswer k, withRow (world files s e fs rs fl n) f r)
     still e fs rs fl n h (met y) = refl
     still e fs rs fl n h nothing = refl
+    still e fs rs fl n h early = rw h
     still e fs rs fl n h (lost p) = rw h
 
-    pub versions-early : (q : Answer) → q ≡ walkAt files s f t (r .current) x → t < x .start → Versions files s f t r (record { answer = q; row = r })
+    pub versions-early : (q : Answer) → q ≡ walkAt files s f t false (r .current) x → t < x .start → Versions files s f t r (record { answer = q; row = r })
     unfolding walkAt
     versions-early q hq b = record {
       is = λ e fs rs fl n h.

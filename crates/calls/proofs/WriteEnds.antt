@@ -40,7 +40,7 @@ use Rattle.calls.proofs.WritePads.{pad-zeros}
 -- ---- four tests, one after the other
 
 abbrev not-stored : List ℕ
-not-stored = 0 ∷ 1 ∷ 2 ∷ 4 ∷ 5 ∷ 6 ∷ []
+not-stored = 0 ∷ 1 ∷ 2 ∷ 4 ∷ 5 ∷ 6 ∷ 7 ∷ []
 
 abbrev answers : ℕ → ℕ → ℕ → Bool → Bool → Bool → Bool → Answer
 answers e k n b1 b2 b3 b4 = cond b1 (cond b2 (cond b3 (cond b4 (Stored e) (Refused n 0)) (Refused 10 0)) (Refused 8 k)) (Refused 7 0)

@@ -12,8 +12,8 @@ use Rattle.recovery.specs.Log.{Image, Entry, blank, torn, bad, opening, image, 
 use Rattle.recovery.specs.declared.Row.{Row}
 use Rattle.recovery.specs.declared.Answer.{Answer}
 use Rattle.recovery.specs.declared.Answer.the-variants.{Stored, Value, Nothing, Told}
-use Rattle.recovery.specs.World.{World, Result, refuse, entryAt, fateNumber, fateAt, outcomeAt, isBlank, withRow, warmRow, imageAction, holdsImage, rowHolds, isRebuiltFor, lentRight, isFile, rebuilt}
-use Rattle.calls.specs.Walk.{Walk, met, nothing, lost, imagesBelow, follow}
+use Rattle.recovery.specs.World.{World, Result, refuse, entryAt, fateNumber, fateAt, outcomeAt, isBlank, isCarried, withRow, warmRow, imageAction, holdsImage, rowHolds, isRebuiltFor, lentRight, isFile, rebuilt}
+use Rattle.calls.specs.Walk.{Walk, met, nothing, early, lost, imagesBelow, follow}
 
 -- write: file, start, action, value; read: file, time, action or 0; decide: action, and whether it commits
 pub data Call : Type 0 where
@@ -69,7 +69,7 @@ store w g fates rows n = cond (isBlank (entryAt w (suc (w .end)))) (Stored (suc 
 abbrev pub onBegin : World → Result
 onBegin w =
     cond (hasRoom w (w .undecided + 2))
-    (store w opening (put (w .fates) (suc (w .end)) 1) (w .rows) (suc (w .undecided)))
+    (store w (opening false) (put (w .fates) (suc (w .end)) 1) (w .rows) (suc (w .undecided)))
     (refuse 11 0 w)
 
 -- ---- the image that a place of a row holds
@@ -78,7 +78,7 @@ abbrev pub imageOf : Entry → Option Image
 imageOf blank = none
 imageOf torn = none
 imageOf bad = none
-imageOf opening = none
+imageOf (opening k) = none
 imageOf (image i) = some i
 imageOf (outcome a c) = none
 
@@ -108,12 +108,16 @@ onWrite w f start a v r =
     (refuse 8 (r .tokenaction) w))
     (refuse 7 0 w)
 
--- ---- read, on a warm row: lines 7, 9, 13
+-- ---- read, on a warm row: lines 7, 9, 13, 25
+
+-- the action of a carried opening
+abbrev pub isCarriedAt : World → ℕ → Bool
+isCarriedAt w a = isCarried (entryAt w a)
 
 -- from the current version down the links
 abbrev pub walkFrom : World → ℕ → ℕ → ℕ → Option Image → Walk
 walkFrom w f time place none = nothing
-walkFrom w f time place (some i) = follow time (record { place = place; image = i }) (imagesBelow (w .sheet) place f)
+walkFrom w f time place (some i) = follow (isCarriedAt w) time false (record { place = place; image = i }) (imagesBelow (w .sheet) place f)
 
 abbrev pub versionAnswer : Placed → Answer
 versionAnswer x = Value (x .place) (x .image .start) (length (x .image .value))
@@ -121,6 +125,7 @@ versionAnswer x = Value (x .place) (x .image .start) (length (x .image .value))
 abbrev pub answerWalk : World → ℕ → Row → Walk → Result
 answerWalk w f r (met x) = (versionAnswer x, withRow w f r)
 answerWalk w f r nothing = (Nothing, withRow w f r)
+answerWalk w f r early = refuse 25 0 w
 answerWalk w f r (lost place) = refuse 13 place w
 
 -- the time is at least the current start, or there is no current version

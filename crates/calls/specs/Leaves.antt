@@ -24,7 +24,7 @@ abbrev pub fieldsAt : ℕ → Entry → Page
 fieldsAt place blank = table.opening place
 fieldsAt place torn = table.opening place
 fieldsAt place bad = table.opening place
-fieldsAt place opening = table.opening place
+fieldsAt place (opening k) = table.openingAs (cond k 1 0) place
 fieldsAt place (image i) = table.image (length (i .value)) (i .file) (i .action) (i .link) (i .start)
 fieldsAt place (outcome a c) = table.outcome a (cond c 1 2)
 
@@ -32,7 +32,7 @@ abbrev pub valueAt : Entry → List ℕ
 valueAt blank = replicate valueSize 0
 valueAt torn = replicate valueSize 0
 valueAt bad = replicate valueSize 0
-valueAt opening = replicate valueSize 0
+valueAt (opening k) = replicate valueSize 0
 valueAt (image i) = padded (i .value)
 valueAt (outcome a c) = replicate valueSize 0
 

@@ -1,7 +1,7 @@
 -- What smaller functions of read and write answer. A reader of document 01 can pass this file over: the laws join it to `on`.
 use mathlib.Core.Path.{_≡_}
 use mathlib.Core.List.{List}
-use mathlib.Core.Bool.{cond, _&&_}
+use mathlib.Core.Bool.{Bool, cond, _&&_}
 use mathlib.Core.Option.{Option, some, none}
 use Prim.Native.Nat.{ℕ, suc, _+_}
 use lib.Dec.{eqb, ltb}
@@ -15,12 +15,12 @@ use Rattle.recovery.specs.declared.Row.{Row}
 use Rattle.recovery.specs.declared.State.{State}
 use Rattle.recovery.specs.declared.Answer.{Answer}
 use Rattle.recovery.specs.declared.Answer.the-variants.{Refused, Stored, Nothing}
-use Rattle.recovery.specs.World.{World, withRow}
+use Rattle.recovery.specs.World.{World, isCarried, withRow}
 use Rattle.recovery.specs.Lent.{pagesOf}
 use Rattle.recovery.specs.Steps.{sealedImage, rowHoldsIn}
 use Rattle.calls.specs.declared.reading.Reading.{Reading}
 use Rattle.calls.specs.LineSteps.{actionLine, roomLine}
-use Rattle.calls.specs.Walk.{Walk, met, nothing, lost, imagesBelow, follow}
+use Rattle.calls.specs.Walk.{Walk, met, nothing, early, lost, imagesBelow, follow}
 use Rattle.calls.specs.Calls.{imageOf, isFreeFor, versionAnswer, onVersions, onRead}
 
 -- lines 5 and 6 of read, which passes over them for action 0
@@ -37,15 +37,19 @@ pub record Looked (files : ℕ) (s : List ℕ) (file place : ℕ) (u : Sought) :
   pub found : u ≡ sealedImage files s file place
   pub image-is : imageOf (nth blank (pagesOf s files) place) ≡ imageBy (pageBytes s place) u
 
--- what a walk answers, and the walk from a place whose page has these fields
+-- what a walk answers, and the walk from a place whose page has these fields, once images above it were passed
 abbrev pub walkAnswer : Walk → Answer
 walkAnswer (met x) = versionAnswer x
 walkAnswer nothing = Nothing
+walkAnswer early = Refused 25 0
 walkAnswer (lost place) = Refused 13 place
 
-unfoldable pub walkAt : ℕ → List ℕ → ℕ → ℕ → ℕ → Page → Answer
-walkAt files s file time place x =
-    walkAnswer (follow time (record { place = place; image = imageFrom (pageBytes s place) x }) (imagesBelow (pagesOf s files) place file))
+abbrev pub carriedIn : ℕ → List ℕ → ℕ → Bool
+carriedIn files s a = isCarried (nth blank (pagesOf s files) a)
+
+unfoldable pub walkAt : ℕ → List ℕ → ℕ → ℕ → Bool → ℕ → Page → Answer
+walkAt files s file time b place x =
+    walkAnswer (follow (carriedIn files s) time b (record { place = place; image = imageFrom (pageBytes s place) x }) (imagesBelow (pagesOf s files) place file))
 
 -- a read of a warm row: its answer and the row that it leaves, in any world whose row it is
 abbrev pub world : ℕ → List ℕ → ℕ → List ℕ → List Row → ℕ → ℕ → World

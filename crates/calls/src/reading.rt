@@ -9,13 +9,14 @@ use recovery::State;
 use recovery::file_count;
 use recovery::has_file;
 use recovery::image_at;
+use recovery::is_carried_at;
 use recovery::is_lent_right;
 use recovery::raised_row;
 use recovery::refuse;
 use recovery::row_holds_by;
 use recovery::set_row;
 use recovery::warm_row;
-ghost use mathlib.Core.Bool.{true};
+ghost use mathlib.Core.Bool.{true, false};
 ghost use mathlib.Core.Path.{_≡_};
 ghost use Prim.Native.Nat.{_/_};
 ghost use lib.ListN.{length};
@@ -24,8 +25,9 @@ ghost use Rattle.recovery.specs.World.{isFile};
 ghost use Rattle.recovery.specs.Lent.{leftBy, rowLength};
 ghost use Rattle.recovery.specs.Steps.{lineOne, sealedImage};
 ghost use Rattle.calls.specs.Calls.{Call, readCurrent, readToken};
+ghost use Rattle.calls.specs.Walk.{noneBelow};
 ghost use Rattle.calls.specs.Leaves.{callLeaves};
-ghost use Rattle.calls.specs.ReadSteps.{readLine, walkAt, Looked, Versions, Reads};
+ghost use Rattle.calls.specs.ReadSteps.{readLine, walkAnswer, walkAt, Looked, Versions, Reads};
 
 // What a read of a warm row answers, and the row that it leaves.
 struct Reading {
@@ -56,20 +58,32 @@ fn read_line(fates: &[u8], end: u64, action: u64) -> u64
     action_line(fates, end, action)
 }
 
+// What is answered where no version starts by the time: none, or refusal 25 if a carried image was passed.
+fn none_below(carried: bool) -> Answer
+    ensures { λ r. ⌜ r ≡ walkAnswer (noneBelow carried) ⌝ }
+{
+    if carried {
+        return Answer::Refused(25, 0);
+    }
+    Answer::Nothing
+}
+
 // The first image from a place down the links whose start is not above a time. A link leads to a lower place, so this ends.
 fn walk(sheet: &[u8], from: u64, files: u64, file: u64, time: u64, first: Page) -> Answer
     requires { ⌜ sealedImage files (now sheet) file from ≡ sought.Sought.Image first ⌝ }
-    ensures { λ r. ⌜ r ≡ walkAt files (now (sheet .entry)) file time from first ⌝ }
+    ensures { λ r. ⌜ r ≡ walkAt files (now (sheet .entry)) file time false from first ⌝ }
 {
     let mut place = from;
     let mut x = first;
+    let mut carried = false;
     loop {
         if x.start <= time {
             return Answer::Value(place, x.start, x.small);
         }
+        carried = carried | is_carried_at(sheet, x.action, files);
         let next = x.link;
         if next == 0 {
-            return Answer::Nothing;
+            return none_below(carried);
         }
         let found = image_at(sheet, next, files, file);
         let Sought::Image(y) = found else {
@@ -109,7 +123,7 @@ fn read_versions(
     Reading { answer, row }
 }
 
-// Lines 7 to 13 of read on a warm row. Each place of the row is looked at once.
+// Lines 7 to 25 of read on a warm row. Each place of the row is looked at once.
 fn read_row(
     sheet: &[u8],
     end: u64,

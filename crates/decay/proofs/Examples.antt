@@ -2,7 +2,7 @@
 -- (`…-met`); then what is answered where an opening or an end mark is spoiled. Assumes nothing.
 use Prim.Native.Nat.{ℕ, _*_, _≤_}
 use mathlib.Core.Path.{_≡_, refl}
-use mathlib.Core.Bool.{true}
+use mathlib.Core.Bool.{true, false}
 use mathlib.Core.List.{List, [], _∷_, _++_}
 use native.Mathlib.Omega.{arith}
 use lib.ListN.{replicate}
@@ -14,7 +14,7 @@ use Rattle.recovery.specs.Places.{tabulate}
 use Rattle.recovery.specs.Log as log
 use Rattle.recovery.specs.Log.{fateOf, imagesOf, notBy, effective, versionsOf, tokenOf}
 use Rattle.recovery.specs.Sheet.{pageBytes, decoded, sealed, pages}
-use Rattle.recovery.specs.World.{down, endOf, highestBad, undecidedOf, coldRows, warmRow, rowHolds, lentRight, rebuilt, opened}
+use Rattle.recovery.specs.World.{down, endOf, highestBad, undecidedOf, coldRows, warmRow, rowHolds, lentRight, rebuilt, opened, unfinished}
 use Rattle.recovery.specs.Lent.{rowLength, rowsOf, flat, Left, refused, closed, openLeaves, rebuildLeaves, sizesRight}
 use Rattle.recovery.specs.declared.Answer.{Answer}
 use Rattle.recovery.specs.declared.Answer.the-variants.{Refused, Opened, Rebuilt}
@@ -42,7 +42,7 @@ eight = log.image (record { file = 2; action = 1; link = 0; start = 10; value = 
 abbrev opens : List ℕ → Left
 opens s = openLeaves s (replicate 4 0) (replicate (rowLength * 2) 0) 0
 
-pub as-stored : pages 2 4 change ≡ log.opening ∷ seven ∷ eight ∷ log.outcome 1 true ∷ []
+pub as-stored : pages 2 4 change ≡ log.opening false ∷ seven ∷ eight ∷ log.outcome 1 true ∷ []
 unfolding packed head front fieldsOf lowest highest within between meetsRules isPageOf torn inBounds tested tabulate decoded sealed pages
 as-stored = refl
 
@@ -92,8 +92,8 @@ unfolding packed head front within lowest highest between meetsRules inBounds pa
 packed-spoiled-met = decay .packed-spoiled (outcome 1 1) (replicate valueSize 0) (replicate pageSize 0) (pageBytes change 4) 4 2 256 1 2 refl refl to-two refl
 
 -- and computed
-pub verdict-bad : (pages 2 4 other-verdict ≡ log.opening ∷ seven ∷ eight ∷ log.bad ∷ []) × (opens other-verdict .answer ≡ Refused 2 4)
-unfolding packed head front fieldsOf lowest highest within between meetsRules isPageOf torn inBounds tested tabulate decoded sealed pages down endOf highestBad rowsOf opened openLeaves
+pub verdict-bad : (pages 2 4 other-verdict ≡ log.opening false ∷ seven ∷ eight ∷ log.bad ∷ []) × (opens other-verdict .answer ≡ Refused 2 4)
+unfolding packed head front fieldsOf lowest highest within between meetsRules isPageOf torn inBounds tested tabulate decoded sealed pages down endOf highestBad rowsOf opened openLeaves unfinished
 verdict-bad = (refl, refl)
 
 -- the kind at 0 is bad too, and not blank
@@ -112,13 +112,13 @@ unfolding packed head front fieldsOf lowest highest within between meetsRules is
 action-bad-met = decay .sheet-spoiled change 2 1 59 1 refl to-one .action-bad 3 2 9 refl
 
 pub opening-spoiled : (opens (spoiled change 1 59 1) .answer ≡ Refused 2 4) × (inspected (spoiled change 1 59 1) 2 ≡ Lowest 1)
-unfolding packed head front fieldsOf lowest highest within between meetsRules isPageOf torn inBounds tested tabulate fateOf imagesOf notBy effective versionsOf tokenOf decoded sealed pages down endOf highestBad rowsOf opened openLeaves lowestUnlawful inspectable inspected
+unfolding packed head front fieldsOf lowest highest within between meetsRules isPageOf torn inBounds tested tabulate fateOf imagesOf notBy effective versionsOf tokenOf decoded sealed pages down endOf highestBad rowsOf opened openLeaves unfinished lowestUnlawful inspectable inspected
 opening-spoiled = (refl, refl)
 
 -- with its end mark at 0 it is torn, and inspect names the lowest page of the action
 pub opening-torn : (sealed 2 (spoiled change 1 markAt 0) 1 ≡ log.torn)
     × (opens (spoiled change 1 markAt 0) .answer ≡ Refused 2 4) × (inspected (spoiled change 1 markAt 0) 2 ≡ Lowest 2)
-unfolding packed head front fieldsOf lowest highest within between meetsRules isPageOf torn inBounds tested tabulate fateOf imagesOf notBy effective versionsOf tokenOf decoded sealed pages down endOf highestBad rowsOf opened openLeaves lowestUnlawful inspectable inspected
+unfolding packed head front fieldsOf lowest highest within between meetsRules isPageOf torn inBounds tested tabulate fateOf imagesOf notBy effective versionsOf tokenOf decoded sealed pages down endOf highestBad rowsOf opened openLeaves unfinished lowestUnlawful inspectable inspected
 opening-torn = (refl, refl, refl)
 
 -- ---- the end mark of the second image at 0: open and inspect find nothing, and the action shows without it. So what is said of open and
@@ -136,7 +136,7 @@ unfolding packed head front fieldsOf lowest highest within between meetsRules is
 torn-met = decay .sheet-spoiled change 2 3 markAt 0 refl to-zero .torn-or-bad 2 refl
 
 pub unseen : (opens halved .answer ≡ Opened 4 0) × (inspected halved 2 ≡ Lowest 0)
-unfolding packed head front fieldsOf lowest highest within between meetsRules isPageOf torn inBounds tested tabulate fateOf imagesOf notBy effective versionsOf tokenOf decoded sealed pages down endOf highestBad undecidedOf rowsOf opened openLeaves lowestUnlawful inspectable inspected
+unfolding packed head front fieldsOf lowest highest within between meetsRules isPageOf torn inBounds tested tabulate fateOf imagesOf notBy effective versionsOf tokenOf decoded sealed pages down endOf highestBad undecidedOf rowsOf opened openLeaves unfinished lowestUnlawful inspectable inspected
 unseen = (refl, refl)
 
 -- what rebuild answers of a file on a sheet, opened as it was before
@@ -145,7 +145,7 @@ rebuilds before s file = rebuildLeaves s (opens before .fates) (opens before .ro
 
 -- after that opening file 1 has its version, and file 2 has none
 pub half-shown : (rebuilds halved halved 1 ≡ Rebuilt 2 10 0 0 0) × (rebuilds halved halved 2 ≡ Rebuilt 0 0 0 0 0)
-unfolding packed head front fieldsOf lowest highest within between meetsRules isPageOf torn inBounds tested tabulate fateOf imagesOf notBy effective versionsOf tokenOf decoded sealed pages down endOf highestBad undecidedOf rowsOf opened openLeaves flat coldRows warmRow rowHolds lentRight rebuilt rebuildLeaves
+unfolding packed head front fieldsOf lowest highest within between meetsRules isPageOf torn inBounds tested tabulate fateOf imagesOf notBy effective versionsOf tokenOf decoded sealed pages down endOf highestBad undecidedOf rowsOf opened openLeaves unfinished flat coldRows warmRow rowHolds lentRight rebuilt rebuildLeaves
 half-shown = (refl, refl)
 
 -- ---- the same of an image that mends another: the mistyped one, which it overtook, is the version now
@@ -159,13 +159,13 @@ mended =
 
 pub mistyped-again : (rebuilds mended mended 1 ≡ Rebuilt 3 10 0 0 0)
     × (rebuilds (spoiled mended 3 markAt 0) (spoiled mended 3 markAt 0) 1 ≡ Rebuilt 2 100 0 0 0) × (inspected (spoiled mended 3 markAt 0) 2 ≡ Lowest 0)
-unfolding packed head front fieldsOf lowest highest within between meetsRules isPageOf torn inBounds tested tabulate fateOf imagesOf notBy effective versionsOf tokenOf decoded sealed pages down endOf highestBad undecidedOf rowsOf opened openLeaves flat coldRows warmRow rowHolds lentRight rebuilt rebuildLeaves lowestUnlawful inspectable inspected
+unfolding packed head front fieldsOf lowest highest within between meetsRules isPageOf torn inBounds tested tabulate fateOf imagesOf notBy effective versionsOf tokenOf decoded sealed pages down endOf highestBad undecidedOf rowsOf opened openLeaves unfinished flat coldRows warmRow rowHolds lentRight rebuilt rebuildLeaves lowestUnlawful inspectable inspected
 mistyped-again = (refl, refl, refl)
 
 -- ---- a byte that is spoiled while the sheet is open, here of the second image's value: a row that is rebuilt then goes on without the page
 
 pub while-open : rebuilds change (spoiled change 3 valueAt 9) 2 ≡ Rebuilt 0 0 0 0 0
-unfolding packed head front fieldsOf lowest highest within between meetsRules isPageOf torn inBounds tested tabulate fateOf imagesOf notBy effective versionsOf tokenOf decoded sealed pages down endOf highestBad undecidedOf rowsOf opened openLeaves flat coldRows warmRow rowHolds lentRight rebuilt rebuildLeaves
+unfolding packed head front fieldsOf lowest highest within between meetsRules isPageOf torn inBounds tested tabulate fateOf imagesOf notBy effective versionsOf tokenOf decoded sealed pages down endOf highestBad undecidedOf rowsOf opened openLeaves unfinished flat coldRows warmRow rowHolds lentRight rebuilt rebuildLeaves
 while-open = refl
 
 -- ---- two bytes: a value that begins with 0 and 14 becomes one that begins with 255 and 0, and nobody can tell. So the theorem is of one byte

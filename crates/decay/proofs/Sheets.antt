@@ -49,7 +49,7 @@ no-opening : (g : Entry) → isSealed g ≡ false → isOpening g ≡ false
 no-opening blank e = refl
 no-opening torn e = refl
 no-opening bad e = refl
-no-opening opening e = e
+no-opening (opening k) e = e
 no-opening (image i) e = refl
 no-opening (outcome a c) e = refl
 
@@ -158,7 +158,7 @@ module _ (s : List ℕ) (files place i v : ℕ) (was : isSealed (sealed files s 
     resealed blank h = refl
     resealed torn h = refl
     resealed bad h = refl
-    resealed opening h = refl
+    resealed (opening k) h = refl
     resealed (image j) h = by-opening (j .action) (image j) refl h
     resealed (outcome a d) h = by-opening a (outcome a d) refl h
 

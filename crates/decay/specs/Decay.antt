@@ -25,7 +25,7 @@ abbrev pub isSealed : Entry → Bool
 isSealed blank = false
 isSealed torn = false
 isSealed bad = false
-isSealed opening = true
+isSealed (opening k) = true
 isSealed (image i) = true
 isSealed (outcome a c) = true
 
@@ -34,7 +34,7 @@ abbrev pub isOf : ℕ → Entry → Bool
 isOf a blank = false
 isOf a torn = false
 isOf a bad = false
-isOf a opening = false
+isOf a (opening k) = false
 isOf a (image i) = eqb (i .action) a
 isOf a (outcome b c) = eqb b a
 

@@ -3,18 +3,19 @@
 use Prim.Native.Nat.{ℕ, zero, suc, _*_, _-_, _/_, _%_, _≤_, _<_}
 use mathlib.Core.Path.{_≡_, refl, ap, _∙_}
 use mathlib.Core.List.{List, [], _∷_}
-use mathlib.Core.Bool.{true}
+use mathlib.Core.Bool.{true, false}
 use native.Mathlib.Omega.{arith}
 use lib.ListN.{length, take, drop, replicate, length-replicate}
 use borrow.Author.Tests.{le-leb, eq-eqb}
+use Rattle.encoding.proofs.Logic.{and-false}
 use Rattle.page.specs.declared.Unpacked.the-variants.{Blank}
 use Rattle.page.specs.Layout.{pageSize, mostPlaces, mostFiles}
 use Rattle.page.specs.Answers.{inBounds, tested}
 use Rattle.page.proofs.Rules.{are-in-bounds}
-use Rattle.recovery.specs.Places.{tabulate}
-use Rattle.recovery.specs.Log.{blank, fateOf}
+use Rattle.recovery.specs.Places.{tabulate, nth}
+use Rattle.recovery.specs.Log.{blank, fateOf, Entry}
 use Rattle.recovery.specs.Sheet.{pageBytes, decoded, sealed, pages}
-use Rattle.recovery.specs.World.{down, endOf, highestBad, undecidedOf, fateNumber, opened}
+use Rattle.recovery.specs.World.{down, endOf, highestBad, undecidedOf, fateNumber, opened, isCarried, unfinished}
 use Rattle.recovery.specs.declared.Row.{Row}
 use Rattle.recovery.specs.declared.Answer.the-variants.{Opened}
 use Rattle.recovery.specs.Lent.{rowLength, rowsOf, openLeaves}
@@ -61,10 +62,15 @@ module _ (files n : ℕ) (some : 1 ≤ n) (most : n ≤ mostPlaces) (one : 1 ≤
   end-zero zero h = refl
   end-zero (suc p) h = rw (page-here files n s p (omega arith) ∙ sealed-blank p (omega arith)) (end-zero p (omega arith))
 
+  -- no move was begun
+  not-begun : (P : List Entry) → unfinished P 0 ≡ false
+  unfolding unfinished down fateOf
+  not-begun P = and-false (isCarried (nth blank P 1)) false refl
+
   opened-pages : (fates : List ℕ) (rows : List Row) (floor : ℕ) → length fates ≡ n → length rows ≡ files → opened (pages files n s) fates rows floor .0 ≡ Opened 0 0
   unfolding opened down highestBad
   opened-pages fates rows floor f r =
-      simp (pages-long files n s, f, r, le-leb 1 n some, le-leb n mostPlaces most, eq-eqb n n refl, le-leb 1 files one, le-leb files mostFiles few, end-zero n (omega arith), none-undecided 0 n)
+      simp (pages-long files n s, f, r, le-leb 1 n some, le-leb n mostPlaces most, eq-eqb n n refl, le-leb 1 files one, le-leb files mostFiles few, end-zero n (omega arith), none-undecided 0 n, not-begun (pages files n s))
 
   pub opened-blank : (fates rows : List ℕ) (floor : ℕ) → length fates ≡ n → length rows ≡ rowLength * files → openLeaves s fates rows floor .answer ≡ Opened 0 0
   unfolding openLeaves

@@ -11,7 +11,7 @@ use Rattle.page.specs.Answers.{inBounds, tested}
 use Rattle.recovery.specs.Places.{tabulate}
 use Rattle.recovery.specs.Log.{opening, outcome, fateOf, outcomeOf, imagesOf, notBy, effective, versionsOf, tokenOf}
 use Rattle.recovery.specs.Sheet.{decoded, sealed, pages}
-use Rattle.recovery.specs.World.{down, warmRow, rowHolds, lentRight, endOf, highestBad, undecidedOf, coldRows, opened}
+use Rattle.recovery.specs.World.{down, warmRow, rowHolds, lentRight, endOf, highestBad, undecidedOf, coldRows, opened, unfinished}
 use Rattle.recovery.specs.Lent.{Left, rowLength, rowsOf, flat, sizesRight, openLeaves}
 use Rattle.recovery.specs.Numbers.{numbersOf}
 use Rattle.recovery.specs.declared.Answer.the-variants.{Refused, Opened, Stored}
@@ -58,13 +58,13 @@ abbrev two : Left
 two = record { answer = Opened 0 0; state = record { end = 0; floor = 0; undecided = 0 }; sheet = replicate 128 0; fates = 0 ∷ 0 ∷ []; rows = replicate (rowLength * 8) 0 }
 
 abbrev begun : Left
-begun = record { answer = Stored 1; state = record { end = 1; floor = 0; undecided = 1 }; sheet = packedEntry 1 opening ++ replicate 64 0; fates = 1 ∷ 0 ∷ []; rows = replicate (rowLength * 8) 0 }
+begun = record { answer = Stored 1; state = record { end = 1; floor = 0; undecided = 1 }; sheet = packedEntry 1 (opening false) ++ replicate 64 0; fates = 1 ∷ 0 ∷ []; rows = replicate (rowLength * 8) 0 }
 
 abbrev unwritten : Left
 unwritten = record { answer = Refused 11 0; state = begun .state; sheet = begun .sheet; fates = begun .fates; rows = 1 ∷ replicate (rowLength * 8 - 1) 0 }
 
 abbrev decided : Left
-decided = record { answer = Stored 2; state = record { end = 2; floor = 0; undecided = 0 }; sheet = packedEntry 1 opening ++ packedEntry 2 (outcome 1 true); fates = 2 ∷ 0 ∷ []; rows = 1 ∷ replicate (rowLength * 8 - 1) 0 }
+decided = record { answer = Stored 2; state = record { end = 2; floor = 0; undecided = 0 }; sheet = packedEntry 1 (opening false) ++ packedEntry 2 (outcome 1 true); fates = 2 ∷ 0 ∷ []; rows = 1 ∷ replicate (rowLength * 8 - 1) 0 }
 
 -- the page that a begin leaves when it is cut after n bytes
 abbrev cutPage : ℕ → ℕ
@@ -83,7 +83,7 @@ record Computed : Type 0 where
   cut-all : cutPage 64 ≡ 3
 
 computed : Computed
-unfolding head front packed fieldsOf lowest highest within between meetsRules isPageOf torn inBounds tested tabulate fateOf outcomeOf imagesOf notBy effective versionsOf tokenOf decoded sealed pages down warmRow rowHolds lentRight endOf highestBad undecidedOf coldRows opened rowsOf flat sizesRight openLeaves follow eachRow call packedEntry withPage callLeaves mixed point.opened
+unfolding head front packed fieldsOf lowest highest within between meetsRules isPageOf torn inBounds tested tabulate fateOf outcomeOf imagesOf notBy effective versionsOf tokenOf decoded sealed pages down warmRow rowHolds lentRight endOf highestBad undecidedOf coldRows unfinished opened rowsOf flat sizesRight openLeaves follow eachRow call packedEntry withPage callLeaves mixed point.opened
 computed = record { opens = refl; begins = refl; writes-not = refl; commits = refl; commits-once = refl; one-page = refl; cut-none = refl; cut-most = refl; cut-all = refl }
 
 step : {x y : Left} (k : Call) → x ≡ y → point.then x k ≡ point.then y k

@@ -37,7 +37,7 @@ abbrev pub kindOf : Entry → ℕ
 kindOf blank = 0
 kindOf torn = 1
 kindOf bad = 2
-kindOf opening = 3
+kindOf (opening k) = 3
 kindOf (image i) = 3
 kindOf (outcome a c) = 3
 

@@ -1,6 +1,7 @@
 -- The check word of 60 bytes in which one number stands twice. Assumes nothing.
-use Prim.Native.Nat.{ℕ, zero, suc, _+_, _*_, _/_, _%_, _<_}
+use Prim.Native.Nat.{ℕ, zero, suc, _+_, _*_, _/_, _%_, _≤_, _<_}
 use mathlib.Core.Path.{_≡_, refl, sym, ap, _∙_}
+use mathlib.Core.Bool.{Bool, true, false, cond}
 use native.Mathlib.Omega.{arith}
 use native.Mathlib.Nat.{div-div-eq-div-mul}
 use Rattle.encoding.specs.Bytes.{check}
@@ -22,26 +23,34 @@ passing-is (suc n) x = omega (arith, passing-is n x)
 four-weighed : ℕ → ℕ → ℕ → ℕ → ℕ → ℕ → ℕ → ℕ → ℕ → ℕ
 four-weighed a b c d x y z t rest = a * x + (b * y + (c * z + (d * t + rest)))
 
--- the 60 bytes by their weights, of the four bytes of the number
-summed : ℕ → ℕ → ℕ → ℕ → ℕ
-summed x y z t = 48406 + (48628 + passing 7 (four-weighed 15964 38049 14425 61498 x y z t (passing 44 (four-weighed 4654 528 257 1 x y z t 0))))
+-- the 60 bytes by their weights, of byte 1 and the four bytes of the number
+summed : ℕ → ℕ → ℕ → ℕ → ℕ → ℕ
+summed b x y z t = 48406 + (48628 + (15231 * b + passing 6 (four-weighed 15964 38049 14425 61498 x y z t (passing 44 (four-weighed 4654 528 257 1 x y z t 0)))))
 
-summed-is : (x y z t : ℕ) → 20618 * x + 38577 * y + 14682 * z + 61499 * t + 97034 ≡ summed x y z t
+summed-is : (b x y z t : ℕ) → 20618 * x + 38577 * y + 14682 * z + 61499 * t + (97034 + 15231 * b) ≡ summed b x y z t
 unfolding summed four-weighed
-summed-is x y z t = simp passing-is (omega arith)
+summed-is b x y z t = simp passing-is (omega arith)
 
-weighed-sum : (x : ℕ) → 48406 + weighed (weights 60) (few x) 0 ≡ summed (x % 256) (x / 256 % 256) (x / 256 / 256 % 256) (x / 256 / 256 / 256 % 256)
+weighed-sum : (small x : ℕ) → 48406 + weighed (weights 60) (few small x) 0
+    ≡ summed (small % 256) (x % 256) (x / 256 % 256) (x / 256 / 256 % 256) (x / 256 / 256 / 256 % 256)
 unfolding few weights summed passing four-weighed
-weighed-sum x = refl
+weighed-sum small x = refl
 
-few-word : (x : ℕ) → (20618 * (x % 256) + 38577 * (x / 256 % 256) + 14682 * (x / 256 / 256 % 256) + 61499 * (x / 256 / 256 / 256 % 256) + 97034) % 65521 ≡ check (few x)
+few-word : (small x : ℕ) → (20618 * (x % 256) + 38577 * (x / 256 % 256) + 14682 * (x / 256 / 256 % 256) + 61499 * (x / 256 / 256 / 256 % 256)
+    + (97034 + 15231 * (small % 256))) % 65521 ≡ check (few small x)
 unfolding few
-few-word x = ap (λ (k : ℕ). k % 65521) (summed-is _ _ _ _ ∙ sym (weighed-sum x)) ∙ page-word (few x) refl
+few-word small x = ap (λ (k : ℕ). k % 65521) (summed-is _ _ _ _ _ ∙ sym (weighed-sum small x)) ∙ page-word (few small x) refl
 
-pub few-end : (x a b c d w f r : ℕ) → a ≡ x % 256 → b ≡ x / 256 % 256 → c ≡ x / 65536 % 256 → d ≡ x / 16777216 % 256
-    → w ≡ 20618 * a + 38577 * b + 14682 * c + 61499 * d → f ≡ folded (w + 97034) → r ≡ f % 65521 → r ≡ check (few x)
-few-end x a b c d w f r ea eb ec ed ew ef er =
-    er ∙ ap (λ (k : ℕ). k % 65521) ef ∙ folded-mod (w + 97034) ∙ ap (λ (k : ℕ). k % 65521) e ∙ few-word x
+-- 1 or 0 is a byte
+one-byte : (carried : Bool) → cond carried 1 0 ≡ cond carried 1 0 % 256
+one-byte true = refl
+one-byte false = refl
+
+pub few-end : (carried : Bool) (x a b c d w t f r : ℕ) → a ≡ x % 256 → b ≡ x / 256 % 256 → c ≡ x / 65536 % 256 → d ≡ x / 16777216 % 256
+    → w ≡ 20618 * a + 38577 * b + 14682 * c + 61499 * d → t ≡ 97034 + 15231 * cond carried 1 0 → f ≡ folded (w + t) → r ≡ f % 65521
+    → r ≡ check (few (cond carried 1 0) x)
+few-end carried x a b c d w t f r ea eb ec ed ew et ef er =
+    er ∙ ap (λ (k : ℕ). k % 65521) ef ∙ folded-mod (w + t) ∙ ap (λ (k : ℕ). k % 65521) e ∙ few-word (cond carried 1 0) x
   where
     third : x / 65536 ≡ x / 256 / 256
     third = sym (div-div-eq-div-mul x 256 256)
@@ -49,14 +58,21 @@ few-end x a b c d w f r ea eb ec ed ew ef er =
     fourth : x / 16777216 ≡ x / 256 / 256 / 256
     fourth = sym (div-div-eq-div-mul x 65536 256) ∙ ap (λ (k : ℕ). k / 256) third
 
-    e : w + 97034 ≡ 20618 * (x % 256) + 38577 * (x / 256 % 256) + 14682 * (x / 256 / 256 % 256) + 61499 * (x / 256 / 256 / 256 % 256) + 97034
-    e = rw (ew, ea, eb, ec, ed, third, fourth)
+    t-is : t ≡ 97034 + 15231 * (cond carried 1 0 % 256)
+    t-is = et ∙ ap (λ (k : ℕ). 97034 + 15231 * k) (one-byte carried)
+
+    e : w + t ≡ 20618 * (x % 256) + 38577 * (x / 256 % 256) + 14682 * (x / 256 / 256 % 256) + 61499 * (x / 256 / 256 / 256 % 256) + (97034 + 15231 * (cond carried 1 0 % 256))
+    e = rw (ew, t-is, ea, eb, ec, ed, third, fourth)
 
 pub few-small : (a b c d w : ℕ) → (a < 256) × (b < 256) × (c < 256) × (d < 256) → w ≡ 20618 * a + 38577 * b + 14682 * c + 61499 * d → w < 35000000
 few-small a b c d w h e = omega arith
 
-pub few-fits : (w f : ℕ) → w < 35000000 → f ≡ folded (w + 97034) → f < 131042
-few-fits w f h e = omega arith
+pub two-small : (carried : Bool) (t : ℕ) → t ≡ 97034 + 15231 * cond carried 1 0 → t ≤ 112265
+two-small true t e = omega arith
+two-small false t e = omega arith
+
+pub few-fits : (w t f : ℕ) → w < 35000000 → t ≤ 112265 → f ≡ folded (w + t) → f < 131042
+few-fits w t f h k e = omega arith
 
 -- the third turn of `weigh_few`
 third-is : (a b c d w v u : ℕ) → w ≡ 16 * 0 + 8 * (b + d) + 4 * (a + d) + 2 * (c + d) + (a + b + (c + d)) → v ≡ 16 * w + 8 * c + 4 * b + 2 * b + c

@@ -30,6 +30,6 @@ three s i = 15 * (four s i + 480 * (four s (i + 8) + 480 * four s (i + 16)))
 unfoldable pub gathered : List ℕ → ℕ
 gathered s = 58132 * three s 32 + 39269 * three s 36 + 16953 * (480 * three s 8 + 15 * four s 0) + 42009 * (480 * three s 12 + 15 * four s 4)
 
--- 60 bytes: 1 in byte 0, a number in bytes 8 to 11 and again in bytes 56 to 59, and zeros
-unfoldable pub few : ℕ → List ℕ
-few x = bytes 8 1 ++ bytes 4 x ++ replicate 44 0 ++ bytes 4 x
+-- 60 bytes: 1 in byte 0, a small number in byte 1, a number in bytes 8 to 11 and again in bytes 56 to 59, and zeros
+unfoldable pub few : ℕ → ℕ → List ℕ
+few small x = bytes 1 1 ++ bytes 1 small ++ replicate 6 0 ++ bytes 4 x ++ replicate 44 0 ++ bytes 4 x

@@ -7,6 +7,7 @@
 // A compiler makes products of sums of shifts. Which forms it leaves alone: docs/DECISIONS.md, Speed. tests/products.sh looks.
 use crate::byte_at;
 use crate::read_number;
+ghost use mathlib.Core.Bool.{cond};
 ghost use mathlib.Core.Path.{_≡_};
 ghost use Prim.Native.Nat.{_+_, _*_, _/_, _%_, _≤_, _<_};
 ghost use lib.ListN.{length};
@@ -256,10 +257,20 @@ fn weigh_few(a: u64, b: u64, c: u64, d: u64) -> u64
     turns(u, acd, 0, acd, bd)
 }
 
-// The check word of 60 bytes that are 0 but for 1 in byte 0 and a number in bytes 8 to 11 and again in bytes 56 to 59. 97,034 is what the
-// beginning and byte 0 come to.
-pub fn check_few(x: u64) -> u64
-    ensures { λ r. ⌜ r ≡ check (few x) ⌝ }
+// What the beginning and byte 0, which is 1, come to, and byte 1, which is 1 if carried and weighs 15,231.
+fn first_two(carried: bool) -> u64
+    ensures { λ r. ⌜ r ≡ 97034 + 15231 * cond carried 1 0 ⌝ }
+{
+    if carried {
+        return 112265;
+    }
+    97034
+}
+
+// The check word of 60 bytes that are 0 but for 1 in byte 0, 1 in byte 1 if carried, and a number in bytes 8 to 11 and again in bytes 56
+// to 59.
+pub fn check_few(carried: bool, x: u64) -> u64
+    ensures { λ r. ⌜ r ≡ check (few (cond carried 1 0) x) ⌝ }
     ensures fits { λ r. ⌜ r < 65521 ⌝ }
 {
     let w = weigh_few(
@@ -268,5 +279,5 @@ pub fn check_few(x: u64) -> u64
         low_byte(x >> 16),
         low_byte(x >> 24),
     );
-    reduced(fold(w + 97034))
+    reduced(fold(w + first_two(carried)))
 }

@@ -7,7 +7,7 @@ use lib.Seq.{sets, sets-eq, take-all}
 use native.Mathlib.Omega.{arith}
 use borrow.Author.Tests.{eq-eqb, ne-eqb}
 use Rattle.recovery.specs.declared.Answer.{Answer}
-use Rattle.recovery.specs.declared.Answer.the-variants.{Refused, Opened, Rebuilt, Stored, Value, Nothing, Told}
+use Rattle.recovery.specs.declared.Answer.the-variants.{Refused, Opened, Rebuilt, Stored, Value, Nothing, Told, Moved}
 use Rattle.recovery.specs.declared.State.{State}
 use Rattle.recovery.specs.declared.Done.{Done}
 use Rattle.recovery.specs.Lent.{Left, leftBy}
@@ -22,6 +22,7 @@ numbers-long (Stored p) = refl
 numbers-long (Value p s n) = refl
 numbers-long Nothing = refl
 numbers-long (Told f p) = refl
+numbers-long (Moved f) = refl
 
 -- once the answer's numbers are copied, and the state's stored after them
 pub told-are : (out ns : List ℕ) (a : Answer) (st : State) → length out ≡ numberCount → ns ≡ numbersOf a → take answerLength out ≡ take answerLength ns

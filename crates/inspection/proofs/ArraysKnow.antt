@@ -172,13 +172,13 @@ module _ (l : List Entry) (places : ℕ) (k : Arrays) (w : Knows l places k) whe
       getD-set (k .fates) i v a (omega (arith, w .long .fates-long))
       ∙ by-test (λ (y : Fate). cond (eqb a i) v (getD (k .fates) a 0) ≡ fateNumber y) (eqb a i) (λ t. rw t e) (λ t. rw t (w .fates-are a))
 
-  keep-opening : (p : Page) → suc (length l) ≤ places → Knows (opening ∷ l) places (keepPage k (Opening p) (suc (length l)))
+  keep-opening : (p : Page) → suc (length l) ≤ places → Knows (opening (eqb (p .small) 1) ∷ l) places (keepPage k (Opening p) (suc (length l)))
   unfolding fateOf imagesOf
   keep-opening p b = record {
-    lawful-is = lawful-more opening l refl (w .lawful-is);
+    lawful-is = lawful-more (opening (eqb (p .small) 1)) l refl (w .lawful-is);
     fates-are = λ a. fates-set (suc (length l)) 1 b undecided refl a;
     newest-are = w .newest-are;
-    below-are = below-same opening refl;
+    below-are = below-same (opening (eqb (p .small) 1)) refl;
     long = long-set (suc (length l)) 1;
   }
 

@@ -72,7 +72,7 @@ module _ (s : List ℕ) (files : ℕ) where
         let b : a ≤ length s / pageSize = omega (arith, length-down (pagesOf s files) n) in
         sym (opening-sealed (decoded files s) (decoded files s a))
         ∙ ap isOpening (sym (page-at-place files (length s / pageSize) s a (z .0) b)
-        ∙ sym (entry-down (pagesOf s files) n a (omega (arith, length-down (pagesOf s files) n))) ∙ fate-opens (log n) a (w .lawful-is) d)
+        ∙ sym (entry-down (pagesOf s files) n a (omega (arith, length-down (pagesOf s files) n)))) ∙ fate-opens (log n) a (w .lawful-is) d
 
     module _ (u : Unpacked) (h : n < m) (e : u ≡ tested (pageBytes s (n + 1)) (n + 1) files) where
       abbrev page : Entry

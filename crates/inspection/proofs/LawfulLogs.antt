@@ -10,6 +10,7 @@ use lib.Dec.{eqb}
 use borrow.Author.Tests.{eqb-true}
 use Rattle.encoding.proofs.Logic.{and-true, by-test}
 use Rattle.recovery.specs.Log.{Image, Entry, blank, torn, bad, opening, image, outcome, Fate, unknown, undecided, committed, aborted, Placed, fateOf, imagesOf, notBy, effective, effectiveOf, tokenStep, tokenOf}
+use Rattle.recovery.specs.Sheet.{isOpening}
 use Rattle.recovery.specs.World.{fateNumber}
 use Rattle.recovery.proofs.Spots.{entryIn, entry-cons, entry-top}
 use Rattle.recovery.proofs.Effective.{each-notBy}
@@ -22,7 +23,7 @@ use Rattle.inspection.proofs.LowestUnlawful.{lawful-parts}
 -- how a page that fits moves the fate of an action to y
 data Moves (g : Entry) (l : List Entry) (a : ℕ) (y : Fate) : Type 0 where
   same : y ≡ fateOf l a → Moves g l a y
-  opens : a ≡ suc (length l) → g ≡ opening → Moves g l a y
+  opens : a ≡ suc (length l) → isOpening g ≡ true → Moves g l a y
   decides : fateOf l a ≡ undecided → 1 ≤ fateNumber y → Moves g l a y
 
 moves : (g : Entry) (l : List Entry) (a : ℕ) → fitsBelow g l ≡ true → Moves g l a (fateOf (g ∷ l) a)
@@ -30,7 +31,7 @@ unfolding fateOf
 moves blank l a h = same refl
 moves torn l a h = same refl
 moves bad l a h = same refl
-moves opening l a h = by-test (Moves opening l a) (eqb a (suc (length l))) (λ e. opens (eqb-true a (suc (length l)) e) refl) (λ e. same refl)
+moves (opening k) l a h = by-test (Moves (opening k) l a) (eqb a (suc (length l))) (λ e. opens (eqb-true a (suc (length l)) e) refl) (λ e. same refl)
 moves (image i) l a h = same refl
 moves (outcome b c) l a h = by-test (Moves (outcome b c) l a) (eqb a b)
     (λ e. decides (ap (fateOf l) (eqb-true a b e) ∙ undecided-is (fateOf l b) h) (verdict-known c))
@@ -51,15 +52,15 @@ fate-place (g ∷ l) a w h = go (fateOf (g ∷ l) a) h (moves g l a (lawful-part
     go y k (decides e n) r = let z = r (undecided-known e) in omega arith
 
 -- and is the place of an opening
-pub fate-opens : (l : List Entry) (a : ℕ) → lawful l ≡ true → 1 ≤ fateNumber (fateOf l a) → entryIn l a ≡ opening
+pub fate-opens : (l : List Entry) (a : ℕ) → lawful l ≡ true → 1 ≤ fateNumber (fateOf l a) → isOpening (entryIn l a) ≡ true
 fate-opens [] a w h = absurd (none-known a h)
 fate-opens (g ∷ l) a w h =
     let p = lawful-parts g l w in
-    go (fateOf (g ∷ l) a) h (moves g l a (p .0)) (λ k. entry-cons g l a (fate-place l a (p .1) k .1) ∙ fate-opens l a (p .1) k)
+    go (fateOf (g ∷ l) a) h (moves g l a (p .0)) (λ k. ap isOpening (entry-cons g l a (fate-place l a (p .1) k .1)) ∙ fate-opens l a (p .1) k)
   where
-    go : (y : Fate) → 1 ≤ fateNumber y → Moves g l a y → (1 ≤ fateNumber (fateOf l a) → entryIn (g ∷ l) a ≡ opening) → entryIn (g ∷ l) a ≡ opening
+    go : (y : Fate) → 1 ≤ fateNumber y → Moves g l a y → (1 ≤ fateNumber (fateOf l a) → isOpening (entryIn (g ∷ l) a) ≡ true) → isOpening (entryIn (g ∷ l) a) ≡ true
     go y k (same e) r = r (subst (λ (x : Fate). 1 ≤ fateNumber x) e k)
-    go y k (opens e o) r = ap (entryIn (g ∷ l)) e ∙ entry-top g l ∙ o
+    go y k (opens e o) r = ap isOpening (ap (entryIn (g ∷ l)) e ∙ entry-top g l) ∙ o
     go y k (decides e n) r = r (undecided-known e)
 
 -- place 0 is none
@@ -151,7 +152,7 @@ unfolding fateOf imagesOf effective
 good-more blank l f h w r = r
 good-more torn l f h w r = r
 good-more bad l f h w r = r
-good-more opening l f h w r = good-same opening l f refl w r
+good-more (opening k) l f h w r = good-same (opening k) l f refl w r
 good-more (image i) l f h w r = by-test (λ xs. Good (fateOf l) (effective xs)) (eqb (i .file) f) (λ e. good-image i l f h (eqb-true (i .file) f e) r) (λ e. r)
 good-more (outcome b c) l f h w r = good-same (outcome b c) l f h w r
 

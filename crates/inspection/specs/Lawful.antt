@@ -36,7 +36,7 @@ abbrev pub fitsBelow : Entry → List Entry → Bool
 fitsBelow blank l = false
 fitsBelow torn l = true
 fitsBelow bad l = false
-fitsBelow opening l = true
+fitsBelow (opening k) l = true
 fitsBelow (image i) l = imageFits i l
 fitsBelow (outcome a c) l = isUndecided (fateOf l a)
 

@@ -16,7 +16,7 @@ use Rattle.page.specs.declared.Unpacked.{Unpacked}
 use Rattle.page.specs.declared.Unpacked.the-variants.{Refused, Blank, Torn, Opening, Image, Outcome, Unfit}
 use Rattle.page.proofs.Unpacked.{the-type}
 use Rattle.page.specs.Layout.{valueSize, pageSize}
-use Rattle.page.specs.Table.{fieldsOf, opening, lowest, highest, meetsRules, isPageOf, fits, torn}
+use Rattle.page.specs.Table.{fieldsOf, openingAs, lowest, highest, meetsRules, isPageOf, fits, torn}
 use Rattle.page.specs.Answers.{inBounds, byKind, tested, isFitPage, onImage, isOutcomeOf}
 use Rattle.page.specs.Steps.{hasKind}
 use Rattle.page.proofs.Rules.{Between, between-true, InBounds, in-bounds}
@@ -113,19 +113,22 @@ outcome-is s place files p e =
     let b = simp (ne-eqb (p .kind) 1 (λ z. omega arith), ne-eqb (p .kind) 2 (λ z. omega arith)) at (ranges h) in
     record { kind = k; verdict = omega arith; action = omega (arith, h .bounds); rest = (omega arith, omega arith, omega arith) }
 
--- an opening has no choice
-pub opening-is : (s : List ℕ) (place files : ℕ) (p : Page) → Opening p ≡ tested s place files → p ≡ opening place
+-- an opening has no choice but its small byte
+pub record OpeningIs (p : Page) (place : ℕ) : Type 0 where
+  pub small : p .small ≤ 1
+  pub is : p ≡ openingAs (p .small) place
+
+pub opening-is : (s : List ℕ) (place files : ℕ) (p : Page) → Opening p ≡ tested s place files → OpeningIs p place
 unfolding lowest highest
 opening-is s place files p e =
     let h = found s place files (Opening p) e in
     let k : p .kind ≡ 1 = h .kind-is in
     let b = simp (eq-eqb (p .kind) 1 k) at (ranges h) in
-    let small : p .small ≡ 0 = omega arith in
     let file : p .file ≡ 0 = omega arith in
     let action : p .action ≡ place = omega arith in
     let link : p .link ≡ 0 = omega arith in
     let start : p .start ≡ 0 = omega arith in
-    λ i. record { kind = k i; small = small i; file = file i; action = action i; link = link i; start = start i }
+    record { small = omega arith; is = λ i. record { kind = k i; small = p .small; file = file i; action = action i; link = link i; start = start i } }
 
 -- ---- what `let Unpacked::Image(p) = u else { .. }` tells in its else, or with an outcome: the tag is another's
 

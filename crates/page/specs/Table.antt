@@ -60,9 +60,12 @@ valueOf s = part valueAt placeAt s
 
 -- ---- the rules of each kind
 
--- the begin record of an action (a transaction), at its own place
+-- the begin record of an action (a transaction), at its own place; small is 1 where the action carries another sheet's versions: carried
+abbrev pub openingAs : ℕ → ℕ → Page
+openingAs small place = record { kind = 1; small = small; file = 0; action = place; link = 0; start = 0 }
+
 abbrev pub opening : ℕ → Page
-opening place = record { kind = 1; small = 0; file = 0; action = place; link = 0; start = 0 }
+opening place = openingAs 0 place
 
 -- a version record: the value's length, file (object), action, link (to the version before) and start (write timestamp)
 abbrev pub image : ℕ → ℕ → ℕ → ℕ → ℕ → Page
@@ -74,11 +77,11 @@ outcome action verdict = record { kind = 3; small = verdict; file = 0; action = 
 
 -- the least and the greatest that each field may be, by kind, at a place and for a file count
 unfoldable pub lowest : ℕ → ℕ → Page
-lowest kind place = cond (eqb kind 1) (opening place) (cond (eqb kind 2) (image 0 1 1 0 1) (outcome 1 1))
+lowest kind place = cond (eqb kind 1) (openingAs 0 place) (cond (eqb kind 2) (image 0 1 1 0 1) (outcome 1 1))
 
 unfoldable pub highest : ℕ → ℕ → ℕ → Page
 highest kind place files =
-    cond (eqb kind 1) (opening place)
+    cond (eqb kind 1) (openingAs 1 place)
     (cond (eqb kind 2) (image valueSize files (place - 1) (place - 1) (2 ^ 64 - 1)) (outcome (place - 1) 2))
 
 unfoldable pub within : ℕ → ℕ → ℕ → Bool

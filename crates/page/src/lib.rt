@@ -15,7 +15,7 @@ ghost use Prim.Native.Nat.{_+_, _≤_, _<_, _-_};
 ghost use lib.ListN.{length, take, replicate};
 ghost use Rattle.encoding.specs.Bytes.{bytes, zeros, same, check};
 ghost use Rattle.page.specs.Layout.{valueAt, pageSize, mostPlaces, valueSize};
-ghost use Rattle.page.specs.Table.{head, front, packed, field, fieldsOf, opening, image, outcome, lowest, highest, within, between, used, meetsRules, isPageOf, torn};
+ghost use Rattle.page.specs.Table.{head, front, packed, field, fieldsOf, openingAs, opening, image, outcome, lowest, highest, within, between, used, meetsRules, isPageOf, torn};
 ghost use Rattle.page.specs.Steps.{framed, hasKind, named};
 ghost use Rattle.page.specs.Answers.{inBounds, byKind, tested, isBlankPage, isFitPage, isOpeningPage, isOutcomeOf, packs, imageOfFile, imageAbove, valueIn};
 
@@ -141,18 +141,24 @@ impl Page {
 
     pub const MOST_FILES: u64 = 256;
 
-    // The fields of each kind of page.
-    pub fn opening(place: u64) -> Page
-        ensures { λ r. ⌜ r ≡ opening place ⌝ }
+    // The fields of each kind of page. The small byte of an opening is 1 where its action carries another sheet's versions: carried.
+    pub fn opening_as(small: u64, place: u64) -> Page
+        ensures { λ r. ⌜ r ≡ openingAs small place ⌝ }
     {
         Page {
             kind: 1,
-            small: 0,
+            small,
             file: 0,
             action: place,
             link: 0,
             start: 0,
         }
+    }
+
+    pub fn opening(place: u64) -> Page
+        ensures { λ r. ⌜ r ≡ opening place ⌝ }
+    {
+        Page::opening_as(0, place)
     }
 
     pub fn image(size: u64, file: u64, action: u64, link: u64, start: u64) -> Page
@@ -200,7 +206,7 @@ impl Page {
         ensures { λ r. ⌜ r ≡ highest kind place files ⌝ }
     {
         if kind == 1 {
-            return Page::opening(place);
+            return Page::opening_as(1, place);
         }
         let below = place - 1;
         if kind == 2 {
@@ -393,27 +399,33 @@ impl Page {
         is_zero(part)
     }
 
-    // Whether 64 bytes are the opening at a place, eight bytes at a time. Only its kind and its place, which stands there twice, are not 0.
-    fn is_packed_opening(part: &[u8], place: u64) -> bool
-        requires { ⌜ (length (now part) ≡ pageSize) × (place ≤ mostPlaces) ⌝ }
-        ensures { λ r. ⌜ r ≡ same (now (part .entry)) (packed (opening place) (replicate valueSize 0) place) ⌝ }
+    // Whether 64 bytes are the opening at a place with this small byte, eight bytes at a time. But for its kind, its small byte and its
+    // place, which stands there twice, the bytes below the check word are 0.
+    fn is_packed_opening(part: &[u8], small: u64, place: u64) -> bool
+        requires { ⌜ (length (now part) ≡ pageSize) × (small ≤ 1) × (place ≤ mostPlaces) ⌝ }
+        ensures { λ r. ⌜ r ≡ same (now (part .entry)) (packed (openingAs small place) (replicate valueSize 0) place) ⌝ }
     {
-        let end = place + (check_few(place) << 32) + (Page::END_MARK << 56);
-        (field(part, Page::KIND, Page::ACTION) == 1)
+        let first = 1 + (small << 8);
+        let end = place + (check_few(small == 1, place) << 32) + (Page::END_MARK << 56);
+        (field(part, Page::KIND, Page::ACTION) == first)
             & (field(part, Page::ACTION, Page::START) == place)
             & (field(part, Page::START, Page::VALUE) == 0)
             & is_zero_from(&part[Page::VALUE..Page::PLACE], 0)
             & (field(part, Page::PLACE, Page::SIZE) == end)
     }
 
-    // Whether the page test finds an opening. It has no free field: its place gives all its bytes.
+    // Whether the page test finds an opening. Its small byte and its place give all its bytes.
     pub fn is_opening(part: &[u8], place: u64, files: u64) -> bool
         ensures { λ r. ⌜ r ≡ isOpeningPage (tested (now (part .entry)) place files) ⌝ }
     {
         if !is_in_bounds(part.len(), place, files) {
             return false;
         }
-        Page::is_packed_opening(part, place)
+        let small = byte_at(part, Page::SMALL);
+        if 1 < small {
+            return false;
+        }
+        Page::is_packed_opening(part, small, place)
     }
 
     // A part of a page's size with this kind.

@@ -20,7 +20,7 @@ use Rattle.page.specs.Answers.{inBounds, tested}
 use Rattle.recovery.specs.Places.{tabulate}
 use Rattle.recovery.specs.Log.{Entry, image, fateOf, outcomeOf, imagesOf, notBy, effective, versionsOf, tokenOf, highestStart}
 use Rattle.recovery.specs.Sheet.{decoded, sealed, pages}
-use Rattle.recovery.specs.World.{down, warmRow, rowHolds, lentRight, endOf, highestBad, undecidedOf, coldRows, opened}
+use Rattle.recovery.specs.World.{down, warmRow, rowHolds, lentRight, endOf, highestBad, undecidedOf, coldRows, opened, unfinished}
 use Rattle.recovery.specs.Lent.{rowLength, rowsOf, flat, sizesRight, openLeaves}
 use Rattle.recovery.specs.Numbers.{isRefused}
 use Rattle.calls.specs.Walk.{follow}
@@ -96,7 +96,7 @@ abbrev short : List (List ℕ)
 short = openName ∷ beginName ∷ writes 3 10 1 (65 ∷ 66 ∷ []) ∷ []
 
 shown-short : turned (after short) (reads 3 10 1) .turn .reply ≡ reply.Reply.Shown 2 10 2
-unfolding words numberOf three isText alone withOne withTwo withThree withText commandOf parsed decimal spaced openName beginName writeName readName testName commitName abortName cutName callReply openReply startedFor openedFor calledFor acted head front packed fieldsOf lowest highest within between meetsRules isPageOf torn inBounds tested tabulate fateOf outcomeOf imagesOf notBy effective versionsOf tokenOf highestStart decoded sealed pages down warmRow rowHolds lentRight endOf highestBad undecidedOf coldRows opened rowsOf flat sizesRight openLeaves follow eachRow call packedEntry withPage callLeaves mixed isRefused
+unfolding words numberOf three isText alone withOne withTwo withThree withText commandOf parsed decimal spaced openName beginName writeName readName testName commitName abortName cutName callReply openReply startedFor openedFor calledFor acted head front packed fieldsOf lowest highest within between meetsRules isPageOf torn inBounds tested tabulate fateOf outcomeOf imagesOf notBy effective versionsOf tokenOf highestStart decoded sealed pages down warmRow rowHolds lentRight endOf highestBad undecidedOf coldRows unfinished opened rowsOf flat sizesRight openLeaves follow eachRow call packedEntry withPage callLeaves mixed isRefused
 shown-short = refl
 
 short-keeps : AllKeep 8 short
@@ -116,7 +116,7 @@ abbrev asked : After
 asked = turned (after (openName ∷ beginName ∷ commits 1 ∷ cutAfter 20 ∷ [])) (commits 1)
 
 pub cut-waits-on : (asked .turn .reply ≡ reply.Reply.Committed 2) × (asked .turn .desk .cut ≡ 20)
-unfolding words numberOf three isText alone withOne withTwo withThree withText commandOf parsed decimal spaced openName beginName writeName readName testName commitName abortName cutName callReply openReply startedFor openedFor calledFor acted head front packed fieldsOf lowest highest within between meetsRules isPageOf torn inBounds tested tabulate fateOf outcomeOf imagesOf notBy effective versionsOf tokenOf highestStart decoded sealed pages down warmRow rowHolds lentRight endOf highestBad undecidedOf coldRows opened rowsOf flat sizesRight openLeaves follow eachRow call packedEntry withPage callLeaves mixed isRefused
+unfolding words numberOf three isText alone withOne withTwo withThree withText commandOf parsed decimal spaced openName beginName writeName readName testName commitName abortName cutName callReply openReply startedFor openedFor calledFor acted head front packed fieldsOf lowest highest within between meetsRules isPageOf torn inBounds tested tabulate fateOf outcomeOf imagesOf notBy effective versionsOf tokenOf highestStart decoded sealed pages down warmRow rowHolds lentRight endOf highestBad undecidedOf coldRows unfinished opened rowsOf flat sizesRight openLeaves follow eachRow call packedEntry withPage callLeaves mixed isRefused
 cut-waits-on = (refl, refl)
 
 -- ---- a version of file 1 from 50 on, file 2 read at 60, and the supply cut: after the bare `open` nothing can be written at 50. But a time
@@ -131,7 +131,7 @@ reopened = openName ∷ beginName ∷ writes 2 50 4 (66 ∷ []) ∷ writes 2 52 
 pub read-not-kept : replies (after []) (untilCut ++ reopened)
     ≡ reply.Reply.Opened 0 0 ∷ reply.Reply.Begun 1 ∷ reply.Reply.Written 2 ∷ reply.Reply.Committed 3 ∷ reply.Reply.Nothing ∷ reply.Reply.Cut 0 ∷ reply.Reply.Lost
     ∷ reply.Reply.Opened 3 0 ∷ reply.Reply.Begun 4 ∷ reply.Reply.No 10 0 ∷ reply.Reply.Written 5 ∷ reply.Reply.Committed 6 ∷ reply.Reply.Shown 5 52 1 ∷ []
-unfolding words numberOf three isText alone withOne withTwo withThree withText commandOf parsed decimal spaced openName beginName writeName readName testName commitName abortName cutName callReply openReply startedFor openedFor calledFor acted head front packed fieldsOf lowest highest within between meetsRules isPageOf torn inBounds tested tabulate fateOf outcomeOf imagesOf notBy effective versionsOf tokenOf highestStart decoded sealed pages down warmRow rowHolds lentRight endOf highestBad undecidedOf coldRows opened rowsOf flat sizesRight openLeaves follow eachRow call packedEntry withPage callLeaves mixed isRefused
+unfolding words numberOf three isText alone withOne withTwo withThree withText commandOf parsed decimal spaced openName beginName writeName readName testName commitName abortName cutName callReply openReply startedFor openedFor calledFor acted head front packed fieldsOf lowest highest within between meetsRules isPageOf torn inBounds tested tabulate fateOf outcomeOf imagesOf notBy effective versionsOf tokenOf highestStart decoded sealed pages down warmRow rowHolds lentRight endOf highestBad undecidedOf coldRows unfinished opened rowsOf flat sizesRight openLeaves follow eachRow call packedEntry withPage callLeaves mixed isRefused
 read-not-kept = refl
 
 -- ---- an image of an action that is still undecided, and a bare `open`; a write that is cut after its last byte, and another such `open`:
@@ -159,11 +159,11 @@ abbrev pub imageOf : ℕ → ℕ → ℕ → Entry
 imageOf file start byte = image (record { file = file; action = 1; link = 0; start = start; value = byte ∷ [] })
 
 on-page-2 : pageAfter 8 (replicate 8 0) rows begun 2 ≡ imageOf 1 50 65
-unfolding words numberOf three isText alone withOne withTwo withThree withText commandOf parsed decimal spaced openName beginName writeName readName testName commitName abortName cutName callReply openReply startedFor openedFor calledFor acted head front packed fieldsOf lowest highest within between meetsRules isPageOf torn inBounds tested tabulate fateOf outcomeOf imagesOf notBy effective versionsOf tokenOf highestStart decoded sealed pages down warmRow rowHolds lentRight endOf highestBad undecidedOf coldRows opened rowsOf flat sizesRight openLeaves follow eachRow call packedEntry withPage callLeaves mixed isRefused begun
+unfolding words numberOf three isText alone withOne withTwo withThree withText commandOf parsed decimal spaced openName beginName writeName readName testName commitName abortName cutName callReply openReply startedFor openedFor calledFor acted head front packed fieldsOf lowest highest within between meetsRules isPageOf torn inBounds tested tabulate fateOf outcomeOf imagesOf notBy effective versionsOf tokenOf highestStart decoded sealed pages down warmRow rowHolds lentRight endOf highestBad undecidedOf coldRows unfinished opened rowsOf flat sizesRight openLeaves follow eachRow call packedEntry withPage callLeaves mixed isRefused begun
 on-page-2 = refl
 
 on-page-3 : pageAfter 8 (replicate 8 0) rows (begun ++ openName ∷ cutWrite) 3 ≡ imageOf 2 52 66
-unfolding words numberOf three isText alone withOne withTwo withThree withText commandOf parsed decimal spaced openName beginName writeName readName testName commitName abortName cutName callReply openReply startedFor openedFor calledFor acted head front packed fieldsOf lowest highest within between meetsRules isPageOf torn inBounds tested tabulate fateOf outcomeOf imagesOf notBy effective versionsOf tokenOf highestStart decoded sealed pages down warmRow rowHolds lentRight endOf highestBad undecidedOf coldRows opened rowsOf flat sizesRight openLeaves follow eachRow call packedEntry withPage callLeaves mixed isRefused begun cutWrite
+unfolding words numberOf three isText alone withOne withTwo withThree withText commandOf parsed decimal spaced openName beginName writeName readName testName commitName abortName cutName callReply openReply startedFor openedFor calledFor acted head front packed fieldsOf lowest highest within between meetsRules isPageOf torn inBounds tested tabulate fateOf outcomeOf imagesOf notBy effective versionsOf tokenOf highestStart decoded sealed pages down warmRow rowHolds lentRight endOf highestBad undecidedOf coldRows unfinished opened rowsOf flat sizesRight openLeaves follow eachRow call packedEntry withPage callLeaves mixed isRefused begun cutWrite
 on-page-3 = refl
 
 pub nothing-backdated-met : (pageAfter 8 (replicate 8 0) rows begun 3 ≡ imageOf 2 52 66) ⊎ (50 < 52)

@@ -11,7 +11,7 @@ use Rattle.encoding.proofs.Logic.{by-test, and-true, is-false}
 use Rattle.page.specs.Layout.{mostFiles}
 use Rattle.recovery.specs.declared.Answer.{Answer}
 use Rattle.recovery.specs.Numbers.{numbersOf, isRefused}
-use Rattle.recovery.specs.World.{Result, sizes, isFile, coldRows, opened, down, endOf, highestBad, refuse, unopened}
+use Rattle.recovery.specs.World.{Result, sizes, isFile, coldRows, opened, down, endOf, highestBad, refuse, unopened, unfinished}
 use Rattle.recovery.specs.Lent.{Left, rowLength, rowsOf, flat, pagesOf, whole, sizesRight, leaves, refused, closed, leftBy, openLeaves}
 use Rattle.recovery.specs.OpenSteps.{refusedOpening}
 use Rattle.recovery.proofs.FlatRows.{flat-long}
@@ -134,7 +134,8 @@ opened-long s fates rows floor =
     by-test (λ (r : Result). length (flat (r .1 .rows)) ≡ length rows) (sizes (length (pagesOf s (length rows / rowLength))) (length fates) (length (rowsOf rows)))
     {y = refuse 1 0 (unopened (pagesOf s (length rows / rowLength)) fates (rowsOf rows))}
     (λ k. by-test (λ (r : Result). length (flat (r .1 .rows)) ≡ length rows) (eqb (highestBad (down (pagesOf s (length rows / rowLength)) (endOf (pagesOf s (length rows / rowLength)) (length (pagesOf s (length rows / rowLength)))))) 0)
-    (λ q. cold-long) (λ q. ap length back)) (λ k. ap length back)) (λ e. refl)
+    (λ q. by-test (λ (r : Result). length (flat (r .1 .rows)) ≡ length rows) (unfinished (pagesOf s (length rows / rowLength)) (endOf (pagesOf s (length rows / rowLength)) (length (pagesOf s (length rows / rowLength)))))
+    {x = refuse 24 0 (unopened (pagesOf s (length rows / rowLength)) fates (rowsOf rows))} (λ u. ap length back) (λ u. cold-long)) (λ q. ap length back)) (λ k. ap length back)) (λ e. refl)
 
 -- with no rows it is refused by line 1
 no-rows : (s fates : List ℕ) (floor : ℕ) → leftBy (refusedOpening 1 0) s fates [] ≡ openLeaves s fates [] floor

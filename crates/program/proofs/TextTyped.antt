@@ -124,6 +124,7 @@ shown-value f t a place start size (answers.Answer.Value p s n) h =
     λ x. answers.Answer.Value (i x) (j x) (k x)
 shown-value f t a place start size answers.Answer.Nothing h = clash cc
 shown-value f t a place start size (answers.Answer.Told n p) h = clash cc
+shown-value f t a place start size (answers.Answer.Moved n) h = clash cc
 
 module _ (m : Memory) (b : Box) (file time action place start size : ℕ) where
   abbrev k : Call

@@ -28,7 +28,8 @@ use Rattle.inspection.specs.Inspected.{inspectable, inspected}
 use Rattle.calls.specs.Calls.{Call, begin, write, read, test, decide, rebuild}
 use Rattle.calls.specs.Cuts.{firstBytes}
 use Rattle.promises.specs.Runs.{Ordered, Box, off, sheetOf, Event, calls, opens, cuts, after, heard, Hears, Run, blankBox}
-use Rattle.promises.specs.Model.{latest, blankModel, modelHeard, modelRuns}
+use Rattle.promises.specs.FromLog.{carriedOf}
+use Rattle.promises.specs.Model.{latest, hasCarried, blankModel, modelHeard, modelRuns}
 use Rattle.promises.specs.Promises.{boxAfter, pageIn, IsPageOf, IsEffective, IsVersion, Shown, ShowsAt, Did, WasWritten, AllShow, NoneShows, Falls, othersHeard}
 use Rattle.promises.proofs.boxes.BoxPages.{image-same}
 use Rattle.promises.proofs.Proved.{promised}
@@ -72,7 +73,7 @@ pub listing-heard : heard (blankBox 256) (events 256 8 listing) ≡ inNumbers (
     ∷ some (Stored 7)
     ∷ some (Value 2 10 2)
     ∷ [])
-unfolding modelHeard latest
+unfolding modelHeard latest hasCarried
 listing-heard = promised 256 8 .as-model (events 256 8 listing) (is-run 256 8 listing refl) ∙ refl
 
 -- ---- two locks changed in one action, and the supply pulled when these bytes of its outcome are stored
@@ -94,7 +95,7 @@ pub change-heard : (kept : ℕ → Bool) → Ordered kept
     ≡ cond (kept 0) (cond (kept 63) (changed (Opened 4 0) (Refused 6 0) (Refused 6 0) (Value 2 10 1) (Value 3 10 1))
     (changed (Opened 4 1) (Value 2 10 1) (Value 3 10 1) (Refused 9 1) (Refused 9 1)))
     (changed (Opened 3 1) (Value 2 10 1) (Value 3 10 1) (Refused 9 1) (Refused 9 1))
-unfolding modelHeard latest
+unfolding modelHeard latest hasCarried
 change-heard kept o = promised 6 2 .as-model (change kept) (change-run kept o) ∙ go (kept 0) (kept 63) refl refl
   where
     go : (b c : Bool) → kept 0 ≡ b → kept 63 ≡ c → modelHeard false (blankModel 6 2) (change kept)
@@ -121,7 +122,7 @@ answeredAt o place = inNumbers (some (Opened 0 0) ∷ some (Stored 1) ∷ some (
 -- one outcome, always: the stored one if its 64 bytes are there, else one that is stored now
 pub asking-heard : (kept : ℕ → Bool) → Ordered kept
     → heard (blankBox 6) (asking kept) ≡ cond (kept 0) (cond (kept 63) (answeredAt (Opened 3 0) 3) (answeredAt (Opened 3 1) 4)) (answeredAt (Opened 2 1) 3)
-unfolding modelHeard latest
+unfolding modelHeard latest hasCarried
 asking-heard kept o = promised 6 2 .as-model (asking kept) (asking-run kept o) ∙ go (kept 0) (kept 63) refl refl
   where
     go : (b c : Bool) → kept 0 ≡ b → kept 63 ≡ c
@@ -173,7 +174,7 @@ pub mended-heard : heard (blankBox 12) (events 12 2 mended) ≡ inNumbers (
     ∷ some (Stored 9)
     ∷ some (Value 3 6 1)
     ∷ [])
-unfolding modelHeard latest
+unfolding modelHeard latest hasCarried
 mended-heard = promised 12 2 .as-model (events 12 2 mended) (is-run 12 2 mended refl) ∙ refl
 
 -- mended twice, and the supply pulled each time when these bytes of the page are stored: three images of one file under one action, of
@@ -208,7 +209,7 @@ mendedTo b c b′ c′ =
     inNumbers (some (Opened 0 0) ∷ some (Stored 1) ∷ some (Stored 2) ∷ none ∷ some (Opened end 1) ∷ none ∷ some (Opened end′ 1) ∷ some x ∷ some (Stored (suc end′)) ∷ some x ∷ some Nothing ∷ [])
 
 pub mending-heard : (kept kept′ : ℕ → Bool) → Ordered kept → Ordered kept′ → heard (blankBox 8) (mending kept kept′) ≡ mendedTo (kept 0) (kept 63) (kept′ 0) (kept′ 63)
-unfolding modelHeard latest
+unfolding modelHeard latest hasCarried
 mending-heard kept kept′ o o′ = promised 8 2 .as-model (mending kept kept′) (mending-run kept kept′ o o′) ∙ go (kept 0) (kept 63) (kept′ 0) (kept′ 63) refl refl refl refl
   where
     -- the last byte is not stored without the first
@@ -280,7 +281,7 @@ pub named-heard : heard (blankBox 12) (events 12 2 named) ≡ inNumbers (
     ∷ some (Stored 7)
     ∷ some (Rebuilt 0 0 0 0 0)
     ∷ [])
-unfolding modelHeard latest
+unfolding modelHeard latest hasCarried
 named-heard = promised 12 2 .as-model (events 12 2 named) (is-run 12 2 named refl) ∙ refl
 
 -- ---- one life of a box of twelve pages and two files: a version of file 1 from 5 on, read at 6; a newer one from 9 on; a token of
@@ -335,67 +336,67 @@ abbrev Told-of : List Step → Step → Answer → Type 0
 Told-of xs x a = Hears (boxAt xs) (eventOf 12 2 x) a
 
 begins : Told-of (opened 0 ∷ []) (does begin) (Stored 1)
-unfolding modelHeard latest
+unfolding modelHeard latest hasCarried
 begins = hears-by 12 2 (at (opened 0 ∷ [])) (calls begin) (Stored 1) (is-run 12 2 (opened 0 ∷ does begin ∷ []) refl) refl
 
 writes : Told-of begun (does older) (Stored 2)
-unfolding modelHeard latest
+unfolding modelHeard latest hasCarried
 writes = hears-by 12 2 (at begun) (calls older) (Stored 2) (is-run 12 2 (begun ++ does older ∷ []) refl) refl
 
 commits : Told-of (begun ++ does older ∷ []) (does (decide 1 true)) (Stored 3)
-unfolding modelHeard latest
+unfolding modelHeard latest hasCarried
 commits = hears-by 12 2 (at (begun ++ does older ∷ [])) (calls (decide 1 true)) (Stored 3) (is-run 12 2 first refl) refl
 
 reads : Told-of first (does (read 1 6 0)) (Value 2 5 1)
-unfolding modelHeard latest
+unfolding modelHeard latest hasCarried
 reads = hears-by 12 2 (at first) (calls (read 1 6 0)) (Value 2 5 1) (is-run 12 2 (first ++ does (read 1 6 0) ∷ []) refl) refl
 
 writes-token : Told-of before (does token) (Stored 8)
-unfolding modelHeard latest
+unfolding modelHeard latest hasCarried
 writes-token = hears-by 12 2 (at before) (calls token) (Stored 8) (is-run 12 2 life refl) refl
 
 tells-open : Told-of life (does (test 7)) (Told 1 0)
-unfolding modelHeard latest
+unfolding modelHeard latest hasCarried
 tells-open = hears-by 12 2 (at life) (calls (test 7)) (Told 1 0) (is-run 12 2 (life ++ does (test 7) ∷ []) refl) refl
 
 would-commit : Told-of life (does (decide 7 true)) (Stored 9)
-unfolding modelHeard latest
+unfolding modelHeard latest hasCarried
 would-commit = hears-by 12 2 (at life) (calls (decide 7 true)) (Stored 9) (is-run 12 2 (life ++ does (decide 7 true) ∷ []) refl) refl
 
 would-open : Told-of life (opened 6) (Opened 8 1)
-unfolding modelHeard latest
+unfolding modelHeard latest hasCarried
 would-open = hears-by 12 2 (at life) (eventOf 12 2 (opened 6)) (Opened 8 1) (is-run 12 2 (life ++ opened 6 ∷ []) refl) refl
 
 opens-after : Told-of (life ++ cut (decide 7 true) 20 ∷ []) (opened 6) (Opened 9 1)
-unfolding modelHeard latest
+unfolding modelHeard latest hasCarried
 opens-after = hears-by 12 2 (at (life ++ cut (decide 7 true) 20 ∷ [])) (eventOf 12 2 (opened 6)) (Opened 9 1) (is-run 12 2 late refl) refl
 
 late-reads : Told-of late (does (read 1 6 0)) (Value 2 5 1)
-unfolding modelHeard latest
+unfolding modelHeard latest hasCarried
 late-reads = hears-by 12 2 (at late) (calls (read 1 6 0)) (Value 2 5 1) (is-run 12 2 (late ++ does (read 1 6 0) ∷ []) refl) refl
 
 late-none : Told-of late (does (read 1 4 0)) Nothing
-unfolding modelHeard latest
+unfolding modelHeard latest hasCarried
 late-none = hears-by 12 2 (at late) (calls (read 1 4 0)) Nothing (is-run 12 2 (late ++ does (read 1 4 0) ∷ []) refl) refl
 
 late-committed : Told-of late (does (test 1)) (Told 2 3)
-unfolding modelHeard latest
+unfolding modelHeard latest hasCarried
 late-committed = hears-by 12 2 (at late) (calls (test 1)) (Told 2 3) (is-run 12 2 (late ++ does (test 1) ∷ []) refl) refl
 
 late-open : Told-of late (does (test 7)) (Told 1 0)
-unfolding modelHeard latest
+unfolding modelHeard latest hasCarried
 late-open = hears-by 12 2 (at late) (calls (test 7)) (Told 1 0) (is-run 12 2 (late ++ does (test 7) ∷ []) refl) refl
 
 late-again : Told-of late (does (decide 1 true)) (Stored 3)
-unfolding modelHeard latest
+unfolding modelHeard latest hasCarried
 late-again = hears-by 12 2 (at late) (calls (decide 1 true)) (Stored 3) (is-run 12 2 (late ++ does (decide 1 true) ∷ []) refl) refl
 
 late-opposite : Told-of late (does (decide 1 false)) (Refused 6 0)
-unfolding modelHeard latest
+unfolding modelHeard latest hasCarried
 late-opposite = hears-by 12 2 (at late) (calls (decide 1 false)) (Refused 6 0) (is-run 12 2 (late ++ does (decide 1 false) ∷ []) refl) refl
 
 late-writes : Told-of late (does (write 1 13 7 [])) (Stored 10)
-unfolding modelHeard latest
+unfolding modelHeard latest hasCarried
 late-writes = hears-by 12 2 (at late) (calls (write 1 13 7 [])) (Stored 10) (is-run 12 2 (late ++ does (write 1 13 7 []) ∷ []) refl) refl
 
 -- ---- each promise of it
@@ -440,6 +441,7 @@ pub found-cut-met : IsPageOf (decide 7 true) (pageIn 12 2 (boxAt (life ++ cut (d
 found-cut-met = promised 12 2 .found-cut (at life) [] (decide 7 true) 9 (firstBytes 64) (is-run 12 2 (life ++ cut (decide 7 true) 64 ∷ []) refl) refl would-commit
 
 pub torn-cut-met : pageIn 12 2 (boxAt late) 9 ≡ torn
+unfolding latest hasCarried
 torn-cut-met = promised 12 2 .torn-cut (at life) (at (opened 6 ∷ [])) (decide 7 true) 9 (firstBytes 20) late-run refl refl would-commit
     (λ e. let z : blank ≡ outcome 7 true = sym (blank-above 12 2 (at life) (is-run 12 2 life refl) 9 (omega arith) (omega arith)) ∙ e in clash cc)
 
@@ -493,6 +495,7 @@ one-outcome-met =
     promised 12 2 .one-outcome (at late) 1 3 3 true true late-run p p
 
 pub can-be-decided-met : (place : ℕ) × Hears (boxAt late) (calls (decide 7 true)) (Stored place)
+unfolding latest hasCarried
 can-be-decided-met = promised 12 2 .can-be-decided (at late) 7 true late-run (0, late-open) (blank-above 12 2 (at late) late-run 12 (omega arith) (omega arith))
 
 pub whole-or-none-met : AllShow 12 2 (boxAt late) 7 ⊎ NoneShows 12 2 (boxAt late) 7
@@ -512,11 +515,11 @@ abbrev pulled : List Step
 pulled = life ++ cut again 20 ∷ []
 
 writes-again : Told-of life (does again) (Stored 9)
-unfolding modelHeard latest
+unfolding modelHeard latest hasCarried
 writes-again = hears-by 12 2 (at life) (calls again) (Stored 9) (is-run 12 2 twice refl) refl
 
 twice-open : Told-of twice (does (test 7)) (Told 1 0)
-unfolding modelHeard latest
+unfolding modelHeard latest hasCarried
 twice-open = hears-by 12 2 (at twice) (calls (test 7)) (Told 1 0) (is-run 12 2 (twice ++ does (test 7) ∷ []) refl) refl
 
 pub token-met : (link : ℕ) × IsEffective 12 2 (boxAt life) 8 (record { file = 2; action = 7; link = link; start = 9; value = 9 ∷ [] })
@@ -574,11 +577,11 @@ abbrev three : List Step
 three = opened 0 ∷ does begin ∷ does (write 1 1 1 []) ∷ []
 
 three-tells : Hears (boxAfter 3 2 (events 3 2 three)) (calls (test 1)) (Told 1 0)
-unfolding modelHeard latest
+unfolding modelHeard latest hasCarried
 three-tells = hears-by 3 2 (events 3 2 three) (calls (test 1)) (Told 1 0) (is-run 3 2 (three ++ does (test 1) ∷ []) refl) refl
 
 three-full : Hears (boxAfter 3 2 (events 3 2 three)) (calls (write 2 1 1 [])) (Refused 11 0)
-unfolding modelHeard latest
+unfolding modelHeard latest hasCarried
 three-full = hears-by 3 2 (events 3 2 three) (calls (write 2 1 1 [])) (Refused 11 0) (is-run 3 2 (three ++ does (write 2 1 1 []) ∷ []) refl) refl
 
 pub reserved-met : (place : ℕ) × Hears (boxAfter 3 2 (events 3 2 three)) (calls (decide 1 true)) (Stored place)
@@ -589,7 +592,7 @@ abbrev two : List Step
 two = opened 0 ∷ does begin ∷ cut (decide 1 true) 20 ∷ opened 0 ∷ does (test 1) ∷ does (decide 1 true) ∷ does (decide 1 false) ∷ []
 
 pub reserve-gone : heard (blankBox 2) (events 2 1 two) ≡ inNumbers (some (Opened 0 0) ∷ some (Stored 1) ∷ none ∷ some (Opened 2 1) ∷ some (Told 1 0) ∷ some (Refused 11 0) ∷ some (Refused 11 0) ∷ [])
-unfolding modelHeard latest
+unfolding modelHeard latest hasCarried
 reserve-gone = promised 2 1 .as-model (events 2 1 two) (is-run 2 1 two refl) ∙ refl
 
 -- ---- with a lower floor a repeated read can change: read at 60, a cut, an opening with floor 0, a version from 52 on. So `alike` asks
@@ -600,7 +603,7 @@ backdated = opened 0 ∷ does (read 1 60 0) ∷ does begin ∷ cut begin 0 ∷ o
 
 pub floor-needed : heard (blankBox 8) (events 8 1 backdated) ≡ inNumbers (
     some (Opened 0 0) ∷ some Nothing ∷ some (Stored 1) ∷ none ∷ some (Opened 1 1) ∷ some (Stored 2) ∷ some (Stored 3) ∷ some (Value 2 52 1) ∷ [])
-unfolding modelHeard latest
+unfolding modelHeard latest hasCarried
 floor-needed = promised 8 1 .as-model (events 8 1 backdated) (is-run 8 1 backdated refl) ∙ refl
 
 -- ---- a lawful sheet that no run of this store makes: two pages, both openings; begin keeps a page for the first one's outcome
@@ -614,5 +617,5 @@ foreign-lawful = refl
 
 pub any-sheet-met : heard (off foreign) (events 2 1 (opened 0 ∷ does (test 2) ∷ does (decide 1 true) ∷ []))
     ≡ inNumbers (some (Opened 2 2) ∷ some (Told 1 0) ∷ some (Refused 11 0) ∷ [])
-unfolding head front packed fieldsOf lowest highest within between meetsRules isPageOf table.torn inBounds tested tabulate fateOf outcomeOf imagesOf notBy effective versionsOf tokenOf decoded sealed pages down endOf undecidedOf modelHeard
+unfolding head front packed fieldsOf lowest highest within between meetsRules isPageOf table.torn inBounds tested tabulate fateOf outcomeOf imagesOf notBy effective versionsOf tokenOf decoded sealed pages down endOf undecidedOf carriedOf modelHeard
 any-sheet-met = promised 2 1 .any-sheet foreign (events 2 1 (opened 0 ∷ does (test 2) ∷ does (decide 1 true) ∷ [])) refl refl foreign-lawful (is-run 2 1 (opened 0 ∷ does (test 2) ∷ does (decide 1 true) ∷ []) refl .allowed) ∙ refl

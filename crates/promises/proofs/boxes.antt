@@ -10,5 +10,6 @@ pub mod Found
 pub mod Decisions
 pub mod BoxKept
 pub mod BoxShown
+pub mod Settled
 pub mod Lasting
 pub mod Stable

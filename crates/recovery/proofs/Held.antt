@@ -18,11 +18,11 @@ use Rattle.page.specs.Answers.{tested, onImage, imageOfFile}
 use Rattle.recovery.specs.Places.{nth}
 use Rattle.recovery.specs.Log.{Entry, blank, bad, image}
 use Rattle.recovery.specs.Sheet.{pageBytes, entryOf, imageFrom, isOpening, seal, decoded, sealed}
-use Rattle.recovery.specs.World.{isImageOf, placeHolds, imageAction, tokenHolds, rowHolds}
+use Rattle.recovery.specs.World.{isCarried, isImageOf, placeHolds, imageAction, tokenHolds, rowHolds}
 use Rattle.recovery.specs.Lent.{pagesOf}
 use Rattle.recovery.specs.declared.Row.{Row}
 use Rattle.recovery.specs.Steps.{sealedImage, sheetWorld, rowHoldsIn, isFound, placeHoldsBy, actionFound, tokenHoldsBy, rowHoldsBy}
-use Rattle.recovery.proofs.Pages.{test-out, page-at-place, pages-long}
+use Rattle.recovery.proofs.Pages.{test-out, page-at-place, pages-long, carried-sealed}
 use Rattle.recovery.proofs.Lookups.{nth-past}
 use Rattle.recovery.proofs.WalkDown.{apart, found-same}
 
@@ -129,6 +129,22 @@ lies-in files s file (suc q) = go (leb place (length s / pageSize)) refl
         let h : length s / pageSize < place = leb-false place (length s / pageSize) e in
         let b : blank ≡ nth blank (pagesOf s files) place = nth-past blank (pagesOf s files) place (omega (arith, pages-long files (length s / pageSize) s)) in
         rw (← b) (ap ofSought (image-none files s file place (seek-out s place files file (λ p q. omega arith))))
+
+-- a carried opening, before sealing and after
+pub carried-at : (files : ℕ) (s : List ℕ) (place : ℕ) → isCarried (decoded files s place) ≡ isCarried (nth blank (pagesOf s files) place)
+unfolding decoded sealed
+carried-at files s zero = sym (ap (λ (u : Unpacked). isCarried (entryOf (pageBytes s 0) u)) (test-out s 0 files (λ p q. omega arith)))
+carried-at files s (suc q) = go (leb place (length s / pageSize)) refl
+  where
+    place : ℕ
+    place = suc q
+
+    go : (c : Bool) → leb place (length s / pageSize) ≡ c → isCarried (decoded files s place) ≡ isCarried (nth blank (pagesOf s files) place)
+    go true e = sym (ap isCarried (page-at-place files (length s / pageSize) s place (omega arith) (leb-true place (length s / pageSize) e)) ∙ carried-sealed (decoded files s) (decoded files s place))
+    go false e =
+        let h : length s / pageSize < place = leb-false place (length s / pageSize) e in
+        let b : blank ≡ nth blank (pagesOf s files) place = nth-past blank (pagesOf s files) place (omega (arith, pages-long files (length s / pageSize) s)) in
+        rw (← b) (sym (ap (λ (u : Unpacked). isCarried (entryOf (pageBytes s place) u)) (test-out s place files (λ p q. omega arith))))
 
 pub held-in : (files : ℕ) (s : List ℕ) (file place : ℕ) → isImageOf file (nth blank (pagesOf s files) place) ≡ isFound (sealedImage files s file place)
 held-in files s file place = ap (λ (x : Bool × ℕ). x .0) (lies-in files s file place)

@@ -30,7 +30,7 @@ at-least : (g : Entry) (x : ℕ) → x ≤ startStep g x
 at-least blank x = omega arith
 at-least torn x = omega arith
 at-least bad x = omega arith
-at-least opening x = omega arith
+at-least (opening k) x = omega arith
 at-least (image i) x = omega arith
 at-least (outcome a c) x = omega arith
 

@@ -9,7 +9,7 @@ use Rattle.recovery.specs.Lent.{Left, openLeaves, rebuildLeaves}
 use Rattle.recovery.specs.Numbers.{numbersOf}
 use Rattle.recovery.specs.declared.State.{State}
 use Rattle.recovery.specs.declared.Answer.{Answer}
-use Rattle.recovery.specs.declared.Answer.the-variants.{Refused, Opened, Rebuilt, Stored, Value, Nothing, Told}
+use Rattle.recovery.specs.declared.Answer.the-variants.{Refused, Opened, Rebuilt, Stored, Value, Nothing, Told, Moved}
 
 pub open-once : (s fates rows : List ℕ) (floor : ℕ) {l l′ : Left} → l ≡ openLeaves s fates rows floor → l′ ≡ openLeaves s fates rows floor → l ≡ l′
 open-once s fates rows floor e f = e ∙ sym f
@@ -25,7 +25,8 @@ answer-from v =
     (cond (eqb (getD v 0 0) 2) (Rebuilt (getD v 1 0) (getD v 2 0) (getD v 3 0) (getD v 4 0) (getD v 5 0))
     (cond (eqb (getD v 0 0) 3) (Stored (getD v 1 0))
     (cond (eqb (getD v 0 0) 4) (Value (getD v 1 0) (getD v 2 0) (getD v 3 0))
-    (cond (eqb (getD v 0 0) 5) Nothing (Told (getD v 1 0) (getD v 2 0)))))))
+    (cond (eqb (getD v 0 0) 5) Nothing
+    (cond (eqb (getD v 0 0) 6) (Told (getD v 1 0) (getD v 2 0)) (Moved (getD v 1 0))))))))
 
 answer-again : (a : Answer) → answer-from (numbersOf a) ≡ a
 unfolding answer-from
@@ -36,6 +37,7 @@ answer-again (Stored p) = refl
 answer-again (Value p s l) = refl
 answer-again Nothing = refl
 answer-again (Told f p) = refl
+answer-again (Moved f) = refl
 
 pub answer-numbers : (a b : Answer) → numbersOf a ≡ numbersOf b → a ≡ b
 answer-numbers a b e = sym (answer-again a) ∙ ap answer-from e ∙ answer-again b

@@ -70,8 +70,8 @@ module _ (files : ℕ) (s : List ℕ) where
       go false e = rw (leb-suc a n (eqb-false a (suc n) e))
 
   module _ (n : ℕ) (l : List Entry) (long : length l ≡ n) (ih : (a : ℕ) → 1 ≤ a → isKnown (fateOf l a) ≡ opens n a) where
-    known-opening : (a : ℕ) → 1 ≤ a → opening ≡ decoded files s (suc n) → isKnown (cond (eqb a (suc (length l))) undecided (fateOf l a)) ≡ opens (suc n) a
-    known-opening a k d =
+    known-opening : (j : Bool) (a : ℕ) → 1 ≤ a → opening j ≡ decoded files s (suc n) → isKnown (cond (eqb a (suc (length l))) undecided (fateOf l a)) ≡ opens (suc n) a
+    known-opening j a k d =
         by-test (λ x. isKnown x ≡ opens (suc n) a) (eqb a (suc (length l)))
         (λ e.
         let m : a ≡ suc n = omega (arith, eqb-true a (suc (length l)) e, long) in
@@ -92,7 +92,7 @@ module _ (files : ℕ) (s : List ℕ) where
     known-step Refused e a k = ih a k ∙ opens-more n a (ap isOpening (sym (decoded-is s (suc n) files Refused e)))
     known-step Blank e a k = ih a k ∙ opens-more n a (ap isOpening (sym (decoded-is s (suc n) files Blank e)))
     known-step Torn e a k = ih a k ∙ opens-more n a (ap isOpening (sym (decoded-is s (suc n) files Torn e)))
-    known-step (Opening q) e a k = known-opening a k (decoded-is s (suc n) files (Opening q) e)
+    known-step (Opening q) e a k = known-opening (eqb (q .small) 1) a k (decoded-is s (suc n) files (Opening q) e)
     known-step (Image q) e a k =
         by-test (λ g. isKnown (fateStep g (suc (length l)) a (fateOf l a)) ≡ opens (suc n) a) (isOpening (decoded files s (q .action)))
         (λ o. ih a k ∙ opens-more n a (ap isOpening (sym (decoded-is s (suc n) files (Image q) e))))
@@ -140,10 +140,10 @@ set-put : (l : List ℕ) (a v : ℕ) → 1 ≤ a → set l (a - 1) v ≡ put l a
 set-put l zero v h = absurd (omega arith)
 set-put l (suc a) v h = rw sub-one
 
-pub keep-opening : (N n : ℕ) (l : List Entry) → set (fatesOf N l) (suc n - 1) 1 ≡ fatesOver N opening (suc n) l
-keep-opening N n l =
+pub keep-opening : (j : Bool) (N n : ℕ) (l : List Entry) → set (fatesOf N l) (suc n - 1) 1 ≡ fatesOver N (opening j) (suc n) l
+keep-opening j N n l =
     set-put (fatesOf N l) (suc n) 1 (omega arith)
-    ∙ put-tabulate (λ a. fateNumber (fateOf l a)) (λ a. fateNumber (fateStep opening (suc n) a (fateOf l a))) N (suc n) 1 (omega arith)
+    ∙ put-tabulate (λ a. fateNumber (fateOf l a)) (λ a. fateNumber (fateStep (opening j) (suc n) a (fateOf l a))) N (suc n) 1 (omega arith)
     (ap (λ (b : Bool). fateNumber (cond b undecided (fateOf l (suc n)))) (eq-eqb (suc n) (suc n) refl))
     (λ b h k m. ap (λ (x : Bool). fateNumber (cond x undecided (fateOf l b))) (ne-eqb b (suc n) m))
 

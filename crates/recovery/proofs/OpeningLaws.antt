@@ -9,14 +9,18 @@ use lib.ListN.{length, replicate}
 use borrow.Author.Tests.{eq-eqb, ne-eqb, eqb-true}
 use Rattle.encoding.proofs.Logic.{and-true}
 use Rattle.page.specs.Layout.{pageSize}
-use Rattle.recovery.specs.Log.{Entry}
-use Rattle.recovery.specs.World.{Result, refuse, sizes, down, endOf, highestBad, fatesOf, undecidedOf, coldRows, started, unopened, openedAt, opened}
+use Rattle.recovery.specs.Places.{nth}
+use Rattle.recovery.specs.Log.{Entry, blank, fateOf}
+use Rattle.recovery.specs.Sheet.{decoded, sealed}
+use Rattle.recovery.specs.World.{Result, refuse, sizes, down, endOf, highestBad, fatesOf, undecidedOf, coldRows, started, unopened, fateNumber, unfinished, openedAt, opened}
 use Rattle.recovery.specs.Lent.{rowLength, rowsOf, flat, pagesOf, whole, sizesRight, leftBy, leaves, refused, closed, openLeaves}
-use Rattle.recovery.specs.OpenSteps.{Scanned, refusedOpening}
+use Rattle.recovery.specs.OpenSteps.{Scanned, unfinishedIn, refusedOpening}
 use Rattle.recovery.specs.declared.Answer.the-variants.{Opened}
 use Rattle.recovery.specs.declared.Done.{Done}
 use Rattle.recovery.specs.declared.opening.Scan.{Scan}
-use Rattle.recovery.proofs.Pages.{pages-long}
+use Rattle.recovery.proofs.Places.{nth-tabulate}
+use Rattle.recovery.proofs.LogFates.{undecided-test}
+use Rattle.recovery.proofs.Pages.{pages-long, page-at-place, carried-sealed}
 use Rattle.recovery.proofs.FlatRows.{rows-long, rows-flat}
 use Rattle.recovery.proofs.Sizes.{Sizes, sizes-right}
 use Rattle.recovery.proofs.OpeningRuns.{cold-flat}
@@ -34,12 +38,15 @@ module _ (s fates rows : List ℕ) (floor : ℕ) where
   abbrev told : List ℕ
   told = fatesOf (length sheet) (down sheet end)
 
-  -- the two results that passed line 1
+  -- the three results that passed line 1
   abbrev yes : Result
   yes = (Opened end (undecidedOf told), started sheet end (length (rowsOf rows)) floor)
 
   abbrev no : Result
   no = refuse 2 bad (unopened sheet fates (rowsOf rows))
+
+  abbrev early : Result
+  early = refuse 24 0 (unopened sheet fates (rowsOf rows))
 
   abbrev unsized : Result
   unsized = refuse 1 0 (unopened sheet fates (rowsOf rows))
@@ -101,19 +108,38 @@ module _ (s fates rows : List ℕ) (floor : ℕ) where
           ap (λ (x : Done). leftBy x s fates rows) d
           ∙ ap (λ (x : ℕ). leftBy (refusedOpening 2 x) s fates rows) bad-is
           ∙ ap (λ (x : List ℕ). leftBy (refusedOpening 2 bad) s fates x) (rows-back (k .whole-is))
-          ∙ ap (λ (b : Bool). leaves s (cond b yes no)) (sym (ne-eqb bad 0 (λ e. z (bad-is ∙ e))))
+          ∙ ap (λ (b : Bool). leaves s (cond b (cond (unfinished sheet end) early yes) no)) (sym (ne-eqb bad 0 (λ e. z (bad-is ∙ e))))
           ∙ opened-is
 
-      pub open-good : (u : ℕ) (fates′ rows′ : List ℕ) → sc .bad ≡ 0 → u ≡ undecidedOf kept → length kept ≡ length fates
+      -- line 24
+      unfinished-is : unfinishedIn files s kept ≡ unfinished sheet end
+      unfolding unfinishedIn unfinished sealed
+      unfinished-is =
+          let one : nth blank sheet 1 ≡ sealed (length rows / rowLength) s 1 = page-at-place (length rows / rowLength) (length s / pageSize) s 1 (omega arith) (k .some-pages) in
+          let fate : nth 0 told 1 ≡ fateNumber (fateOf (down sheet end) 1) =
+          nth-tabulate (λ a. fateNumber (fateOf (down sheet end) a)) (length sheet) 1 0 (omega arith) (omega (arith, k .some-pages, long)) in
+          rw (c, kept-is, fate, one, carried-sealed (decoded (length rows / rowLength) s) (decoded (length rows / rowLength) s 1), undecided-test (fateOf (down sheet end) 1))
+
+      good-is : {b : Bool} → unfinishedIn files s kept ≡ b → sc .bad ≡ 0 → leaves s (cond b early yes) ≡ openLeaves s fates rows floor
+      good-is e z =
+          ap (λ (b : Bool). leaves s (cond b early yes)) (sym e ∙ unfinished-is)
+          ∙ ap (λ (b : Bool). leaves s (cond b (cond (unfinished sheet end) early yes) no)) (sym (eq-eqb bad 0 (sym bad-is ∙ z)))
+          ∙ opened-is
+
+      pub open-unfinished : unfinishedIn files s kept ≡ true → sc .bad ≡ 0 → (r : Done) → r ≡ refusedOpening 24 0 → leftBy r s fates rows ≡ openLeaves s fates rows floor
+      open-unfinished e z r d =
+          ap (λ (x : Done). leftBy x s fates rows) d
+          ∙ ap (λ (x : List ℕ). leftBy (refusedOpening 24 0) s fates x) (rows-back (k .whole-is))
+          ∙ good-is e z
+
+      pub open-good : (u : ℕ) (fates′ rows′ : List ℕ) → unfinishedIn files s kept ≡ false → sc .bad ≡ 0 → u ≡ undecidedOf kept → length kept ≡ length fates
           → fates′ ≡ cond (eqb (length fates) (length kept)) kept fates → rows′ ≡ replicate (length rows) 0
           → leftBy (record { answer = Opened (sc .end) u; state = record { end = sc .end; floor = floor; undecided = u } }) s fates′ rows′ ≡ openLeaves s fates rows floor
-      open-good u fates′ rows′ z hu hl hf hr =
+      open-good u fates′ rows′ e z hu hl hf hr =
           let U : u ≡ undecidedOf told = hu ∙ ap undecidedOf kept-is in
           let F : fates′ ≡ told = hf ∙ ap (λ (b : Bool). cond b kept fates) (eq-eqb (length fates) (length kept) (sym hl)) ∙ kept-is in
           let W : rows′ ≡ flat (coldRows (length (rowsOf rows))) =
           hr ∙ ap (λ (n : ℕ). replicate n 0) (sym (k .numbers-are)) ∙ cold-flat (length rows / rowLength) ∙ ap (λ (n : ℕ). flat (coldRows n)) (sym (rows-long rows)) in
           let R : leftBy (record { answer = Opened (sc .end) u; state = record { end = sc .end; floor = floor; undecided = u } }) s fates′ rows′ ≡ leaves s yes =
           λ i. record { answer = Opened (end-is i) (U i); state = record { end = end-is i; floor = floor; undecided = U i }; sheet = s; fates = F i; rows = W i } in
-          R
-          ∙ ap (λ (b : Bool). leaves s (cond b yes no)) (sym (eq-eqb bad 0 (sym bad-is ∙ z)))
-          ∙ opened-is
+          R ∙ good-is e z

@@ -78,7 +78,7 @@ module _ (files N : ℕ) (s : List ℕ) where
         let g = page-is files s N n (Opening q) e h in
         record {
           ends = ends-good (pages files N s) n sc (p .ends) (ap isBlank g) (ap isBad g);
-          kept-is = ap (λ (x : List ℕ). set x (suc n - 1) 1) (p .kept-is) ∙ keep-opening N n (down (pages files N s) n) ∙ fates-up N (pages files N s) n opening g;
+          kept-is = ap (λ (x : List ℕ). set x (suc n - 1) 1) (p .kept-is) ∙ keep-opening (eqb (q .small) 1) N n (down (pages files N s) n) ∙ fates-up N (pages files N s) n (opening (eqb (q .small) 1)) g;
         }
     passed-step (Image q) e h =
         let t = bounded-at s (suc n) files (Image q) e in

@@ -16,7 +16,7 @@ use Rattle.page.specs.Answers.{inBounds, tested, isBlankPage}
 use Rattle.recovery.specs.Places.{nth}
 use Rattle.recovery.specs.Log.{Entry, blank, torn, bad, opening, image, outcome}
 use Rattle.recovery.specs.Sheet.{pageBytes, entryOf, isOpening, seal, decoded, sealed, pages}
-use Rattle.recovery.specs.World.{down, isBlank}
+use Rattle.recovery.specs.World.{down, isBlank, isCarried}
 use Rattle.recovery.specs.Steps.{hasPlace, partAt}
 use Rattle.recovery.proofs.Places.{length-tabulate, nth-tabulate}
 
@@ -121,9 +121,17 @@ pub opening-sealed : (r : ℕ → Entry) (e : Entry) → isOpening (seal r e) �
 opening-sealed r blank = refl
 opening-sealed r torn = refl
 opening-sealed r bad = refl
-opening-sealed r opening = refl
+opening-sealed r (opening k) = refl
 opening-sealed r (image i) = by-test (λ (x : Entry). isOpening x ≡ false) (isOpening (r (i .action))) (λ e. refl) (λ e. refl)
 opening-sealed r (outcome a c) = by-test (λ (x : Entry). isOpening x ≡ false) (isOpening (r a)) (λ e. refl) (λ e. refl)
+
+pub carried-sealed : (r : ℕ → Entry) (e : Entry) → isCarried (seal r e) ≡ isCarried e
+carried-sealed r blank = refl
+carried-sealed r torn = refl
+carried-sealed r bad = refl
+carried-sealed r (opening k) = refl
+carried-sealed r (image i) = by-test (λ (x : Entry). isCarried x ≡ false) (isOpening (r (i .action))) (λ e. refl) (λ e. refl)
+carried-sealed r (outcome a c) = by-test (λ (x : Entry). isCarried x ≡ false) (isOpening (r a)) (λ e. refl) (λ e. refl)
 
 pub blank-sealed : (r : ℕ → Entry) (b : List ℕ) (u : Unpacked) → isBlank (seal r (entryOf b u)) ≡ isBlankPage u
 blank-sealed r b Refused = refl

@@ -63,7 +63,7 @@ image-spots [] f = tt
 image-spots (blank ∷ l) f = spots-cons blank l f (imagesOf l f) (image-spots l f)
 image-spots (torn ∷ l) f = spots-cons torn l f (imagesOf l f) (image-spots l f)
 image-spots (bad ∷ l) f = spots-cons bad l f (imagesOf l f) (image-spots l f)
-image-spots (opening ∷ l) f = spots-cons opening l f (imagesOf l f) (image-spots l f)
+image-spots (opening k ∷ l) f = spots-cons (opening k) l f (imagesOf l f) (image-spots l f)
 image-spots (outcome b c ∷ l) f = spots-cons (outcome b c) l f (imagesOf l f) (image-spots l f)
 image-spots (image i ∷ l) f = by-test (Spots (image i ∷ l) f) (eqb (i .file) f)
     (λ e. (

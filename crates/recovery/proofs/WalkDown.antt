@@ -37,7 +37,7 @@ abbrev pub addPage : (ℕ → Fate) → ℕ → ℕ → Entry → Row → Row
 addPage φ file p blank r = r
 addPage φ file p torn r = r
 addPage φ file p bad r = r
-addPage φ file p opening r = r
+addPage φ file p (opening k) r = r
 addPage φ file p (image i) r = cond (eqb (i .file) file) (addImage (φ (i .action)) p (i .start) (i .action) r) r
 addPage φ file p (outcome a c) r = r
 
@@ -46,7 +46,7 @@ unfolding imagesOf effective versionsOf tokenOf
 row-cons blank l φ f = refl
 row-cons torn l φ f = refl
 row-cons bad l φ f = refl
-row-cons opening l φ f = refl
+row-cons (opening k) l φ f = refl
 row-cons (outcome a c) l φ f = refl
 row-cons (image i) l φ f = go (eqb (i .file) f)
   where

@@ -15,9 +15,11 @@ pub record Image : Type 0 where
   pub start : ℕ
   pub value : List ℕ
 
--- a page decoded: a sealed one by its kind, an outcome with its action and whether it is committed
+-- a page decoded: a sealed one by its kind, an opening with whether it is carried (its action's images were carried over from another
+-- sheet), an outcome with its action and whether it is committed
 pub data Entry : Type 0 where
-  blank torn bad opening : Entry
+  blank torn bad : Entry
+  opening : Bool → Entry
   image : Image → Entry
   outcome : ℕ → Bool → Entry
 
@@ -46,7 +48,7 @@ abbrev pub fateStep : Entry → ℕ → ℕ → Fate → Fate
 fateStep blank place a x = x
 fateStep torn place a x = x
 fateStep bad place a x = x
-fateStep opening place a x = cond (eqb a place) undecided x
+fateStep (opening k) place a x = cond (eqb a place) undecided x
 fateStep (image i) place a x = x
 fateStep (outcome b c) place a x = cond (eqb a b) (verdict c) x
 
@@ -60,7 +62,7 @@ abbrev pub outcomeStep : Entry → ℕ → ℕ → ℕ → ℕ
 outcomeStep blank place a x = x
 outcomeStep torn place a x = x
 outcomeStep bad place a x = x
-outcomeStep opening place a x = x
+outcomeStep (opening k) place a x = x
 outcomeStep (image i) place a x = x
 outcomeStep (outcome b c) place a x = cond (eqb a b) place x
 
@@ -74,7 +76,7 @@ abbrev pub imagesStep : Entry → ℕ → ℕ → List Placed → List Placed
 imagesStep blank place f xs = xs
 imagesStep torn place f xs = xs
 imagesStep bad place f xs = xs
-imagesStep opening place f xs = xs
+imagesStep (opening k) place f xs = xs
 imagesStep (image i) place f xs = cond (eqb (i .file) f) (record { place = place; image = i } ∷ xs) xs
 imagesStep (outcome b c) place f xs = xs
 
@@ -141,7 +143,7 @@ abbrev pub startStep : Entry → ℕ → ℕ
 startStep blank x = x
 startStep torn x = x
 startStep bad x = x
-startStep opening x = x
+startStep (opening k) x = x
 startStep (image i) x = max (i .start) x
 startStep (outcome a c) x = x
 

@@ -1,14 +1,15 @@
 -- What the steps of `open` leave. A reader of document 01 can pass this file over: the laws join it to `openLeaves`.
 use mathlib.Core.Path.{_≡_}
 use mathlib.Core.List.{List}
-use mathlib.Core.Bool.{cond}
+use mathlib.Core.Bool.{Bool, cond, _&&_}
 use Prim.Native.Nat.{ℕ, _+_, _-_, _≤_, _<_}
 use lib.ListN.{getD, set}
 use lib.Dec.{eqb, ltb}
 use Rattle.page.specs.declared.Unpacked.{Unpacked}
 use Rattle.page.specs.declared.Unpacked.the-variants.{Refused, Blank, Torn, Opening, Image, Outcome, Unfit}
-use Rattle.recovery.specs.Sheet.{pages}
-use Rattle.recovery.specs.World.{down, endOf, highestBad, fatesOf}
+use Rattle.recovery.specs.Places.{nth}
+use Rattle.recovery.specs.Sheet.{decoded, pages}
+use Rattle.recovery.specs.World.{down, endOf, highestBad, fatesOf, isCarried}
 use Rattle.recovery.specs.Lent.{closed}
 use Rattle.recovery.specs.declared.Answer as answers
 use Rattle.recovery.specs.declared.Done.{Done}
@@ -46,6 +47,10 @@ pub record Scanned (files n : ℕ) (sheet : List ℕ) (s : Scan) (kept : List �
   pub end-is : s .end ≡ endOf (pages files n sheet) n
   pub bad-is : s .bad ≡ highestBad (down (pages files n sheet) (endOf (pages files n sheet) n))
   pub kept-is : kept ≡ fatesOf n (down (pages files n sheet) (endOf (pages files n sheet) n))
+
+-- line 24, by the kept fates
+unfoldable pub unfinishedIn : ℕ → List ℕ → List ℕ → Bool
+unfinishedIn files sheet kept = isCarried (decoded files sheet 1) && eqb (nth 0 kept 1) 1
 
 -- a refusal's number and place, and three zeros
 abbrev pub refusedOpening : ℕ → ℕ → Done

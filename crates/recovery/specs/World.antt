@@ -6,7 +6,7 @@ use lib.ListN.{length, getD}
 use lib.Dec.{eqb, leb}
 use Rattle.page.specs.Layout.{mostPlaces, mostFiles}
 use Rattle.recovery.specs.Places.{nth, put, tabulate}
-use Rattle.recovery.specs.Log.{Entry, blank, torn, bad, opening, image, outcome, Fate, unknown, undecided, committed, aborted, fateOf, outcomeOf, effectiveOf, currentOf, tokenOf, placeOf, startOf, actionOf}
+use Rattle.recovery.specs.Log.{Entry, blank, torn, bad, opening, image, outcome, Fate, unknown, undecided, committed, aborted, isUndecided, fateOf, outcomeOf, effectiveOf, currentOf, tokenOf, placeOf, startOf, actionOf}
 use Rattle.recovery.specs.declared.Row.{Row}
 use Rattle.recovery.specs.declared.Answer.{Answer}
 use Rattle.recovery.specs.declared.Answer.the-variants.{Refused, Opened, Rebuilt}
@@ -95,7 +95,7 @@ abbrev pub isImageOf : ℕ → Entry → Bool
 isImageOf f blank = false
 isImageOf f torn = false
 isImageOf f bad = false
-isImageOf f opening = false
+isImageOf f (opening k) = false
 isImageOf f (image i) = eqb (i .file) f
 isImageOf f (outcome a c) = false
 
@@ -104,7 +104,7 @@ abbrev pub imageAction : Entry → ℕ
 imageAction blank = 0
 imageAction torn = 0
 imageAction bad = 0
-imageAction opening = 0
+imageAction (opening k) = 0
 imageAction (image i) = i .action
 imageAction (outcome a c) = 0
 
@@ -147,13 +147,13 @@ rebuilt w f =
     (cond (isFile (length (w .rows)) f) (answerRow (withRow w f (warmRow w f)) f (warmRow w f)) (refuse 3 0 w))
     (refuse 1 0 w)
 
--- ---- open: lines 1, 2
+-- ---- open: lines 1, 2, 24
 
 abbrev pub isBlank : Entry → Bool
 isBlank blank = true
 isBlank torn = false
 isBlank bad = false
-isBlank opening = false
+isBlank (opening k) = false
 isBlank (image i) = false
 isBlank (outcome a c) = false
 
@@ -167,7 +167,7 @@ abbrev pub isBad : Entry → Bool
 isBad blank = true
 isBad torn = false
 isBad bad = true
-isBad opening = false
+isBad (opening k) = false
 isBad (image i) = false
 isBad (outcome a c) = false
 
@@ -203,11 +203,25 @@ started s end files floor = record {
 abbrev pub unopened : List Entry → List ℕ → List Row → World
 unopened s fates rows = record { sheet = s; fates = fates; rows = rows; end = 0; floor = 0; undecided = 0 }
 
+-- an opening whose images were carried over from another sheet
+abbrev pub isCarried : Entry → Bool
+isCarried blank = false
+isCarried torn = false
+isCarried bad = false
+isCarried (opening k) = k
+isCarried (image i) = false
+isCarried (outcome a c) = false
+
+-- line 24: a move onto this sheet has begun and has no outcome, by the pages up to the end
+unfoldable pub unfinished : List Entry → ℕ → Bool
+unfinished s end = isCarried (nth blank s 1) && isUndecided (fateOf (down s end) 1)
+
 -- opening a sheet with this end
 abbrev pub openedAt : List Entry → ℕ → List ℕ → List Row → ℕ → Result
 openedAt s end fates rows floor =
     cond (eqb (highestBad (down s end)) 0)
-    (Opened end (undecidedOf (fatesOf (length s) (down s end))), started s end (length rows) floor)
+    (cond (unfinished s end) (refuse 24 0 (unopened s fates rows))
+    (Opened end (undecidedOf (fatesOf (length s) (down s end))), started s end (length rows) floor))
     (refuse 2 (highestBad (down s end)) (unopened s fates rows))
 
 unfoldable pub opened : List Entry → List ℕ → List Row → ℕ → Result

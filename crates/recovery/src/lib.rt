@@ -11,6 +11,7 @@ mod starts;
 pub use lookup::fate_at;
 pub use lookup::image_at;
 pub use lookup::is_blank_at;
+pub use lookup::is_carried_at;
 pub use lookup::is_opening_at;
 pub use lookup::outcome_place;
 pub use lookup::page_at;
@@ -54,7 +55,7 @@ pub struct State {
 }
 
 // What a call answers: a refusal's number and place; open's end and open count; the numbers of a row after its mark; the place of
-// the call's page; place, start and length of a value; none; a fate, and the place of the newest outcome.
+// the call's page; place, start and length of a value; none; a fate, and the place of the newest outcome; the floor for a fresh sheet.
 pub enum Answer {
     Refused(u64, u64),
     Opened(u64, u64),
@@ -63,6 +64,7 @@ pub enum Answer {
     Value(u64, u64, u64),
     Nothing,
     Told(u64, u64),
+    Moved(u64),
 }
 
 pub struct Done {

@@ -10,6 +10,7 @@ ghost use lib.Dec.{eqb};
 ghost use Rattle.page.specs.Answers.{tested, isBlankPage, isOutcomeOf, imageOfFile};
 ghost use Rattle.recovery.specs.Places.{nth};
 ghost use Rattle.recovery.specs.Sheet.{pageBytes, isOpening, decoded};
+ghost use Rattle.recovery.specs.World.{isCarried};
 ghost use Rattle.recovery.specs.Steps.{hasPlace, partAt, countedFate, outcomeIn, sealedImage};
 
 // Whether the sheet has such a place.
@@ -61,6 +62,17 @@ pub fn is_opening_at(sheet: &[u8], place: u64, files: u64) -> bool
     ensures { λ r. ⌜ r ≡ isOpening (decoded files (now (sheet .entry)) place) ⌝ }
 {
     Page::is_opening(part_at(sheet, place), place, files)
+}
+
+// Whether the page at a place is a carried opening.
+pub fn is_carried_at(sheet: &[u8], place: u64, files: u64) -> bool
+    ensures { λ r. ⌜ r ≡ isCarried (decoded files (now (sheet .entry)) place) ⌝ }
+{
+    let found = page_at(sheet, place, files);
+    let Unpacked::Opening(p) = found else {
+        return false;
+    };
+    p.small == 1
 }
 
 // Whether the page at a place is an outcome of an action.

@@ -4,7 +4,7 @@ use crate::Answer;
 ghost use mathlib.Core.Path.{_≡_};
 ghost use Rattle.recovery.specs.Numbers.{numbersOf};
 
-// Which of the seven it is, then its values and zeros.
+// Which of the eight it is, then its values and zeros.
 pub fn numbers_of(answer: Answer) -> [u64; ANSWER_LENGTH]
     ensures { λ r. ⌜ r ≡ numbersOf answer ⌝ }
 {
@@ -18,5 +18,6 @@ pub fn numbers_of(answer: Answer) -> [u64; ANSWER_LENGTH]
         Answer::Value(place, start, size) => [4, place, start, size, 0, 0],
         Answer::Nothing => [5, 0, 0, 0, 0, 0],
         Answer::Told(fate, place) => [6, fate, place, 0, 0, 0],
+        Answer::Moved(floor) => [7, floor, 0, 0, 0, 0],
     }
 }

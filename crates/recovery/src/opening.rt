@@ -5,6 +5,8 @@ use crate::Done;
 use crate::FEW_PAGES;
 use crate::State;
 use crate::is_sized;
+use crate::lookup::fate_at;
+use crate::lookup::is_carried_at;
 use crate::rows::file_count;
 use encoding::copy;
 use page::Page;
@@ -17,7 +19,7 @@ ghost use Rattle.page.specs.Layout.{pageSize, mostPlaces};
 ghost use Rattle.recovery.specs.World.{undecidedOf};
 ghost use Rattle.recovery.specs.Lent.{sizesRight, leftBy, openLeaves};
 ghost use Rattle.recovery.specs.Steps.{fewPages};
-ghost use Rattle.recovery.specs.OpenSteps.{Bounded, good, stepped, Scanned, refusedOpening};
+ghost use Rattle.recovery.specs.OpenSteps.{Bounded, good, stepped, Scanned, unfinishedIn, refusedOpening};
 
 // What the pass has found so far: the end, and the highest bad place up to it, 0 if there is none.
 struct Scan {
@@ -127,6 +129,13 @@ fn scan_pages(sheet: &[u8], kept: &mut [u8], files: u64) -> Scan
     scan
 }
 
+// Line 24, by the kept fates: a move onto this sheet has begun and has no outcome.
+fn is_unfinished(sheet: &[u8], files: u64, kept: &[u8]) -> bool
+    ensures { λ r. ⌜ r ≡ unfinishedIn files (now (sheet .entry)) (now (kept .entry)) ⌝ }
+{
+    is_carried_at(sheet, 1, files) & (fate_at(kept, 1) == 1)
+}
+
 // A refusal answers three zeros for the state.
 fn refuse(number: u64, place: u64) -> Done
     ensures { λ r. ⌜ r ≡ refusedOpening number place ⌝ }
@@ -150,6 +159,9 @@ fn open_with(sheet: &[u8], fates: &mut [u8], rows: &mut [u64], floor: u64, kept:
     let scan = scan_pages(sheet, kept, files);
     if scan.bad != 0 {
         return refuse(2, scan.bad);
+    }
+    if is_unfinished(sheet, files, kept) {
+        return refuse(24, 0);
     }
     let end = scan.end;
     let undecided = count_undecided(kept);

@@ -32,7 +32,7 @@ blank-is : (g : Entry) → isBlank g ≡ true → g ≡ blank
 blank-is blank e = refl
 blank-is torn e = absurd (false≢true e)
 blank-is bad e = absurd (false≢true e)
-blank-is opening e = absurd (false≢true e)
+blank-is (opening k) e = absurd (false≢true e)
 blank-is (image i) e = absurd (false≢true e)
 blank-is (outcome a c) e = absurd (false≢true e)
 
@@ -87,7 +87,7 @@ module _ (n files : ℕ) (s : List ℕ) (long : length s ≡ pageSize * n) (sz :
       pages-are = refl;
       files-are = refl;
       holds = lies;
-      says = record { used = refl; undecided = refl; status = λ a. refl; history = λ f. refl; token = λ f. refl };
+      says = record { used = refl; undecided = refl; status = λ a. refl; carried = λ a. refl; history = λ f. refl; token = λ f. refl };
       stands = tt;
     };
   }

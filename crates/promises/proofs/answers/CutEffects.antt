@@ -20,7 +20,7 @@ use Rattle.calls.specs.Leaves.{withPage}
 use Rattle.calls.proofs.OnePage.{SameBut, only-one-page}
 use Rattle.calls.specs.Cuts.{storedOf}
 use Rattle.promises.specs.Runs.{Ordered, Box, on, off, Event, calls, opens, cuts, callOn, answerTo, after, numbered, heard, Typed, Allowed, AllAllowed}
-use Rattle.promises.specs.Model.{Version, Status, pending, committed, aborted, Model, Reply, Object, reading, testing, refuses, ofPending, stores, modelCall, modelOpened, modelAnswer, modelAfter, modelHeard, isLent}
+use Rattle.promises.specs.Model.{Version, Status, pending, committed, aborted, Model, Reply, Object, latest, hasCarried, readVersion, reading, testing, refuses, ofPending, stores, modelCall, modelOpened, modelAnswer, modelAfter, modelHeard, isLent, isUnfinished, isOpened}
 use Rattle.promises.specs.Promises.{IsPageOf, Looks}
 use Rattle.promises.proofs.worlds.LogSays.{withObjects}
 use Rattle.promises.proofs.bytes.Mixed.{mixed-all}
@@ -65,7 +65,7 @@ cut-as-answered (off s) k kept floor fates rows o h = refl
 -- ---- a model that has used another number of pages answers alike what stores no page
 
 abbrev pub usedTo : ℕ → Model → Model
-usedTo u m = record { pages = m .pages; files = m .files; used = u; floor = m .floor; undecided = m .undecided; status = m .status; object = m .object }
+usedTo u m = record { pages = m .pages; files = m .files; used = u; floor = m .floor; undecided = m .undecided; status = m .status; carried = m .carried; object = m .object }
 
 module _ (u : ℕ) where
   record Same (x y : Reply) : Type 0 where
@@ -89,9 +89,14 @@ module _ (u : ℕ) where
     same-pending (some (committed p)) e = refuses-same 6 0
     same-pending (some (aborted p)) e = refuses-same 6 0
 
+    same-version : (f t : ℕ) (x : Object) (z : Option Version) → Same (readVersion (usedTo u m) f t x z) (readVersion m f t x z)
+    same-version f t x none = same-cond (hasCarried (m .carried) (x .history)) (refuses-same 25 0) (same _ _)
+    same-version f t x (some v) = same _ _
+
     same-reading : (f t a : ℕ) (x : Object) (z : Option Version) → Same (reading (usedTo u m) f t a x z) (reading m f t a x z)
-    same-reading f t a x none = same _ _
-    same-reading f t a x (some z) = same-cond (leb (z .start) t) (same-cond (eqb (z .action) a) (same _ _) (refuses-same 9 (z .action))) (same _ _)
+    same-reading f t a x none = same-version f t x (latest t (x .history))
+    same-reading f t a x (some z) =
+        same-cond (leb (z .start) t) (same-cond (eqb (z .action) a) (same _ _) (refuses-same 9 (z .action))) (same-version f t x (latest t (x .history)))
 
     same-testing : (z : Option Status) → Same (testing (usedTo u m) z) (testing m z)
     same-testing none = refuses-same 5 0
@@ -100,7 +105,7 @@ module _ (u : ℕ) where
     same-testing (some (aborted p)) = same (Told 3 p) (m .object)
 
     same-look : (q : Call) → ((g : Entry) → IsPageOf q g → ⊥) → Same (modelCall (usedTo u m) q) (modelCall m q)
-    same-look begin h = absurd (h opening refl)
+    same-look begin h = absurd (h (opening false) refl)
     same-look (write f s a v) h = absurd (h (image (record { file = f; action = a; link = 0; start = s; value = v })) (0, refl))
     same-look (decide a c) h = absurd (h (outcome a c) refl)
     same-look (read f t a) h =
@@ -163,7 +168,7 @@ module _ (pages files : ℕ) (b : Box) (m : Reached pages files b) (k : Call) (k
 
   -- what is heard of a box that was opened, by the model that it had before
   abbrev openedHeard : Model → List Event → List (Option (List ℕ))
-  openedHeard x es = modelHeard (isLent x fates rows) (cond (isLent x fates rows) (modelOpened x floor) x) es
+  openedHeard x es = modelHeard (isOpened x fates rows) (cond (isOpened x fates rows) (modelOpened x floor) x) es
 
   heard-cut : (es : List Event) → AllAllowed pages files es → (u : ℕ) → modelAfter (isOn b) (m .model) (cuts k kept) ≡ usedTo u (m .model)
       → heard (after (after b (cuts k kept)) (opens floor fates rows)) es ≡ openedHeard (usedTo u (m .model)) es
@@ -176,7 +181,7 @@ module _ (pages files : ℕ) (b : Box) (m : Reached pages files b) (k : Call) (k
   cut-as-unasked looks a =
       let u = cut-used (isOn b) (m .model) k kept h in
       let al = looks-allowed pages files looks a in
-      heard-cut looks al (u .used) (u .is) ∙ go (u .used) (isLent (m .model) fates rows)
+      heard-cut looks al (u .used) (u .is) ∙ go (u .used) (isOpened (m .model) fates rows)
       ∙ sym (heard-alike pages files (after b (opens floor fates rows)) uncut-opened looks al ∙ ap (λ c. modelHeard c (uncut-opened .model) looks) (power-is pages files b m (opens floor fates rows) o))
     where
       go : (u : ℕ) (c : Bool) → modelHeard c (cond c (modelOpened (usedTo u (m .model)) floor) (usedTo u (m .model))) looks ≡ modelHeard c (cond c (modelOpened (m .model) floor) (m .model)) looks
@@ -193,10 +198,10 @@ module _ (pages files : ℕ) (b : Box) (m : Reached pages files b) (k : Call) (k
       answer-is pages files (after (after b (cuts k kept)) (opens floor fates rows)) cut-opened (calls (test action)) tt
       ∙ ap (λ c. modelAnswer c (cut-opened .model) (calls (test action))) (power-is pages files (after b (cuts k kept)) cut-box (opens floor fates rows) o)
       ∙ ap openedAnswer (u .is)) ∙ l in
-      go (u .used) (isOn b) (isLent (m .model) fates rows) before later
+      go (u .used) (isOn b) (isOpened (m .model) fates rows) before later
     where
       openedAnswer : Model → Option Answer
-      openedAnswer x = modelAnswer (isLent x fates rows) (cond (isLent x fates rows) (modelOpened x floor) x) (calls (test action))
+      openedAnswer x = modelAnswer (isOpened x fates rows) (cond (isOpened x fates rows) (modelOpened x floor) x) (calls (test action))
 
       go : (u : ℕ) (c d : Bool) → modelAnswer c (m .model) (calls (test action)) ≡ some (Told fate place)
           → modelAnswer d (cond d (modelOpened (usedTo u (m .model)) floor) (usedTo u (m .model))) (calls (test action)) ≡ some x → x ≡ Told fate place
@@ -212,15 +217,16 @@ module _ (pages files : ℕ) (b : Box) (m : Reached pages files b) (k : Call) (k
       go u false d p q = not-heard p
 
   -- the opening's own answer
-  opened-is : (c : Bool) (e w x x′ : ℕ) → some (cond c (Opened e w) (Refused 1 0)) ≡ some (Opened x x′) → (e ≡ x) × (w ≡ x′)
-  opened-is true e w x x′ p = (cc, cc)
-  opened-is false e w x x′ p = clash cc
+  opened-is : (c u : Bool) (e w x x′ : ℕ) → some (cond c (cond u (Refused 24 0) (Opened e w)) (Refused 1 0)) ≡ some (Opened x x′) → (e ≡ x) × (w ≡ x′)
+  opened-is true true e w x x′ p = clash cc
+  opened-is true false e w x x′ p = (cc, cc)
+  opened-is false u e w x x′ p = clash cc
 
   pub cut-same-count : (end end′ w w′ : ℕ) → answerTo b (opens floor fates rows) ≡ some (Opened end w) → answerTo (after b (cuts k kept)) (opens floor fates rows) ≡ some (Opened end′ w′)
       → (w′ ≡ w) × (end ≤ end′) × (end′ ≤ suc end)
   cut-same-count end end′ w w′ p q =
       let u = cut-used (isOn b) (m .model) k kept h in
-      let before = opened-is (isLent (m .model) fates rows) (m .model .used) (m .model .undecided) end w (sym (answer-is pages files b m (opens floor fates rows) o) ∙ p) in
-      let later = opened-is (isLent (usedTo (u .used) (m .model)) fates rows) (u .used) (m .model .undecided) end′ w′
-      (sym (answer-is pages files (after b (cuts k kept)) cut-box (opens floor fates rows) o ∙ ap (λ x. some (cond (isLent x fates rows) (Opened (x .used) (x .undecided)) (Refused 1 0))) (u .is)) ∙ q) in
+      let before = opened-is (isLent (m .model) fates rows) (isUnfinished (m .model)) (m .model .used) (m .model .undecided) end w (sym (answer-is pages files b m (opens floor fates rows) o) ∙ p) in
+      let later = opened-is (isLent (usedTo (u .used) (m .model)) fates rows) (isUnfinished (m .model)) (u .used) (m .model .undecided) end′ w′
+      (sym (answer-is pages files (after b (cuts k kept)) cut-box (opens floor fates rows) o ∙ ap (λ x. some (cond (isLent x fates rows) (cond (isUnfinished x) (Refused 24 0) (Opened (x .used) (x .undecided))) (Refused 1 0))) (u .is)) ∙ q) in
       (sym (later .1) ∙ before .1, omega (arith, u .low), omega (arith, u .high))

@@ -19,7 +19,7 @@ use Rattle.recovery.proofs.LogFates.{undecided-known}
 use Rattle.calls.specs.Calls.{Call, begin, write, read, test, decide, rebuild}
 use Rattle.promises.specs.Runs.{Box, Event, calls, opens, cuts, answerTo, after, runs, Allowed, AllAllowed, blankBox, Run}
 use Rattle.promises.specs.Promises.{NoTornOutcome}
-use Rattle.promises.specs.Model.{Model, Reply, stores, hasRoom, modelCall, modelOpened, modelCut, modelAfter, isLent}
+use Rattle.promises.specs.Model.{Model, Reply, stores, hasRoom, modelCall, modelOpened, modelCut, modelAfter, isOpened}
 use Rattle.promises.proofs.logs.Logs.{known-place}
 use Rattle.promises.proofs.worlds.ModelCalls.{begins, writes, reads, tests, decides, rebuilds}
 use Rattle.promises.proofs.boxes.Boxes.{isOn, Reached}
@@ -51,9 +51,9 @@ module _ (m : Model) (h : Left-for m) where
   call-keeps : (k : Call) → Left-for (modelCall m k .1)
   call-keeps begin = begins Keeps m (λ n p. h) (λ e. omega (arith, room-is m (m .undecided + 2) (omega arith) e))
   call-keeps (write f s a v) = writes Keeps m (λ n p. h) f s a v (λ j k e. omega (arith, room-is m (m .undecided + 1) (omega arith) e))
-  call-keeps (read f t a) = reads Keeps m (λ n p. h) f t a h (λ x e j k. h)
+  call-keeps (read f t a) = reads Keeps m (λ n p. h) f t a (λ x e. h) (λ e. h) (λ x e j k. h)
   call-keeps (test a) = tests Keeps m (λ n p. h) a (λ n p. h)
-  call-keeps (decide a c) = decides Keeps m (λ n p. h) a c (λ p. h) (λ e. fewer (m .undecided) (room-is m 1 (omega arith) e) h)
+  call-keeps (decide a c) = decides Keeps m (λ n p. h) a c (λ p. h) (λ q e. fewer (m .undecided) (room-is m 1 (omega arith) e) h)
   call-keeps (rebuild f) = rebuilds Keeps m (λ n p. h) f (λ x. h)
 
   -- a torn page: none was appended, or there was room for it and the outcomes
@@ -63,7 +63,7 @@ module _ (m : Model) (h : Left-for m) where
   call-tears : (k : Call) (kept : ℕ → Bool) → WholeOutcome k kept → kept kindAt ≡ true → kept markAt ≡ false → Tears (modelCall m k)
   call-tears begin kept w p q = begins Tears m (λ n p. inl refl) (λ e. inr (omega (arith, room-is m (m .undecided + 2) (omega arith) e)))
   call-tears (write f s a v) kept w p q = writes Tears m (λ n p. inl refl) f s a v (λ j k e. inr (omega (arith, room-is m (m .undecided + 1) (omega arith) e)))
-  call-tears (read f t a) kept w p q = reads Tears m (λ n p. inl refl) f t a (inl refl) (λ x e j k. inl refl)
+  call-tears (read f t a) kept w p q = reads Tears m (λ n p. inl refl) f t a (λ x e. inl refl) (λ e. inl refl) (λ x e j k. inl refl)
   call-tears (test a) kept w p q = tests Tears m (λ n p. inl refl) a (λ n p. inl refl)
   call-tears (decide a c) kept w p q = absurd (true≢false (sym p ∙ w a c refl ∙ q))
   call-tears (rebuild f) kept w p q = rebuilds Tears m (λ n p. inl refl) f (λ x. inl refl)
@@ -99,7 +99,7 @@ module _ (n files : ℕ) where
       go : (o : Bool) (e : Event) → NoTornOutcome (e ∷ []) → Left-for (modelAfter o (k .with .model) e)
       go true (calls c) w = call-keeps (k .with .model) (k .left) c
       go false (calls c) w = k .left
-      go o (opens floor fates rows) w = open-keeps (k .with .model) (k .left) floor (isLent (k .with .model) fates rows)
+      go o (opens floor fates rows) w = open-keeps (k .with .model) (k .left) floor (isOpened (k .with .model) fates rows)
       go true (cuts c kept) w = cut-keeps (k .with .model) (k .left) c kept (λ a d q. w [] [] a d kept (ap (λ x. cuts x kept ∷ []) q))
       go false (cuts c kept) w = k .left
 

@@ -18,23 +18,25 @@ use Rattle.page.specs.Layout.{pageSize, valueSize}
 use Rattle.page.specs.Table.{valueOf}
 use Rattle.page.specs.Answers.{tested, valueIn}
 use Rattle.page.proofs.Found.{found, image-is}
-use Rattle.recovery.specs.Log.{Image, Entry, blank, opening, image, outcome, Fate, unknown, undecided, committed, aborted, verdict, fateOf, outcomeOf}
-use Rattle.recovery.specs.Sheet.{pageBytes, entryOf, decoded, sealed}
-use Rattle.recovery.specs.World.{fateNumber, isBlank}
+use Rattle.recovery.specs.Log.{Image, Entry, blank, torn, bad, opening, image, outcome, Fate, unknown, undecided, committed, aborted, verdict, fateOf, outcomeOf}
+use Rattle.recovery.specs.Sheet.{pageBytes, entryOf, isOpening, decoded, sealed}
+use Rattle.recovery.specs.World.{fateNumber, isBlank, isCarried}
 use Rattle.recovery.specs.declared.Answer.the-variants.{Stored, Value, Told}
 use Rattle.calls.specs.Calls.{Call, begin, write, read, test, decide, rebuild}
 use Rattle.recovery.proofs.Spots.{entryIn}
 use Rattle.promises.specs.Runs.{Box, sheetOf, Event, calls, answerTo, runs, blankBox, Run}
 use Rattle.promises.specs.Model as model
-use Rattle.promises.specs.FromLog.{statusOf}
+use Rattle.promises.specs.FromLog.{statusOf, carriedOf}
 use Rattle.promises.specs.Promises.{IsPageOf, Did, AllShow, NoneShows, WasWritten}
 use Rattle.promises.proofs.logs.Logs.{Lawful, Known, known-place, opening-at}
 use Rattle.promises.proofs.logs.Outcomes.{Lies, outcome-lies, outcome-only}
 use Rattle.promises.proofs.logs.Fates.{same-fate}
 use Rattle.promises.proofs.worlds.Openings.{top-solid}
+use Rattle.promises.proofs.worlds.LogSays.{carried-entry}
 use Rattle.promises.proofs.bytes.Replaced.{unsealed, bad-image}
 use Rattle.promises.proofs.boxes.Boxes.{isOn, bounds, Reached}
-use Rattle.promises.proofs.boxes.BoxRuns.{reached, answer-is}
+use Rattle.promises.proofs.boxes.BoxRuns.{reached-blank, reached, answer-is}
+use Rattle.promises.proofs.boxes.Settled.{carried-on}
 use Rattle.promises.proofs.boxes.Found.{told-fate}
 use Rattle.promises.proofs.boxes.BoxShown.{box-all, box-shows}
 use Rattle.promises.proofs.answers.Heard.{answered, hears}
@@ -44,12 +46,20 @@ use Rattle.promises.proofs.answers.Origins.{origin, did}
 -- ---- the page that tells a fate
 
 -- a known action's opening stands at its place
-opening-in : (l : List Entry) (a : ℕ) → Lawful l → Known (fateOf l a) → Lies l a opening
-opening-in l a w h = let p = known-place l a w h in record { low = p .0; high = p .1; here = opening-at l a w h }
+opening-is : (g : Entry) → isOpening g ≡ true → isCarried g ≡ false → g ≡ opening false
+opening-is blank e k = absurd (false≢true e)
+opening-is torn e k = absurd (false≢true e)
+opening-is bad e k = absurd (false≢true e)
+opening-is (opening c) e k = ap opening k
+opening-is (image i) e k = absurd (false≢true e)
+opening-is (outcome a c) e k = absurd (false≢true e)
+
+opening-in : (l : List Entry) (a : ℕ) → Lawful l → Known (fateOf l a) → carriedOf l a ≡ false → Lies l a (opening false)
+opening-in l a w h c = let p = known-place l a w h in record { low = p .0; high = p .1; here = opening-is (entryIn l a) (opening-at l a w h) (sym (carried-entry l a) ∙ c) }
 
 -- ---- the call of a page
 
-call-opening : (k : Call) → IsPageOf k opening → k ≡ begin
+call-opening : (k : Call) → IsPageOf k (opening false) → k ≡ begin
 call-opening begin h = refl
 call-opening (write f s a v) h = let e = h .1 in clash cc
 call-opening (read f t a) h = absurd h
@@ -121,6 +131,10 @@ module _ (n files : ℕ) (es : List Event) (r : Run n files es) where
   lawful : Lawful (m .log)
   lawful = m .at .holds .lawful
 
+  -- nothing was carried over to a sheet that began blank
+  not-carried : (a : ℕ) → carriedOf (m .log) a ≡ false
+  not-carried a = sym (m .at .says .carried a) ∙ ap (λ (c : ℕ → Bool). c a) (carried-on n files (blankBox n) (reached-blank n files (r .sized)) es (r .allowed))
+
   -- the run did the call whose page lies in the log
   done : (p : ℕ) (g : Entry) (k : Call) → Solid g → ((c : Call) → IsPageOf c g → c ≡ k) → Lies (m .log) p g → Did n files es k p
   done p g k s only h =
@@ -129,7 +143,7 @@ module _ (n files : ℕ) (es : List Event) (r : Run n files es) where
 
   pub run-begun-only : (action fate place : ℕ) → answerTo box (calls (test action)) ≡ some (Told fate place) → Did n files es begin action
   run-begun-only action fate place e =
-      done action opening begin solid-opening call-opening (opening-in (m .log) action lawful (told-fate n files box m action fate place e .1))
+      done action (opening false) begin solid-opening call-opening (opening-in (m .log) action lawful (told-fate n files box m action fate place e .1) (not-carried action))
 
   pub run-decided-only : (action place : ℕ) (c : Bool) → answerTo box (calls (test action)) ≡ some (Told (cond c 2 3) place) → Did n files es (decide action c) place
   run-decided-only action place c e =

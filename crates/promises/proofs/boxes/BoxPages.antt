@@ -22,7 +22,7 @@ pub record Solid (g : Entry) : Type 0 where
   pub not-torn : g ≡ torn → ⊥
   pub not-bad : g ≡ bad → ⊥
 
-pub solid-opening : Solid opening
+pub solid-opening : Solid (opening false)
 solid-opening = record { not-blank = λ e. clash cc; not-torn = λ e. clash cc; not-bad = λ e. clash cc }
 
 pub solid-image : (i : Image) → Solid (image i)

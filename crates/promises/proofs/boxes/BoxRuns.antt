@@ -19,6 +19,7 @@ use Rattle.recovery.specs.Sheet.{pageBytes, entryOf, decoded, seal, sealed, pag
 use Rattle.recovery.specs.World.{sizes, down}
 use Rattle.recovery.proofs.Pages.{page-at-place, pages-long}
 use Rattle.promises.specs.Runs.{Box, on, off, Event, calls, opens, cuts, answerTo, after, runs, Allowed, AllAllowed, blankBox, Run}
+use Rattle.promises.specs.FromLog.{carriedOf}
 use Rattle.promises.specs.Model.{blankModel, modelAnswer, modelAfter, modelOn}
 use Rattle.promises.proofs.logs.Fates.{undecided-low}
 use Rattle.promises.proofs.bytes.Stored.{bytesOf}
@@ -114,19 +115,19 @@ module _ (n files : ℕ) where
         List·getD-eq-default (pages files n (replicate (pageSize * n) 0)) blank (omega (arith, pages-long files n (replicate (pageSize * n) 0), leb-false (suc q) n e))
 
     pub blank-at : At n files (blankBox n) [] (blankModel n files)
-    unfolding down fateOf imagesOf effective versionsOf tokenOf
+    unfolding down fateOf imagesOf effective versionsOf tokenOf carriedOf
     blank-at = record {
       sized = sz;
       long = length-replicate (pageSize * n) 0;
       pages-are = refl;
       files-are = refl;
       holds = record { long = pages-long files n (replicate (pageSize * n) 0); lawful = tt; room = omega arith; log = refl; clean = λ p h. zero-clean p h (leb p n) refl };
-      says = record { used = refl; undecided = omega (arith, undecided-low n [] tt (omega arith)); status = λ a. refl; history = λ f. refl; token = λ f. refl };
+      says = record { used = refl; undecided = omega (arith, undecided-low n [] tt (omega arith)); status = λ a. refl; carried = λ a. refl; history = λ f. refl; token = λ f. refl };
       stands = tt;
     }
 
     abbrev pub reached-blank : Reached n files (blankBox n)
     reached-blank = record { log = []; model = blankModel n files; at = blank-at }
 
-  pub reached : (es : List Event) → Run n files es → Reached n files (runs (blankBox n) es)
+  abbrev pub reached : (es : List Event) → Run n files es → Reached n files (runs (blankBox n) es)
   reached es r = reached-on n files (blankBox n) (reached-blank (r .sized)) es (r .allowed)

@@ -31,7 +31,7 @@ use Rattle.promises.proofs.boxes.Found.{some-is, not-heard, stored-is, 
 
 -- ---- the log once a begin, or a decision, was answered with a place
 
-opening-fate : (l : List Entry) → fateOf (opening ∷ l) (suc (length l)) ≡ undecided
+opening-fate : (l : List Entry) → fateOf (opening false ∷ l) (suc (length l)) ≡ undecided
 unfolding fateOf
 opening-fate l = rw (eq-eqb (suc (length l)) (suc (length l)) refl)
 

@@ -20,7 +20,7 @@ use Rattle.recovery.specs.Places.{put}
 use Rattle.recovery.specs.Log.{Entry, blank, torn, bad, opening, image, outcome, fateOf, undecided}
 use Rattle.recovery.specs.Sheet.{pageBytes, entryOf, isOpening, decoded, seal, sealed, pages}
 use Rattle.recovery.specs.World.{World, entryAt}
-use Rattle.recovery.proofs.Pages.{page-at-place}
+use Rattle.recovery.proofs.Pages.{page-at-place, opening-sealed}
 use Rattle.calls.specs.Leaves.{packedEntry, withPage, grown}
 use Rattle.calls.specs.Cuts.{mixed, storedOf}
 use Rattle.recovery.proofs.Spots.{entryIn, entry-top, entry-down}
@@ -29,7 +29,7 @@ use Rattle.promises.proofs.logs.Logs.{known-place, opening-at, Fits}
 use Rattle.promises.proofs.worlds.Openings.{Holds}
 use Rattle.promises.proofs.bytes.Mixed.{mixed-long, mixed-all, mixed-same}
 use Rattle.promises.proofs.bytes.Cuts.{holds-put}
-use Rattle.promises.proofs.bytes.Replaced.{replaced-long, replaced-here, unsealed, bad-blank, bad-opening, decoded-other, pages-replaced}
+use Rattle.promises.proofs.bytes.Replaced.{replaced-long, replaced-here, unsealed, bad-blank, decoded-other, pages-replaced}
 use Rattle.promises.proofs.bytes.Stored.{bytesOf, partial, Fitting, entry-long, partly-stored}
 use Rattle.promises.proofs.bytes.Appended.{FitStep, fit-stay, fit-add}
 use Rattle.promises.specs.Runs.{Ordered}
@@ -85,12 +85,13 @@ cut-same kept s e = ap (withPage s e) (mixed-same kept (pageBytes s (suc e))) �
 module _ (files n : ℕ) (s : List ℕ) (l : List Entry) (h : Holds (pages files n s) n l)
     (long : length s ≡ pageSize * n) (high : n ≤ mostPlaces) (some : 1 ≤ files) (few : files ≤ mostFiles) where
   -- an undecided action's page decodes as an opening
-  live-decoded : (a : ℕ) → fateOf l a ≡ undecided → decoded files s a ≡ opening
+  live-decoded : (a : ℕ) → fateOf l a ≡ undecided → isOpening (decoded files s a) ≡ true
   unfolding sealed
   live-decoded a e =
       let p = known-place l a (h .lawful) (undecided-known e) in
-      unsealed (decoded files s) (decoded files s a) opening bad-opening
-      (sym (page-at-place files n s a (p .0) (omega (arith, p .1, h .room))) ∙ sym (entry-down (pages files n s) (length l) a (p .1)) ∙ ap (λ l. entryIn l a) (h .log) ∙ opening-at l a (h .lawful) (undecided-known e))
+      sym (opening-sealed (decoded files s) (decoded files s a))
+      ∙ ap isOpening (sym (page-at-place files n s a (p .0) (omega (arith, p .1, h .room))) ∙ sym (entry-down (pages files n s) (length l) a (p .1)) ∙ ap (λ l. entryIn l a) (h .log))
+      ∙ opening-at l a (h .lawful) (undecided-known e)
 
   module _ (room : length l < n) where
     page-zero : pageBytes s (suc (length l)) ≡ replicate pageSize 0
@@ -99,17 +100,17 @@ module _ (files n : ℕ) (s : List ℕ) (l : List Entry) (h : Holds (pages files
         (unsealed (decoded files s) (decoded files s (suc (length l))) blank bad-blank
         (sym (page-at-place files n s (suc (length l)) (omega arith) room) ∙ h .clean (suc (length l)) (omega arith)))
 
-    live : (x : List ℕ) → length x ≡ pageSize → (a : ℕ) → fateOf l a ≡ undecided → decoded files (withPage s (length l) x) a ≡ opening
+    live : (x : List ℕ) → length x ≡ pageSize → (a : ℕ) → fateOf l a ≡ undecided → isOpening (decoded files (withPage s (length l) x) a) ≡ true
     live x k a e =
-        decoded-other files n s (length l) x long room k (λ p q r. h .clean p q) a (λ q. omega (arith, known-place l a (h .lawful) (undecided-known e) .1)) ∙ live-decoded a e
+        ap isOpening (decoded-other files n s (length l) x long room k (λ p q r. h .clean p q) a (λ q. omega (arith, known-place l a (h .lawful) (undecided-known e) .1))) ∙ live-decoded a e
 
     seal-new : (x : List ℕ) (g : Entry) → length x ≡ pageSize → Fits g l → seal (decoded files (withPage s (length l) x)) g ≡ g
     seal-new x blank k f = refl
     seal-new x torn k f = refl
     seal-new x bad k f = refl
-    seal-new x opening k f = refl
-    seal-new x (image i) k f = ap (λ y. cond (isOpening y) (image i) bad) (live x k (i .action) (f .live))
-    seal-new x (outcome a c) k f = ap (λ y. cond (isOpening y) (outcome a c) bad) (live x k a f)
+    seal-new x (opening j) k f = refl
+    seal-new x (image i) k f = ap (λ (o : Bool). cond o (image i) bad) (live x k (i .action) (f .live))
+    seal-new x (outcome a c) k f = ap (λ (o : Bool). cond o (outcome a c) bad) (live x k a f)
 
     -- the pages, when these bytes of the page are stored
     module _ (g : Entry) (f : Fits g l) (pk : Fitting files (suc (length l)) g) (kept : ℕ → Bool) (o : Ordered kept) where

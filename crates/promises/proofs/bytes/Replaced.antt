@@ -78,14 +78,14 @@ module _ (r : ℕ → Entry) where
   unsealed blank h n e = e
   unsealed torn h n e = e
   unsealed bad h n e = e
-  unsealed opening h n e = e
+  unsealed (opening k) h n e = e
   unsealed (image i) h n e = kept-by (image i) (isOpening (r (i .action))) h n e
   unsealed (outcome a c) h n e = kept-by (outcome a c) (isOpening (r a)) h n e
 
 pub bad-blank : bad ≡ blank → ⊥
 bad-blank e = let z : _≡_ {A = ℕ} 0 1 = cc in omega arith
 
-pub bad-opening : bad ≡ opening → ⊥
+pub bad-opening : bad ≡ opening false → ⊥
 bad-opening e = let z : _≡_ {A = ℕ} 0 1 = cc in omega arith
 
 pub bad-image : (i : Image) → bad ≡ image i → ⊥
@@ -98,7 +98,7 @@ module _ (files : ℕ) (s : List ℕ) (p : ℕ) where
   Below blank = Unit {0}
   Below torn = Unit {0}
   Below bad = Unit {0}
-  Below opening = Unit {0}
+  Below (opening k) = Unit {0}
   Below (image i) = (i .action < p) × (1 ≤ i .action) × (1 ≤ i .file) × (i .file ≤ files)
   Below (outcome a c) = a < p
 
@@ -131,7 +131,7 @@ module _ (files n : ℕ) (s : List ℕ) (e : ℕ) (x : List ℕ) (long : length 
   sealed-low p h blank q = refl
   sealed-low p h torn q = refl
   sealed-low p h bad q = refl
-  sealed-low p h opening q = refl
+  sealed-low p h (opening k) q = refl
   sealed-low p h (image i) q = rw (decoded-other (i .action) (λ j. omega (arith, q .0)))
   sealed-low p h (outcome a c) q = rw (decoded-other a (λ j. omega arith))
 

@@ -37,7 +37,7 @@ abbrev pub Fitting : ℕ → ℕ → Entry → Type 0
 Fitting files p blank = ⊥
 Fitting files p torn = ⊥
 Fitting files p bad = ⊥
-Fitting files p opening = Unit {0}
+Fitting files p (opening k) = Unit {0}
 Fitting files p (image i) = ImageFitting files p i
 Fitting files p (outcome a c) = (1 ≤ a) × (a < p)
 
@@ -54,7 +54,7 @@ module _ (files p : ℕ) where
   value-long blank h = absurd h
   value-long torn h = absurd h
   value-long bad h = absurd h
-  value-long opening h = refl
+  value-long (opening k) h = refl
   value-long (image i) h = simp (length-append, length-replicate) (omega (arith, h .short))
   value-long (outcome a c) h = refl
 
@@ -62,7 +62,8 @@ module _ (files p : ℕ) where
   rules blank h = absurd h
   rules torn h = absurd h
   rules bad h = absurd h
-  rules opening h = opening-rules p files
+  rules (opening true) h = opening-rules 1 p files (omega arith)
+  rules (opening false) h = opening-rules 0 p files (omega arith)
   rules (image i) h =
       image-rules (length (i .value)) (i .file) (i .action) (i .link) (i .start) p files (padded (i .value))
       (h .short) (h .file-low) (h .file-high) (h .action-low) (h .action-high) (h .link-high) (h .start-low) (h .start-high) (pad-zeros (i .value))
@@ -86,7 +87,8 @@ module _ (files p : ℕ) where
     back blank h = absurd h
     back torn h = absurd h
     back bad h = absurd h
-    back opening h = refl
+    back (opening true) h = refl
+    back (opening false) h = refl
     back (image i) h =
         let e : take (length (i .value)) (valueOf (packedEntry p (image i))) ≡ i .value =
         ap (take (length (i .value))) (value-of (image i) h) ∙ take-at (i .value) (replicate (valueSize - length (i .value)) 0) (length (i .value)) refl in

@@ -33,19 +33,19 @@ token-agree φ ψ [] k h = refl
 token-agree φ ψ (x ∷ xs) k h = rw (k (x .image .action) (h .0), token-keeps φ ψ (agree-keeps φ ψ k) xs (h .2))
 
 -- an opening changes no history
-opening-agree : (l : List Entry) → Lawful l → Agree (fateOf l) (fateOf (opening ∷ l))
+opening-agree : (l : List Entry) → Lawful l → Agree (fateOf l) (fateOf (opening false ∷ l))
 unfolding fateOf
 opening-agree l w a d = by-test (λ (x : Fate). x ≡ fateOf l a) (eqb a (suc (length l)))
     (λ e. not-unknown (fateOf l a) d (fate-above l a w (omega (arith, eqb-true a (suc (length l)) e))))
     (λ e. refl)
 
-pub opening-versions : (l : List Entry) (f : ℕ) → Lawful l → versions (opening ∷ l) f ≡ versions l f
+pub opening-versions : (l : List Entry) (f : ℕ) → Lawful l → versions (opening false ∷ l) f ≡ versions l f
 unfolding imagesOf
-opening-versions l f w = versions-agree (fateOf l) (fateOf (opening ∷ l)) (effectiveOf l f) (opening-agree l w) (chain l f w)
+opening-versions l f w = versions-agree (fateOf l) (fateOf (opening false ∷ l)) (effectiveOf l f) (opening-agree l w) (chain l f w)
 
-pub opening-token : (l : List Entry) (f : ℕ) → Lawful l → token (opening ∷ l) f ≡ token l f
+pub opening-token : (l : List Entry) (f : ℕ) → Lawful l → token (opening false ∷ l) f ≡ token l f
 unfolding imagesOf
-opening-token l f w = token-agree (fateOf l) (fateOf (opening ∷ l)) (effectiveOf l f) (opening-agree l w) (chain l f w)
+opening-token l f w = token-agree (fateOf l) (fateOf (opening false ∷ l)) (effectiveOf l f) (opening-agree l w) (chain l f w)
 
 -- an image becomes its file's token
 pub image-versions : (i : Image) (l : List Entry) (f : ℕ) → ImageFits i l → versions (image i ∷ l) f ≡ versions l f

@@ -103,7 +103,7 @@ chain [] f w = tt
 chain (blank ∷ l) f w = absurd (w .0)
 chain (torn ∷ l) f w = chain l f (w .1)
 chain (bad ∷ l) f w = absurd (w .0)
-chain (opening ∷ l) f w = chain-same opening l f tt (w .1) (chain l f (w .1))
+chain (opening k ∷ l) f w = chain-same (opening k) l f tt (w .1) (chain l f (w .1))
 chain (outcome b c ∷ l) f w = chain-same (outcome b c) l f (w .0) (w .1) (chain l f (w .1))
 chain (image i ∷ l) f w = by-test (λ xs. Chain (fateOf l) (effective xs)) (eqb (i .file) f)
     (λ e. chain-image i l f (w .0) (w .1) (eqb-true (i .file) f e) (chain l f (w .1)))

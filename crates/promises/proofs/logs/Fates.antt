@@ -52,10 +52,10 @@ undecided-put xs zero v h k = absurd (omega arith)
 undecided-put xs (suc a) v h k = undecided-set xs a v k
 
 -- the fates and their count after an opening and after an outcome
-pub opening-fates : (n : ℕ) (l : List Entry) → put (fatesOf n l) (suc (length l)) 1 ≡ fatesOf n (opening ∷ l)
+pub opening-fates : (n : ℕ) (l : List Entry) → put (fatesOf n l) (suc (length l)) 1 ≡ fatesOf n (opening false ∷ l)
 unfolding fateOf
 opening-fates n l =
-    put-tabulate (λ p. fateNumber (fateOf l p)) (λ p. fateNumber (fateOf (opening ∷ l) p)) n (suc (length l)) 1 (omega arith)
+    put-tabulate (λ p. fateNumber (fateOf l p)) (λ p. fateNumber (fateOf (opening false ∷ l) p)) n (suc (length l)) 1 (omega arith)
     (rw (eq-eqb (suc (length l)) (suc (length l)) refl)) (λ b u v q. rw (ne-eqb b (suc (length l)) q))
 
 pub outcome-fates : (n : ℕ) (l : List Entry) (a : ℕ) (c : Bool) → 1 ≤ a → put (fatesOf n l) a (fateNumber (verdict c)) ≡ fatesOf n (outcome a c ∷ l)
@@ -64,7 +64,7 @@ outcome-fates n l a c h =
     put-tabulate (λ p. fateNumber (fateOf l p)) (λ p. fateNumber (fateOf (outcome a c ∷ l) p)) n a (fateNumber (verdict c)) h
     (rw (eq-eqb a a refl)) (λ b u v q. rw (ne-eqb b a q))
 
-pub opening-undecided : (n : ℕ) (l : List Entry) → Lawful l → length l < n → undecidedOf (fatesOf n (opening ∷ l)) ≡ suc (undecidedOf (fatesOf n l))
+pub opening-undecided : (n : ℕ) (l : List Entry) → Lawful l → length l < n → undecidedOf (fatesOf n (opening false ∷ l)) ≡ suc (undecidedOf (fatesOf n l))
 opening-undecided n l w h =
     let p : ℕ = suc (length l) in
     let u : nth 0 (fatesOf n l) p ≡ 0 = nth-tabulate (λ a. fateNumber (fateOf l a)) n p 0 (omega arith) h ∙ ap fateNumber (fate-above l p w (omega arith)) in
@@ -95,7 +95,7 @@ undecided-low n [] w h = omega (arith, none-open n 0)
 undecided-low n (blank ∷ l) w h = absurd (w .0)
 undecided-low n (torn ∷ l) w h = omega (arith, undecided-low n l (w .1) (omega arith))
 undecided-low n (bad ∷ l) w h = absurd (w .0)
-undecided-low n (opening ∷ l) w h = omega (arith, opening-undecided n l (w .1) (omega arith), undecided-low n l (w .1) (omega arith))
+undecided-low n (opening k ∷ l) w h = omega (arith, opening-undecided n l (w .1) (omega arith), undecided-low n l (w .1) (omega arith))
 undecided-low n (image i ∷ l) w h = omega (arith, undecided-low n l (w .1) (omega arith))
 undecided-low n (outcome a c ∷ l) w h = omega (arith, outcome-undecided n l a c (w .1) (omega arith) (w .0), undecided-low n l (w .1) (omega arith))
 

@@ -9,6 +9,7 @@ use lib.Dec.{eqb}
 use borrow.Author.Tests.{eqb-true, ltb-true, eq-eqb, lt-ltb}
 use Rattle.encoding.proofs.Logic.{by-test, and-true}
 use Rattle.recovery.specs.Log.{Image, Entry, blank, torn, bad, opening, image, outcome, Fate, unknown, undecided, committed, aborted, verdict, fateOf, placeOf, startOf}
+use Rattle.recovery.specs.Sheet.{isOpening}
 use Rattle.recovery.specs.World.{fateNumber}
 use Rattle.recovery.proofs.LogFates.{undecided-is}
 use Rattle.recovery.proofs.Spots.{entryIn}
@@ -29,7 +30,7 @@ abbrev pub Fits : Entry → List Entry → Type 0
 Fits blank l = ⊥
 Fits torn l = Unit {0}
 Fits bad l = ⊥
-Fits opening l = Unit {0}
+Fits (opening k) l = Unit {0}
 Fits (image i) l = ImageFits i l
 Fits (outcome a c) l = fateOf l a ≡ undecided
 
@@ -43,7 +44,7 @@ pub fits-test : (g : Entry) (l : List Entry) → Fits g l → fitsBelow g l ≡ 
 fits-test blank l h = absurd h
 fits-test torn l h = refl
 fits-test bad l h = absurd h
-fits-test opening l h = refl
+fits-test (opening k) l h = refl
 fits-test (image i) l h =
     rw (h .live, h .free, eq-eqb (i .link) (placeOf (current l (i .file))) (h .links), lt-ltb (startOf (current l (i .file))) (i .start) (h .later))
 fits-test (outcome a c) l h = rw h
@@ -52,7 +53,7 @@ pub test-fits : (g : Entry) (l : List Entry) → fitsBelow g l ≡ true → Fits
 test-fits blank l h = absurd (false≢true h)
 test-fits torn l h = tt
 test-fits bad l h = absurd (false≢true h)
-test-fits opening l h = tt
+test-fits (opening k) l h = tt
 test-fits (image i) l h =
     let a = and-true _ _ h in
     let b = and-true _ _ (a .0) in
@@ -98,7 +99,7 @@ pub known-place : (l : List Entry) (a : ℕ) → Lawful l → Known (fateOf l a)
 known-place l a w h = fate-place l a (lawful-test l w) h
 
 -- which is that of its opening
-pub opening-at : (l : List Entry) (a : ℕ) → Lawful l → Known (fateOf l a) → entryIn l a ≡ opening
+pub opening-at : (l : List Entry) (a : ℕ) → Lawful l → Known (fateOf l a) → isOpening (entryIn l a) ≡ true
 opening-at l a w h = fate-opens l a (lawful-test l w) h
 
 none-known : (x : Fate) → (Known x → ⊥) → x ≡ unknown
@@ -126,6 +127,6 @@ unfolding fateOf
 fate-knows blank l a h = h
 fate-knows torn l a h = h
 fate-knows bad l a h = h
-fate-knows opening l a h = by-test Known (eqb a (suc (length l))) (λ e. omega arith) (λ e. h)
+fate-knows (opening k) l a h = by-test Known (eqb a (suc (length l))) (λ e. omega arith) (λ e. h)
 fate-knows (image i) l a h = h
 fate-knows (outcome b c) l a h = by-test Known (eqb a b) (λ e. omega (arith, verdict-decided c)) (λ e. h)

@@ -35,7 +35,7 @@ images-fall [] f = tt
 images-fall (blank ∷ l) f = images-fall l f
 images-fall (torn ∷ l) f = images-fall l f
 images-fall (bad ∷ l) f = images-fall l f
-images-fall (opening ∷ l) f = images-fall l f
+images-fall (opening k ∷ l) f = images-fall l f
 images-fall (outcome a c ∷ l) f = images-fall l f
 images-fall (image i ∷ l) f = by-test Falling (eqb (i .file) f) (λ e. (below-top l f (imagesOf l f) (image-spots l f), images-fall l f)) (λ e. images-fall l f)
 
@@ -112,7 +112,7 @@ entry-among (g ∷ l) p i e = go (eqb p (suc (length l))) refl e (entry-among l 
     lift blank h = h
     lift torn h = h
     lift bad h = h
-    lift opening h = h
+    lift (opening k) h = h
     lift (image j) h = by-test (Among (record { place = p; image = i })) (eqb (j .file) (i .file)) (λ q. next h) (λ q. h)
     lift (outcome a c) h = h
 

@@ -56,11 +56,11 @@ outcome-lies (blank ∷ l) a c e = lies-more blank l (outcomeOf l a) (outcome a 
 outcome-lies (torn ∷ l) a c e = lies-more torn l (outcomeOf l a) (outcome a c) (outcome-lies l a c e)
 outcome-lies (bad ∷ l) a c e = lies-more bad l (outcomeOf l a) (outcome a c) (outcome-lies l a c e)
 outcome-lies (image i ∷ l) a c e = lies-more (image i) l (outcomeOf l a) (outcome a c) (outcome-lies l a c e)
-outcome-lies (opening ∷ l) a c e = go (eqb a (suc (length l))) e (λ q. outcome-lies l a c q)
+outcome-lies (opening k ∷ l) a c e = go (eqb a (suc (length l))) e (λ q. outcome-lies l a c q)
   where
-    go : (b : Bool) → cond b undecided (fateOf l a) ≡ verdict c → (fateOf l a ≡ verdict c → Lies l (outcomeOf l a) (outcome a c)) → Lies (opening ∷ l) (outcomeOf l a) (outcome a c)
+    go : (b : Bool) → cond b undecided (fateOf l a) ≡ verdict c → (fateOf l a ≡ verdict c → Lies l (outcomeOf l a) (outcome a c)) → Lies (opening k ∷ l) (outcomeOf l a) (outcome a c)
     go true q r = not-verdict c undecided (omega arith) q
-    go false q r = lies-more opening l (outcomeOf l a) (outcome a c) (r q)
+    go false q r = lies-more (opening k) l (outcomeOf l a) (outcome a c) (r q)
 outcome-lies (outcome x d ∷ l) a c e = go (eqb a x) refl e (λ q. outcome-lies l a c q)
   where
     go : (b : Bool) → eqb a x ≡ b → cond b (verdict d) (fateOf l a) ≡ verdict c → (fateOf l a ≡ verdict c → Lies l (outcomeOf l a) (outcome a c))
@@ -86,7 +86,7 @@ nowhere (blank ∷ l) a w h = absurd (w .0)
 nowhere (torn ∷ l) a w h = nowhere l a (w .1) h
 nowhere (bad ∷ l) a w h = absurd (w .0)
 nowhere (image i ∷ l) a w h = nowhere l a (w .1) h
-nowhere (opening ∷ l) a w h = nowhere l a (w .1) (go (eqb a (suc (length l))) refl h)
+nowhere (opening k ∷ l) a w h = nowhere l a (w .1) (go (eqb a (suc (length l))) refl h)
   where
     go : (b : Bool) → eqb a (suc (length l)) ≡ b → (Decided (cond b undecided (fateOf l a)) → ⊥) → Decided (fateOf l a) → ⊥
     go true e h d = let z : fateOf l a ≡ unknown = fate-above l a (w .1) (omega (arith, eqb-true a (suc (length l)) e)) in omega (arith, rw z at d)
@@ -110,7 +110,7 @@ unfolding outcomeOf
 outcome-keeps blank l f a d = refl
 outcome-keeps torn l f a d = refl
 outcome-keeps bad l f a d = refl
-outcome-keeps opening l f a d = refl
+outcome-keeps (opening k) l f a d = refl
 outcome-keeps (image i) l f a d = refl
 outcome-keeps (outcome b c) l f a d = rw (ne-eqb a b (λ e. not-undecided (fateOf l a) d (ap (fateOf l) e ∙ f)))
 

@@ -1,18 +1,21 @@
 -- A log says what the object model has; and what each page that fits makes of it.
 use Prim.Native.Nat.{ℕ, suc, pred, max, _≤_, _<_}
 use mathlib.Core.Path.{_≡_, refl, sym, ap, _∙_}
-use mathlib.Core.List.{List, _∷_, map}
+use mathlib.Core.List.{List, [], _∷_, map}
 use mathlib.Core.Bool.{Bool, true, false, cond}
 use mathlib.Core.Option.{Option, some, none}
+use native.Mathlib.Omega.{arith}
 use lib.ListN.{length}
+use Rattle.encoding.proofs.Logic.{by-test}
 use lib.Dec.{eqb}
 use borrow.Author.Tests.{eqb-true, eqb-false, eq-eqb, ne-eqb}
 use Rattle.recovery.specs.Log as log
 use Rattle.recovery.specs.Log.{Image, Entry, torn, opening, image, outcome, undecided, Placed, fateOf, outcomeOf, imagesOf, verdict, placeOf, startOf}
-use Rattle.recovery.specs.World.{fatesOf, undecidedOf}
+use Rattle.recovery.specs.World.{isCarried, fatesOf, undecidedOf}
+use Rattle.recovery.proofs.Spots.{entryIn}
 use Rattle.inspection.specs.Lawful.{versions, current, token}
 use Rattle.promises.specs.Model.{Object, object, Status, pending, Model, actionOf, newest, placed, since, changed, stores, askedBefore, decidedAs, ended, endedBy, modelOpened}
-use Rattle.promises.specs.FromLog.{statusOf, versionOf, versionIn, history}
+use Rattle.promises.specs.FromLog.{statusOf, versionOf, versionIn, carriedOf, history}
 use Rattle.promises.proofs.logs.Logs.{ImageFits, Lawful}
 use Rattle.promises.proofs.logs.Appends.{opening-versions, opening-token, image-versions, image-token, owns, longer, outcome-versions, outcome-token}
 use Rattle.promises.proofs.logs.Fates.{opening-undecided, outcome-undecided}
@@ -26,12 +29,13 @@ abbrev pub tokenEnd : Object → ℕ
 tokenEnd x = max (since (x .token)) (x .tokenasked)
 
 abbrev pub withObjects : Model → (ℕ → Object) → Model
-withObjects m h = record { pages = m .pages; files = m .files; used = m .used; floor = m .floor; undecided = m .undecided; status = m .status; object = h }
+withObjects m h = record { pages = m .pages; files = m .files; used = m .used; floor = m .floor; undecided = m .undecided; status = m .status; carried = m .carried; object = h }
 
 pub record Says (l : List Entry) (m : Model) : Type 0 where
   pub used : m .used ≡ length l
   pub undecided : m .undecided ≡ undecidedOf (fatesOf (m .pages) l)
   pub status : (a : ℕ) → m .status a ≡ statusOf (fateOf l a) (outcomeOf l a)
+  pub carried : (a : ℕ) → m .carried a ≡ carriedOf l a
   pub history : (f : ℕ) → m .object f .history ≡ history l f
   pub token : (f : ℕ) → m .object f .token ≡ versionIn (token l f)
 
@@ -68,6 +72,24 @@ pub verdict-status : (c : Bool) (place : ℕ) → statusOf (verdict c) place ≡
 verdict-status true place = refl
 verdict-status false place = refl
 
+-- ---- carried openings
+
+-- none lies above the log
+pub carried-above : (l : List Entry) (a : ℕ) → length l < a → carriedOf l a ≡ false
+unfolding carriedOf
+carried-above [] a h = refl
+carried-above (g ∷ l) a h = rw (ne-eqb a (suc (length l)) (λ e. omega arith)) (carried-above l a (omega arith))
+
+pub carried-entry : (l : List Entry) (a : ℕ) → carriedOf l a ≡ isCarried (entryIn l a)
+unfolding carriedOf
+carried-entry [] a = refl
+carried-entry (g ∷ l) a = by-test (λ (x : Entry). cond (eqb a (suc (length l))) (isCarried g) (carriedOf l a) ≡ isCarried x) (eqb a (suc (length l))) (λ e. rw e) (λ e. rw e (carried-entry l a))
+
+-- a page that is none, on top
+carried-more : (g : Entry) (l : List Entry) → isCarried g ≡ false → (a : ℕ) → carriedOf (g ∷ l) a ≡ carriedOf l a
+unfolding carriedOf
+carried-more g l h a = by-test (λ (x : Bool). x ≡ carriedOf l a) (eqb a (suc (length l))) (λ e. h ∙ sym (carried-above l a (omega (arith, eqb-true a (suc (length l)) e)))) (λ e. refl)
+
 -- ---- one object changed
 
 module _ {A : Type 0} (P : Object → A) (h : ℕ → Object) (f : ℕ) (x : Object) (k : ℕ → A) (same : (g : ℕ) → P (h g) ≡ k g) where
@@ -91,7 +113,7 @@ module _ {A : Type 0} (P : Object → A) (h : ℕ → Object) (f : ℕ) (x : Obj
 abbrev statusIn : List Entry → ℕ → Option Status
 statusIn l a = statusOf (fateOf l a) (outcomeOf l a)
 
-opening-status : (l : List Entry) (a : ℕ) → statusIn (opening ∷ l) a ≡ cond (eqb a (suc (length l))) (some pending) (statusIn l a)
+opening-status : (l : List Entry) (a : ℕ) → statusIn (opening false ∷ l) a ≡ cond (eqb a (suc (length l))) (some pending) (statusIn l a)
 unfolding fateOf outcomeOf
 opening-status l a = go (eqb a (suc (length l)))
   where
@@ -169,18 +191,19 @@ module _ (l : List Entry) (m : Model) (s : Says l m) where
   pub token-placed : (f : ℕ) → placed (m .object f .token) ≡ placeOf (token l f)
   token-placed f = ap placed (s .token f) ∙ placed-is (token l f)
 
-  pub opening-says : Lawful l → length l < m .pages → Says (opening ∷ l) (stores m (suc (m .undecided)) (changed (m .status) (suc (m .used)) (some pending)) (m .object))
+  pub opening-says : Lawful l → length l < m .pages → Says (opening false ∷ l) (stores m (suc (m .undecided)) (changed (m .status) (suc (m .used)) (some pending)) (m .object))
   opening-says w room = record {
     used = ap suc (s .used);
     undecided = ap suc (s .undecided) ∙ sym (opening-undecided (m .pages) l w room);
     status = λ a. rw (s .used, s .status a) (sym (opening-status l a));
+    carried = λ a. s .carried a ∙ sym (carried-more (opening false) l refl a);
     history = λ f. s .history f ∙ ap (map versionOf) (sym (opening-versions l f w));
     token = λ f. s .token f ∙ ap versionIn (sym (opening-token l f w));
   }
 
   pub torn-says : Says (torn ∷ l) (stores m (m .undecided) (m .status) (m .object))
   unfolding fateOf outcomeOf imagesOf
-  torn-says = record { used = ap suc (s .used); undecided = s .undecided; status = s .status; history = s .history; token = s .token }
+  torn-says = record { used = ap suc (s .used); undecided = s .undecided; status = s .status; carried = λ a. s .carried a ∙ sym (carried-more torn l refl a); history = s .history; token = s .token }
 
   pub image-says : (f start a : ℕ) (v : List ℕ) → ImageFits (written l f start a v) l
       → Says (image (written l f start a v) ∷ l) (stores m (m .undecided) (m .status) (changed (m .object) f (given m f start a v)))
@@ -188,6 +211,7 @@ module _ (l : List Entry) (m : Model) (s : Says l m) where
     used = ap suc (s .used);
     undecided = s .undecided ∙ ap undecidedOf (sym (fates-image (m .pages) (written l f start a v) l));
     status = λ b. s .status b ∙ sym (image-status (written l f start a v) l b);
+    carried = λ b. s .carried b ∙ sym (carried-more (image (written l f start a v)) l refl b);
     history = λ g. changed-not (λ x. x .history) (m .object) f (given m f start a v) (history l) (s .history) (s .history f) g ∙ ap (map versionOf) (sym (image-versions (written l f start a v) l g i));
     token = λ g.
         changed-at (λ x. x .token) (m .object) f (given m f start a v) (λ h. versionIn (token l h)) (s .token) (some (versionOf new)) (ap some new-is) g
@@ -209,9 +233,10 @@ module _ (l : List Entry) (m : Model) (s : Says l m) where
     used = ap suc (s .used);
     undecided = ap pred (s .undecided ∙ sym (outcome-undecided (m .pages) l a c w room o));
     status = λ b. rw (s .used, s .status b) (sym (outcome-status a c l b));
+    carried = λ b. s .carried b ∙ sym (carried-more (outcome a c) l refl b);
     history = λ f. ap (λ x. x .history) (left-is a c f) ∙ left-history a c (m .object f) (versions l f) (token l f) (s .history f) ∙ ap (map versionOf) (sym (outcome-versions a c l f o w));
     token = λ f. ap (λ x. x .token) (left-is a c f) ∙ left-token a c (m .object f) (token l f) (s .token f) ∙ ap versionIn (sym (outcome-token a c l f o w));
   }
 
   pub opened-says : (floor : ℕ) → Says l (modelOpened m floor)
-  opened-says floor = record { used = s .used; undecided = s .undecided; status = s .status; history = s .history; token = s .token }
+  opened-says floor = record { used = s .used; undecided = s .undecided; status = s .status; carried = s .carried; history = s .history; token = s .token }

@@ -12,9 +12,9 @@ use borrow.Author.Tests.{eqb-true, ltb-true, leb-true}
 use Rattle.encoding.proofs.Logic.{by-test, and-true}
 use Rattle.page.specs.Layout.{valueSize, kindAt, markAt}
 use Rattle.recovery.specs.declared.Answer.{Answer}
-use Rattle.recovery.specs.declared.Answer.the-variants.{Stored, Told}
+use Rattle.recovery.specs.declared.Answer.the-variants.{Stored, Nothing, Told}
 use Rattle.calls.specs.Calls.{Call, begin, write, read, test, decide, rebuild}
-use Rattle.promises.specs.Model.{Version, object, Status, pending, committed, aborted, Model, Reply, newest, since, shows, refuses, changed, withObject, stores, stored, hasRoom, ofFile, ofPending, isFreeFor, actionOf, readHistory, reading, testing, decidedAs, deciding, modelCall, modelCut}
+use Rattle.promises.specs.Model.{Version, object, Status, pending, committed, aborted, Model, Reply, newest, since, latest, shows, hasCarried, refuses, changed, withObject, stores, stored, hasRoom, ofFile, ofPending, isFreeFor, actionOf, askedAt, readVersion, reading, testing, decidedAs, deciding, modelCall, modelCut}
 use Rattle.promises.proofs.worlds.LogSays.{currentEnd, given, left}
 
 module _ (P : Reply → Type 0) (m : Model) (no : (n p : ℕ) → P (refuses n p m)) where
@@ -46,21 +46,27 @@ module _ (P : Reply → Type 0) (m : Model) (no : (n p : ℕ) → P (refuses n p
           by-test P (hasRoom m (m .undecided + 1)) (h (omega (arith, ltb-true (since (newest (m .object f .history))) start (c .0), ltb-true (m .object f .asked) start (c .1))) (ltb-true (m .floor) start (b .1))) (λ q. no 11 0))
           (λ e. no 10 0)
 
-  -- a read finds a version, or the action's own token
-  pub reads : (f time a : ℕ) → P (readHistory m f time (m .object f))
+  -- a read finds a version or none, or the action's own token
+  pub reads : (f time a : ℕ)
+      → ((x : Version) → latest time (m .object f .history) ≡ some x → P (shows x, withObject m f (askedAt time (m .object f))))
+      → (latest time (m .object f .history) ≡ none → P (Nothing, withObject m f (askedAt time (m .object f))))
       → ((x : Version) → m .object f .token ≡ some x → x .start ≤ time → x .action ≡ a
-      → P (shows (some x), withObject m f (object (m .object f .history) (m .object f .asked) (m .object f .token) (max (m .object f .tokenasked) time))))
+      → P (shows x, withObject m f (object (m .object f .history) (m .object f .asked) (m .object f .token) (max (m .object f .tokenasked) time))))
       → P (modelCall m (read f time a))
-  reads f time a h k =
+  reads f time a h i k =
       let r = go (m .object f .token) refl in
       of-file f _ (by-test P (eqb a 0) (λ e. r) (λ e. of-pending (m .status a) _ r))
     where
+      in-history : (z : Option Version) → latest time (m .object f .history) ≡ z → P (readVersion m f time (m .object f) z)
+      in-history none e = by-test P (hasCarried (m .carried) (m .object f .history)) (λ q. no 25 0) (λ q. i e)
+      in-history (some x) e = h x e
+
       go : (z : Option Version) → m .object f .token ≡ z → P (reading m f time a (m .object f) z)
-      go none e = h
+      go none e = in-history (latest time (m .object f .history)) refl
       go (some x) e =
           by-test P (leb (x .start) time)
           (λ q. by-test P (eqb (x .action) a) (λ r. k x e (leb-true (x .start) time q) (eqb-true (x .action) a r)) (λ r. no 9 (x .action)))
-          (λ q. h)
+          (λ q. in-history (latest time (m .object f .history)) refl)
 
   pub tests : (a : ℕ) → ((n p : ℕ) → P (Told n p, m)) → P (modelCall m (test a))
   tests a h = go (m .status a)
@@ -72,46 +78,47 @@ module _ (P : Reply → Type 0) (m : Model) (no : (n p : ℕ) → P (refuses n p
       go (some (aborted p)) = h 3 p
 
   -- a decision is told where it lies, or made
-  pub decides : (a : ℕ) (c : Bool) → ((p : ℕ) → P (Stored p, m)) → (hasRoom m 1 ≡ true → P (stored m (pred (m .undecided)) (changed (m .status) a (some (decidedAs c (suc (m .used))))) (left m a c)))
+  pub decides : (a : ℕ) (c : Bool) → ((p : ℕ) → P (Stored p, m)) → (m .status a ≡ some pending → hasRoom m 1 ≡ true → P (stored m (pred (m .undecided)) (changed (m .status) a (some (decidedAs c (suc (m .used))))) (left m a c)))
       → P (modelCall m (decide a c))
-  decides a c again h = go c (m .status a) _ (by-test P (hasRoom m 1) h (λ e. no 11 0))
+  decides a c again h = go c (m .status a) refl _ (λ e. by-test P (hasRoom m 1) (h e) (λ q. no 11 0))
     where
-      go : (c : Bool) (z : Option Status) (r : Reply) → P r → P (deciding m c z r)
-      go c none r q = no 5 0
-      go c (some pending) r q = q
-      go true (some (committed p)) r q = again p
-      go true (some (aborted p)) r q = no 6 0
-      go false (some (committed p)) r q = no 6 0
-      go false (some (aborted p)) r q = again p
+      go : (c : Bool) (z : Option Status) → m .status a ≡ z → (r : Reply) → (m .status a ≡ some pending → P r) → P (deciding m c z r)
+      go c none e r q = no 5 0
+      go c (some pending) e r q = q e
+      go true (some (committed p)) e r q = again p
+      go true (some (aborted p)) e r q = no 6 0
+      go false (some (committed p)) e r q = no 6 0
+      go false (some (aborted p)) e r q = again p
 
   pub rebuilds : (f : ℕ) → ((x : Answer) → P (x, m)) → P (modelCall m (rebuild f))
   rebuilds f h = of-file f _ (h _)
 
--- ---- how large the store is, no call changes
+-- ---- how large the store is, and what was carried over to it, no call changes
 
 pub record Sized (m m′ : Model) : Type 0 where
   pub pages : m′ .pages ≡ m .pages
   pub files : m′ .files ≡ m .files
+  pub carried : m′ .carried ≡ m .carried
 
 module _ (m : Model) where
   abbrev As : Reply → Type 0
   As r = Sized m (r .1)
 
-  as-large : (m′ : Model) → m′ .pages ≡ m .pages → m′ .files ≡ m .files → Sized m m′
-  as-large m′ p f = record { pages = p; files = f }
+  as-large : (m′ : Model) → m′ .pages ≡ m .pages → m′ .files ≡ m .files → m′ .carried ≡ m .carried → Sized m m′
+  as-large m′ p f c = record { pages = p; files = f; carried = c }
 
   pub call-sized : (k : Call) → Sized m (modelCall m k .1)
-  call-sized begin = begins As m (λ n p. as-large _ refl refl) (λ e. as-large _ refl refl)
-  call-sized (write f start a v) = writes As m (λ n p. as-large _ refl refl) f start a v (λ j k e. as-large _ refl refl)
-  call-sized (read f time a) = reads As m (λ n p. as-large _ refl refl) f time a (as-large _ refl refl) (λ x e j k. as-large _ refl refl)
-  call-sized (test a) = tests As m (λ n p. as-large _ refl refl) a (λ n p. as-large _ refl refl)
-  call-sized (decide a c) = decides As m (λ n p. as-large _ refl refl) a c (λ p. as-large _ refl refl) (λ e. as-large _ refl refl)
-  call-sized (rebuild f) = rebuilds As m (λ n p. as-large _ refl refl) f (λ x. as-large _ refl refl)
+  call-sized begin = begins As m (λ n p. as-large _ refl refl refl) (λ e. as-large _ refl refl refl)
+  call-sized (write f start a v) = writes As m (λ n p. as-large _ refl refl refl) f start a v (λ j k e. as-large _ refl refl refl)
+  call-sized (read f time a) = reads As m (λ n p. as-large _ refl refl refl) f time a (λ x e. as-large _ refl refl refl) (λ e. as-large _ refl refl refl) (λ x e j k. as-large _ refl refl refl)
+  call-sized (test a) = tests As m (λ n p. as-large _ refl refl refl) a (λ n p. as-large _ refl refl refl)
+  call-sized (decide a c) = decides As m (λ n p. as-large _ refl refl refl) a c (λ p. as-large _ refl refl refl) (λ q e. as-large _ refl refl refl)
+  call-sized (rebuild f) = rebuilds As m (λ n p. as-large _ refl refl refl) f (λ x. as-large _ refl refl refl)
 
   pub cut-sized : (k : Call) (kept : ℕ → Bool) → Sized m (modelCut m k kept)
   cut-sized k kept = go (eqb (modelCall m k .1 .used) (m .used) || not (kept kindAt)) (kept markAt)
     where
       go : (a b : Bool) → Sized m (cond a m (cond b (modelCall m k .1) (stores m (m .undecided) (m .status) (m .object))))
-      go true b = as-large m refl refl
+      go true b = as-large m refl refl refl
       go false true = call-sized k
-      go false false = as-large _ refl refl
+      go false false = as-large _ refl refl refl

@@ -18,7 +18,7 @@ use Rattle.promises.proofs.logs.Chains.{Ordered, Chain, versions-ordere
 use Rattle.promises.proofs.logs.Versions.{Among, first, next, among-versions, newest, shown}
 use Rattle.promises.proofs.logs.Newest.{each-among}
 use Rattle.promises.proofs.logs.Histories.{latest-is}
-use Rattle.promises.specs.Model.{Model, latest, shows, reading, modelCall}
+use Rattle.promises.specs.Model.{Model, latest, readVersion, readHistory, reading, modelCall}
 use Rattle.promises.specs.FromLog.{versionIn}
 use Rattle.promises.proofs.worlds.LogSays.{Says}
 
@@ -58,8 +58,9 @@ module _ (l : List Entry) (m : Model) (w : Lawful l) (s : Says l m) where
       a : Among x (versions l (i .file))
       a = among-versions (fateOf l) x (effectiveOf l (i .file)) h c
 
-      found : shows (latest (i .start) (m .object (i .file) .history)) ≡ Value p (i .start) (length (i .value))
-      found = ap (λ h. shows (latest (i .start) h)) (s .history (i .file)) ∙ ap shows (latest-is (i .start) (versions l (i .file)) ∙ ap versionIn (shown x (versions l (i .file)) o a))
+      found : readHistory m (i .file) (i .start) (m .object (i .file)) .0 ≡ Value p (i .start) (length (i .value))
+      found = ap (λ z. readVersion m (i .file) (i .start) (m .object (i .file)) z .0)
+          (ap (latest (i .start)) (s .history (i .file)) ∙ latest-is (i .start) (versions l (i .file)) ∙ ap versionIn (shown x (versions l (i .file)) o a))
 
       go : (z : Option Placed) → token l (i .file) ≡ z → reading m (i .file) (i .start) 0 (m .object (i .file)) (versionIn z) .0 ≡ Value p (i .start) (length (i .value))
       go none q = found

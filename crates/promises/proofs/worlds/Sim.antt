@@ -67,7 +67,7 @@ pub record Sim (w : World) (l : List Entry) (m : Model) : Type 0 where
 -- ---- what a call adds to the log: nothing, or the page that it answers
 
 abbrev pub Writes : ℕ → List Entry → Call → Entry → Type 0
-Writes files l begin g = g ≡ opening
+Writes files l begin g = g ≡ opening false
 Writes files l (write f start a v) g = (g ≡ image (written l f start a v)) × (isFile files f ≡ true) × (length v ≤ valueSize)
 Writes files l (read f time a) g = ⊥
 Writes files l (test a) g = ⊥

@@ -1,35 +1,41 @@
 -- Read does what the model does: following the links finds the version that the history has.
 use mathlib.Core.Path.{_≡_, refl, sym, ap, _∙_, subst}
-use mathlib.Core.List.{List, [], _∷_, head?}
-use mathlib.Core.Bool.{Bool, true, false, cond}
+use mathlib.Core.List.{List, [], _∷_, head?, map}
+use mathlib.Core.Bool.{Bool, true, false, cond, _||_}
 use mathlib.Core.Option.{Option, some, none}
 use Prim.Native.Nat.{ℕ, max, _<_}
 use native.Mathlib.Omega.{arith}
+use lib.ListN.{length}
 use lib.Dec.{eqb, leb}
 use borrow.Author.Tests.{eq-eqb, ne-eqb, le-leb, leb-true, leb-false}
 use Rattle.encoding.proofs.Logic.{clash}
 use Rattle.recovery.specs.Log.{Entry, Placed, fateOf, effectiveOf, placeOf, startOf}
-use Rattle.recovery.specs.World.{World, entryAt, withRow, isFile}
+use Rattle.recovery.specs.World.{World, entryAt, withRow, isFile, isCarried}
 use Rattle.recovery.specs.declared.Row.{Row}
-use Rattle.recovery.specs.declared.Answer.the-variants.{Stored}
+use Rattle.recovery.specs.declared.Answer.the-variants.{Stored, Nothing}
 use Rattle.inspection.specs.Lawful.{versions, current, token}
-use Rattle.calls.specs.Walk.{Walk, met, nothing, imagesBelow, follow}
-use Rattle.calls.specs.Calls.{read, imageOf, walkFrom, answerWalk, reaches, readCurrent, readToken, onVersions, onToken, onRead}
+use Rattle.calls.specs.Walk.{Walk, met, noneBelow, imagesBelow, follow}
+use Rattle.calls.specs.Calls.{read, imageOf, isCarriedAt, walkFrom, answerWalk, reaches, readCurrent, readToken, onVersions, onToken, onRead}
 use Rattle.recovery.proofs.Spots.{Spot, Spots, spots, Lies}
 use Rattle.recovery.proofs.Effective.{each-version}
 use Rattle.calls.proofs.LinkByLink.{reached, unlinked, linked}
-use Rattle.promises.specs.Model.{Version, Object, object, Model, newest, since, latest, shows, changed, withObject, readHistory, reading}
-use Rattle.promises.specs.FromLog.{versionIn, history}
+use Rattle.promises.specs.Model.{Version, Object, object, Model, newest, since, latest, shows, hasCarried, changed, withObject, readVersion, readHistory, reading}
+use Rattle.promises.specs.FromLog.{versionOf, versionIn, carriedOf, history}
 use Rattle.promises.proofs.logs.Chains.{Ordered, versions-ordered, chain}
 use Rattle.promises.proofs.logs.Versions.{latestOf, version}
 use Rattle.promises.proofs.logs.Histories.{latest-is}
-use Rattle.promises.proofs.worlds.LogSays.{currentEnd, tokenEnd, changed-not, newest-since}
-use Rattle.promises.proofs.worlds.Sim.{rowWith, rowFor, Sim, Agrees, agrees-cond, answers, refused, current-lies, token-lies, lies-at, row-holds, sim-set}
+use Rattle.promises.proofs.worlds.LogSays.{currentEnd, tokenEnd, changed-not, newest-since, carried-above, carried-entry}
+use Rattle.promises.proofs.worlds.Sim.{rowWith, rowFor, Sim, Agrees, agrees-cond, answers, entry-eq, refused, current-lies, token-lies, lies-at, row-holds, sim-set}
 
--- what a walk comes to that finds a version, or none
-abbrev walked : Option Placed → Walk
-walked none = nothing
-walked (some x) = met x
+-- what a walk comes to that finds a version, or none once a carried one was passed or not
+abbrev walked : Bool → Option Placed → Walk
+walked b none = noneBelow b
+walked b (some x) = met x
+
+-- a carried version among some
+passes : (ℕ → Bool) → List Placed → Bool
+passes c [] = false
+passes c (x ∷ xs) = c (x .image .action) || passes c xs
 
 -- the time is at least the start of the current version, or there is none
 abbrev within : ℕ → Option Placed → Bool
@@ -40,37 +46,71 @@ within-is : (t : ℕ) (z : Option Placed) → within t z ≡ leb (startOf z) t
 within-is t none = sym (le-leb 0 t (omega arith))
 within-is t (some x) = refl
 
-not-stored : (z : Option Version) (p : ℕ) → shows z ≡ Stored p → ⊥
-not-stored none p e = clash cc
-not-stored (some x) p e = clash cc
+not-stored : (x : Version) (p : ℕ) → shows x ≡ Stored p → ⊥
+not-stored x p e = clash cc
+
+none-stored : (p : ℕ) → Nothing ≡ Stored p → ⊥
+none-stored p e = clash cc
+
+or-none : (b c : Bool) → (b || c) ≡ (b || (c || false))
+or-none true c = refl
+or-none false true = refl
+or-none false false = refl
+
+or-turn : (b c d : Bool) → ((b || c) || d) ≡ (b || (c || d))
+or-turn true c d = refl
+or-turn false c d = refl
+
+passes-is : (c : ℕ → Bool) (vs : List Placed) → passes c vs ≡ hasCarried c (map versionOf vs)
+unfolding passes hasCarried
+passes-is c [] = refl
+passes-is c (x ∷ vs) = ap (λ (b : Bool). c (x .image .action) || b) (passes-is c vs)
+
+passes-cong : (c d : ℕ → Bool) (vs : List Placed) → ((x : Placed) → c (x .image .action) ≡ d (x .image .action)) → passes c vs ≡ passes d vs
+unfolding passes
+passes-cong c d [] h = refl
+passes-cong c d (x ∷ vs) h = rw (h x, passes-cong c d vs h)
 
 module _ (w : World) (l : List Entry) (m : Model) (s : Sim w l m) where
   -- ---- the walk
 
+  carried-eq : (a : ℕ) → isCarriedAt w a ≡ m .carried a
+  carried-eq a = go (leb a (length l)) refl ∙ sym (s .says .carried a)
+    where
+      go : (b : Bool) → leb a (length l) ≡ b → isCarriedAt w a ≡ carriedOf l a
+      go true e = ap isCarried (entry-eq w l m s a (leb-true a (length l) e)) ∙ sym (carried-entry l a)
+      go false e =
+          let h : length l < a = leb-false a (length l) e in
+          ap isCarried (s .clean a (omega (arith, s .ends))) ∙ sym (carried-above l a h)
+
   module _ (f t : ℕ) where
-    abbrev walk : Placed → Walk
-    walk x = follow t x (imagesBelow (w .sheet) (x .place) f)
+    abbrev walk : Bool → Placed → Walk
+    walk b x = follow (isCarriedAt w) t b x (imagesBelow (w .sheet) (x .place) f)
 
     -- a version, or what is found below it
-    found-by : (x : Placed) (z : Option Placed) → (t < x .image .start → walk x ≡ walked z) → walk x ≡ walked (cond (leb (x .image .start) t) (some x) z)
-    found-by x z h = go (leb (x .image .start) t) refl
+    found-by : (b p : Bool) (x : Placed) (z : Option Placed) → (t < x .image .start → walk b x ≡ walked p z) → walk b x ≡ walked p (cond (leb (x .image .start) t) (some x) z)
+    found-by b p x z h = go (leb (x .image .start) t) refl
       where
-        go : (b : Bool) → leb (x .image .start) t ≡ b → walk x ≡ walked (cond b (some x) z)
-        go true e = reached (w .sheet) f t x (leb-true (x .image .start) t e)
+        go : (o : Bool) → leb (x .image .start) t ≡ o → walk b x ≡ walked p (cond o (some x) z)
+        go true e = reached (isCarriedAt w) (w .sheet) f t b x (leb-true (x .image .start) t e)
         go false e = h (leb-false (x .image .start) t e)
 
-    walk-finds : (x : Placed) (vs : List Placed) → Ordered (x ∷ vs) → Spots l f vs → walk x ≡ walked (latestOf t (x ∷ vs))
-    unfolding latestOf
-    walk-finds x [] o h = found-by x none (λ b. unlinked (w .sheet) f t x b (o .0 .links))
-    walk-finds x (y ∷ vs) o h =
-        found-by x (latestOf t (y ∷ vs)) (λ b.
-        linked (w .sheet) f t x b (rw (o .0 .links) (o .0 .higher)) (y .image) (rw (o .0 .links) (lies-at w l m s f y (h .0))) (h .0 .mine)
-        ∙ rw (o .0 .links) (walk-finds y vs (o .1) (h .1)))
+    walk-finds : (b : Bool) (x : Placed) (vs : List Placed) → Ordered (x ∷ vs) → Spots l f vs → walk b x ≡ walked (b || passes (isCarriedAt w) (x ∷ vs)) (latestOf t (x ∷ vs))
+    unfolding latestOf passes
+    walk-finds b x [] o h =
+        found-by b (b || (isCarriedAt w (x .image .action) || false)) x none (λ low.
+        unlinked (isCarriedAt w) (w .sheet) f t b x low (o .0 .links) ∙ ap noneBelow (or-none b (isCarriedAt w (x .image .action))))
+    walk-finds b x (y ∷ vs) o h =
+        let c : Bool = isCarriedAt w (x .image .action) in
+        found-by b (b || (c || passes (isCarriedAt w) (y ∷ vs))) x (latestOf t (y ∷ vs)) (λ low.
+        linked (isCarriedAt w) (w .sheet) f t b x low (rw (o .0 .links) (o .0 .higher)) (y .image) (rw (o .0 .links) (lies-at w l m s f y (h .0))) (h .0 .mine)
+        ∙ rw (o .0 .links) (walk-finds (b || c) y vs (o .1) (h .1)) ∙ ap (λ (p : Bool). walked p (latestOf t (y ∷ vs))) (or-turn b c (passes (isCarriedAt w) (y ∷ vs))))
 
-    walk-eq : (vs : List Placed) → Ordered vs → Spots l f vs → walkFrom w f t (placeOf (head? vs)) (imageOf (entryAt w (placeOf (head? vs)))) ≡ walked (latestOf t vs)
-    unfolding latestOf
+    walk-eq : (vs : List Placed) → Ordered vs → Spots l f vs
+        → walkFrom w f t (placeOf (head? vs)) (imageOf (entryAt w (placeOf (head? vs)))) ≡ walked (passes (isCarriedAt w) vs) (latestOf t vs)
+    unfolding latestOf passes
     walk-eq [] o h = refl
-    walk-eq (x ∷ vs) o h = rw (lies-at w l m s f x (h .0)) (walk-finds x vs o (h .1))
+    walk-eq (x ∷ vs) o h = rw (lies-at w l m s f x (h .0)) (walk-finds false x vs o (h .1))
 
   reach-eq : (f t : ℕ) (z : Option Placed) → Lies l f z → reaches t (imageOf (entryAt w (placeOf z))) ≡ within t z
   reach-eq f t none h = refl
@@ -88,6 +128,7 @@ module _ (w : World) (l : List Entry) (m : Model) (s : Sim w l m) where
           used = s .says .used;
           undecided = s .says .undecided;
           status = s .says .status;
+          carried = s .says .carried;
           history = changed-not (λ x. x .history) (m .object) f (object (x .history) c (x .token) k) (history l) (s .says .history) (s .says .history f);
           token = changed-not (λ x. x .token) (m .object) f (object (x .history) c (x .token) k) (λ g. versionIn (token l g)) (s .says .token) (s .says .token f);
         })
@@ -103,29 +144,34 @@ module _ (w : World) (l : List Entry) (m : Model) (s : Sim w l m) where
         go true q = rw q (omega arith)
         go false q = rw q
 
+    carried-is : passes (isCarriedAt w) (versions l f) ≡ hasCarried (m .carried) (x .history)
+    carried-is =
+        passes-cong (isCarriedAt w) (m .carried) (versions l f) (λ y. carried-eq (y .image .action)) ∙ passes-is (m .carried) (versions l f)
+        ∙ ap (hasCarried (m .carried)) (sym (s .says .history f))
+
     sim-versions : Agrees (m .files) (read f t a) l (onVersions w f t (rowFor l x f)) (readHistory m f t x)
     sim-versions =
         let o = versions-ordered (fateOf l) (effectiveOf l f) (chain l f (s .lawful)) in
         let v = each-version (Spot l f) (fateOf l) (effectiveOf l f) (spots l f) in
         rw (walk-eq f t (versions l f) o v, reach-eq f t (current l f) (current-lies l f))
-        (subst (λ z. Agrees (m .files) (read f t a) l (answerWalk w f row (walked (version l f t))) (shows z, withObject m f left)) (sym (ap (latest t) (s .says .history f) ∙ latest-is t (versions l f))) (go (version l f t)))
+        (subst (λ z. Agrees (m .files) (read f t a) l (answerWalk w f row (walked (passes (isCarriedAt w) (versions l f)) (version l f t))) (readVersion m f t x z))
+        (sym (ap (latest t) (s .says .history f) ∙ latest-is t (versions l f)))
+        (rw carried-is (go (hasCarried (m .carried) (x .history)) refl (version l f t))))
       where
         row : Row
         row = readCurrent t (within t (current l f)) (rowFor l x f)
 
-        left : Object
-        left = object (x .history) asked (x .token) (x .tokenasked)
-
-        go : (z : Option Placed) → Agrees (m .files) (read f t a) l (answerWalk w f row (walked z)) (shows (versionIn z), withObject m f left)
-        go none = answers (not-stored none) refl (read-set asked (x .tokenasked) row row-read)
-        go (some y) = answers (not-stored (versionIn (some y))) refl (read-set asked (x .tokenasked) row row-read)
+        go : (b : Bool) → hasCarried (m .carried) (x .history) ≡ b → (z : Option Placed) → Agrees (m .files) (read f t a) l (answerWalk w f row (walked b z)) (readVersion m f t x (versionIn z))
+        go false e none = rw e (answers none-stored refl (read-set asked (x .tokenasked) row row-read))
+        go true e none = rw e (refused 25 0 0 refl s)
+        go b e (some y) = answers (not-stored (versionOf y)) refl (read-set asked (x .tokenasked) row row-read)
 
     by-token : (z : Option Placed) → token l f ≡ z → Lies l f z
         → Agrees (m .files) (read f t a) l (onToken w f t a (rowFor l x f) (imageOf (entryAt w (placeOf z)))) (reading m f t a x (versionIn z))
     by-token none e h = sim-versions
     by-token (some y) e h = rw (lies-at w l m s f y h) (agrees-cond (leb (y .image .start) t) (leb (y .image .start) t) refl
         (λ q. agrees-cond (eqb (y .image .action) a) (eqb (y .image .action) a) refl
-        (λ r. answers (not-stored (versionIn (some y))) (rw e) (read-set (x .asked) (max (x .tokenasked) t) (readToken t (rowFor l x f)) token-read))
+        (λ r. answers (not-stored (versionOf y)) (rw e) (read-set (x .asked) (max (x .tokenasked) t) (readToken t (rowFor l x f)) token-read))
         (λ r. refused 9 (y .image .action) (y .image .action) refl s))
         (λ q. sim-versions))
       where

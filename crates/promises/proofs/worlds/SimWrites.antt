@@ -44,13 +44,13 @@ module _ (w : World) (l : List Entry) (m : Model) (s : Sim w l m) where
   pub sim-begin : Agrees (m .files) begin l (onBegin w) (modelCall m begin)
   sim-begin =
       agrees-cond (store.hasRoom w (w .undecided + 2)) (hasRoom m (m .undecided + 2)) (rw (s .undecided) (room-eq w l m s (m .undecided + 2)))
-      (λ e. rw (blank-ok w l m s) (appended w l m s opening _ _ _ _ refl (go (room-is (m .undecided + 2) (omega arith) e))))
+      (λ e. rw (blank-ok w l m s) (appended w l m s (opening false) _ _ _ _ refl (go (room-is (m .undecided + 2) (omega arith) e))))
       (λ e. refused 11 0 0 refl s)
     where
-      go : length l < m .pages → Sim (append w opening (put (w .fates) (suc (w .end)) 1) (w .rows) (suc (w .undecided))) (opening ∷ l)
+      go : length l < m .pages → Sim (append w (opening false) (put (w .fates) (suc (w .end)) 1) (w .rows) (suc (w .undecided))) (opening false ∷ l)
           (stores m (suc (m .undecided)) (changed (m .status) (suc (m .used)) (some pending)) (m .object))
       go k =
-          sim-append w l m s opening (put (w .fates) (suc (w .end)) 1) (w .rows) (suc (w .undecided)) (suc (m .undecided)) (changed (m .status) (suc (m .used)) (some pending)) (m .object) tt k
+          sim-append w l m s (opening false) (put (w .fates) (suc (w .end)) 1) (w .rows) (suc (w .undecided)) (suc (m .undecided)) (changed (m .status) (suc (m .used)) (some pending)) (m .object) tt k
           (rw (s .fates, s .ends) (opening-fates (m .pages) l)) (ap suc (s .undecided)) (s .files)
           (λ f h. rw (opening-versions l f (s .lawful), opening-token l f (s .lawful)) (s .rows f h))
           (opening-says l m (s .says) (s .lawful) k)

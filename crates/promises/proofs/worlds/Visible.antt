@@ -11,7 +11,6 @@ use Rattle.recovery.specs.Log.{Image, Entry, image, undecided, committed, Place
 use Rattle.recovery.specs.declared.Answer.the-variants.{Value, Nothing}
 use Rattle.recovery.proofs.LogFates.{undecided-known}
 use Rattle.inspection.specs.Lawful.{versions, token}
-use Rattle.calls.specs.Walk.{nothing}
 use Rattle.calls.specs.Calls.{read, versionAnswer}
 use Rattle.promises.proofs.logs.Logs.{Lawful, known-place}
 use Rattle.promises.proofs.logs.Chains.{Ordered, versions-ordered, chain, token-live}
@@ -83,12 +82,14 @@ module _ (l : List Entry) (m : Model) (w : Lawful l) (s : Says l m) (f t a : ℕ
   }
 
   -- outside the token
-  sees-versions : (z : Option Placed) → version l f t ≡ z → (r : Model) → Sees (shows (versionIn z), r)
-  sees-versions none q r = record {
+  sees-none : version l f t ≡ none → (r : Model) → Sees (Nothing, r)
+  sees-none q r = record {
     value = λ p st n e. clash cc;
     nothing = λ e z d c. all-later t z (versions l f) (version-among z d c) q;
   }
-  sees-versions (some x) q r = go
+
+  sees-version : (x : Placed) → version l f t ≡ some x → (r : Model) → Sees (versionAnswer x, r)
+  sees-version x q r = go
     where
       k : Shows t x (versions l f)
       k = found.shows t x (versions l f) q
@@ -116,18 +117,27 @@ module _ (l : List Entry) (m : Model) (w : Lawful l) (s : Says l m) (f t a : ℕ
       newest-in y n c u =
           omega (arith, newest y (versions l f) ordered (version-among y n c), token-later (fateOf l) (effectiveOf l f) x (chain l f w) i)
 
-  in-history : (r : Model) → Sees (shows (latest t (m .object f .history)), r)
-  in-history r = subst (λ z. Sees (shows z, r)) (sym (ap (latest t) (s .history f) ∙ latest-is t (versions l f))) (sees-versions (version l f t) refl r)
+  -- the history, as the log has it
+  latest-in : latest t (m .object f .history) ≡ versionIn (version l f t)
+  latest-in = ap (latest t) (s .history f) ∙ latest-is t (versions l f)
+
+  in-history : (z : Option Placed) → version l f t ≡ z → (x : Version) → versionIn z ≡ some x → (r : Model) → Sees (shows x, r)
+  in-history none q x e r = clash cc
+  in-history (some y) q x e r = let i : versionOf y ≡ x = cc in subst (λ v. Sees (shows v, r)) i (sees-version y q r)
+
+  not-yet : (z : Option Placed) → version l f t ≡ z → versionIn z ≡ none → (r : Model) → Sees (Nothing, r)
+  not-yet none q e r = sees-none q r
+  not-yet (some y) q e r = clash cc
 
   -- the token, as the log has it
-  own-token : (z : Option Placed) → token l f ≡ z → (x : Version) → versionIn z ≡ some x → x .start ≤ t → x .action ≡ a → (r : Model) → Sees (shows (some x), r)
+  own-token : (z : Option Placed) → token l f ≡ z → (x : Version) → versionIn z ≡ some x → x .start ≤ t → x .action ≡ a → (r : Model) → Sees (shows x, r)
   own-token none i x e j k r = clash cc
   own-token (some y) i x e j k r =
       let q : versionOf y ≡ x = cc in
-      subst (λ v. Sees (shows (some v), r)) q (sees-own y i (rw (← q) at j) (rw (← q) at k) r)
+      subst (λ v. Sees (shows v, r)) q (sees-own y i (rw (← q) at j) (rw (← q) at k) r)
 
   sees-read : Sees (modelCall m (read f t a))
-  sees-read = reads Sees m refused f t a (in-history _) (λ x e j k. own-token (token l f) refl x (sym (s .token f) ∙ e) j k _)
+  sees-read = reads Sees m refused f t a (λ x e. in-history (version l f t) refl x (sym latest-in ∙ e) _) (λ e. not-yet (version l f t) refl (sym latest-in ∙ e) _) (λ x e j k. own-token (token l f) refl x (sym (s .token f) ∙ e) j k _)
 
   pub read-shows : (p st n : ℕ) → modelCall m (read f t a) .0 ≡ Value p st n → Visible l f t a p st n
   read-shows p st n e = sees-read .value p st n e

@@ -4,15 +4,16 @@ use Rattle.calls.specs.ReadSteps.{walkAt}
 use Rattle.recovery.specs.Steps.{sealedImage}
 use Rattle.page.specs.declared.Sought as sought
 use mathlib.Core.Path.{_≡_, refl, _∙_}
+use mathlib.Core.Bool.{false}
 use borrow.Author.Needs.{needs}
 use Rattle.calls.proofs.reading.walk.Statement.{statement}
 use Rattle.calls.proofs.reading.walk.Tie as tie
 
 abbrev Inv-loop : tie.InvT-loop
-Inv-loop sheet from files file time place₀ x₀ place x = (sealedImage files sheet file place ≡ sought.Sought.Image x) × (walkAt files sheet file time place x ≡ walkAt files sheet file time from x₀)
+Inv-loop sheet from files file time place₀ x₀ carried₀ place x carried = (sealedImage files sheet file place ≡ sought.Sought.Image x) × (walkAt files sheet file time carried place x ≡ walkAt files sheet file time false from x₀)
 
 abbrev μ-loop : tie.MeasureT-loop
-μ-loop sheet from files file time place₀ x₀ place x = place
+μ-loop sheet from files file time place₀ x₀ carried₀ place x carried = place
 
 loop-holds : tie.Need-loop-holds Inv-loop μ-loop
 loop-holds c = (c .before .pre, refl)
@@ -20,12 +21,19 @@ loop-holds c = (c .before .pre, refl)
 returns : tie.Need-returns Inv-loop μ-loop
 returns c =
     let l = c .before .before .loop in
-    walk-met _ _ _ _ _ _ (l .inv .0) (c .if1 .taken) ∙ l .inv .1
+    walk-met _ _ _ _ _ _ _ (l .inv .0) (c .if1 .taken) ∙ l .inv .1
+
+is-carried-at-requires : tie.Need-is-carried-at-requires Inv-loop μ-loop
+is-carried-at-requires c κs = search needs
+
+none-below-requires : tie.Need-none-below-requires Inv-loop μ-loop
+none-below-requires c κs = search needs
 
 returns-2 : tie.Need-returns-2 Inv-loop μ-loop
 returns-2 c =
-    let l = c .before .before .before .loop in
-    walk-end _ _ _ _ _ _ (l .inv .0) (c .before .if1 .left) (c .if2 .taken) ∙ l .inv .1
+    let l = c .before .before .before .before .before .loop in
+    c .none-below .ensures
+    ∙ walk-end _ _ _ _ _ _ _ (l .inv .0) (c .before .before .before .if1 .left) _ (c .before .before .is-carried-at .ensures) (c .before .if2 .taken) ∙ l .inv .1
 
 image-at-requires : tie.Need-image-at-requires Inv-loop μ-loop
 image-at-requires c κs = search needs
@@ -38,21 +46,24 @@ enum-told c = search needs
 
 returns-3 : tie.Need-returns-3 Inv-loop μ-loop
 returns-3 c =
-    let l = c .before .before .before .before .before .before .loop in
-    walk-lost _ _ _ _ _ _ (l .inv .0) (c .before .before .before .before .if1 .left) (c .before .before .before .if2 .left) _ (c .before .before .image-at .ensures) (c .enum-told .given .1) ∙ l .inv .1
+    let l = c .before .before .before .before .before .before .before .loop in
+    walk-lost _ _ _ _ _ _ _ (l .inv .0) (c .before .before .before .before .before .if1 .left) _ (c .before .before .before .before .is-carried-at .ensures) (c .before .before .before .if2 .left) _ (c .before .before .image-at .ensures) (c .enum-told .given .1) ∙ l .inv .1
 
 loop-less : tie.Need-loop-less Inv-loop μ-loop
 loop-less c =
-    let l = c .before .before .before .before .before .before .before .loop in
+    let l = c .before .before .before .before .before .before .before .before .loop in
     falls _ _ _ _ _ (l .inv .0)
 
 loop-again : tie.Need-loop-again Inv-loop μ-loop
 loop-again c =
-    let l = c .before .before .before .before .before .before .before .loop in
-    let early = c .before .before .before .before .before .if1 .left in
+    let l = c .before .before .before .before .before .before .before .before .loop in
+    let early = c .before .before .before .before .before .before .if1 .left in
+    let carried = c .before .before .before .before .before .is-carried-at .ensures in
     let some = c .before .before .before .before .if2 .left in
-    let found = c .before .before .before .image-at .ensures in
-    (next-is _ _ _ _ _ _ (l .inv .0) early some _ found _ (c .before .found .given .1), walk-on _ _ _ _ _ _ (l .inv .0) early some _ found _ (c .before .found .given .1) ∙ l .inv .1)
+    let found = c .before .before .before .image-at .ensures in (
+      next-is _ _ _ _ (l .carried) _ _ (l .inv .0) early _ carried some _ found _ (c .before .found .given .1),
+      walk-on _ _ _ _ _ _ _ (l .inv .0) early _ carried some _ found _ (c .before .found .given .1) ∙ l .inv .1,
+    )
 
 pub walk-spec : {M : Type 1} → statement M
 walk-spec =
@@ -62,6 +73,8 @@ walk-spec =
     μ-loop
     loop-holds
     returns
+    is-carried-at-requires
+    none-below-requires
     returns-2
     image-at-requires
     enum-known-found

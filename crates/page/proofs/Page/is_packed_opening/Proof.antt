@@ -1,10 +1,13 @@
 -- `page::Page::is_packed_opening`: the bytes are the opening's exactly if their numbers are. Assumes nothing.
-use Rattle.page.proofs.Opening.{few-word, end-shifts, opening-numbers}
+use Rattle.page.proofs.Opening.{few-word, first-shift, end-shifts, opening-numbers}
 use mathlib.Core.Path.{_∙_}
 use denote.Ref.{now}
 use borrow.Author.Needs.{needs}
 use Rattle.page.proofs.Page.is_packed_opening.Statement.{statement}
 use Rattle.page.proofs.Page.is_packed_opening.Tie as tie
+
+add-first : tie.Need-add-first
+add-first c = search needs
 
 check-few-requires : tie.Need-check-few-requires
 check-few-requires c κs = search needs
@@ -45,14 +48,16 @@ returns c =
     let a = start .before .args in
     let pre = start .before .pre in
     let few = c .before .before .before .before .before .before .check-few in
-    opening-numbers (a .place) (pre .1) (now (a .part)) (pre .0) (λ i. start .shared-slice-known .given i .fits)
+    opening-numbers (a .small) (a .place) (pre .1) (pre .2) (now (a .part)) (pre .0) (λ i. start .shared-slice-known .given i .fits)
     (c .before .before .before .before .before .field .ensures) (c .before .before .before .before .field2 .ensures) (c .before .before .before .field3 .ensures)
-    (c .before .is-zero-from .ensures) (c .field4 .ensures) (end-shifts (a .place) _ (few .ensures .1)) (few .ensures .0 ∙ few-word (a .place))
+    (c .before .is-zero-from .ensures) (c .field4 .ensures) (first-shift (a .small) (pre .1)) (end-shifts (a .place) _ (few .ensures .1))
+    (few .ensures .0 ∙ few-word (a .small) (a .place) (pre .1))
 
 pub is-packed-opening-spec : {M : Type 1} → statement M
 is-packed-opening-spec =
     tie.close
     (tie.spec
+    add-first
     check-few-requires
     add-end
     add-end-2

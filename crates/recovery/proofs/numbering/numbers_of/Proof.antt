@@ -24,6 +24,9 @@ enum-told c = search needs
 enum-known-answer-6 : tie.Need-enum-known-answer-6
 enum-known-answer-6 c = search needs
 
+enum-known-answer-7 : tie.Need-enum-known-answer-7
+enum-known-answer-7 c = search needs
+
 returns : tie.Need-returns
 returns c = rw (c .before .answer .given .1)
 
@@ -45,6 +48,9 @@ returns-6 c = search needs
 returns-7 : tie.Need-returns-7
 returns-7 c = rw (c .before .answer6 .given .1)
 
+returns-8 : tie.Need-returns-8
+returns-8 c = rw (c .before .answer7 .given .1)
+
 pub numbers-of-spec : {M : Type 1} → statement M
 numbers-of-spec =
     tie.close
@@ -56,10 +62,12 @@ numbers-of-spec =
     enum-known-answer-5
     enum-told
     enum-known-answer-6
+    enum-known-answer-7
     returns
     returns-2
     returns-3
     returns-4
     returns-5
     returns-6
-    returns-7)
+    returns-7
+    returns-8)
