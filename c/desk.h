@@ -30,7 +30,8 @@ enum { DESK_OPENING = 1, DESK_IMAGE = 2, DESK_OUTCOME = 3 };
 /* Packs a page into the 64 bytes at out.
 
    kind     1 opening, 2 image, 3 outcome
-   small    0 in an opening, the value's length (0 to 32) in an image, 1 committed or 2 aborted in an outcome
+   small    0 in an opening, 1 in a carried one, with which a move begins; the value's length (0 to 32) in an image; 1 committed or
+            2 aborted in an outcome
    file     1 to files in an image, else 0
    action   the opening's own place; in an image or outcome the place, below its own, of its opening
    link     in an image the place, below its own, of the version before it, or 0; else 0

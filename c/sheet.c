@@ -22,6 +22,7 @@ static const char usage[] =
     "sheet inspect FILES FILE    is it lawful, for so many files? If not: its lowest wrong page\n"
     "sheet show FILES FILE       a line a page\n"
     "sheet pack FILES PLACE opening\n"
+    "sheet pack FILES PLACE carried\n"
     "sheet pack FILES PLACE image NUMBER ACTION LINK START VALUE\n"
     "sheet pack FILES PLACE committed ACTION\n"
     "sheet pack FILES PLACE aborted ACTION\n"
@@ -156,7 +157,7 @@ static void show_value(FILE *out, const uint8_t *value, uint64_t length) {
 static void show_fields(FILE *out, const uint64_t *fields, const uint8_t *value) {
     switch (fields[KIND]) {
     case DESK_OPENING:
-        fputs("opening", out);
+        fputs(fields[SMALL] == 0 ? "opening" : "carried opening", out);
         break;
     case DESK_IMAGE:
         fprintf(out, "image, file %" PRIu64 ", action %" PRIu64 ", link %" PRIu64 ", start %" PRIu64 ", value ",
@@ -269,8 +270,9 @@ static int given_image(struct desk d, char **words, uint64_t *fields, uint8_t *v
 
 /* The fields that the words after PLACE give; what is not named is 0. */
 static int given_fields(struct desk d, int count, char **words, uint64_t place, uint64_t *fields, uint8_t *value) {
-    if (count == 1 && strcmp(words[0], "opening") == 0) {
+    if (count == 1 && (strcmp(words[0], "opening") == 0 || strcmp(words[0], "carried") == 0)) {
         fields[KIND] = DESK_OPENING;
+        fields[SMALL] = words[0][0] == 'c';
         fields[ACTION] = place;
         return FINE;
     }

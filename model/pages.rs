@@ -81,7 +81,7 @@ impl Trial {
     /// Fields that some page of this place can have.
     fn fields(&mut self, place: u64, files: u64) -> Fields {
         let below_place = |random: &mut Random| 1 + random.below(place.wrapping_sub(1) % MOST_PAGES);
-        let mut fields = Fields { numbers: [1, 0, 0, place, 0, 0], value: [0; 32] };
+        let mut fields = Fields { numbers: [1, self.random.below(2), 0, place, 0, 0], value: [0; 32] };
         match self.random.below(5) {
             0 => (),
             1 => fields.numbers = [3, 1 + self.random.below(2), 0, below_place(&mut self.random), 0, 0],
@@ -191,7 +191,8 @@ impl Trial {
     fn next_page(&mut self, log: &Log, place: u64, files: u64) -> Fields {
         let late = log.decided.iter().rev().take(40); // not all: a long sheet has thousands
         let open: Vec<u64> = late.filter(|(_, is_decided)| !**is_decided).map(|(action, _)| *action).collect();
-        let mut fields = Fields { numbers: [1, 0, 0, place, 0, 0], value: [0; 32] };
+        let is_carried = u64::from(self.random.once_in(4));
+        let mut fields = Fields { numbers: [1, is_carried, 0, place, 0, 0], value: [0; 32] };
         if open.is_empty() || self.random.once_in(5) {
             return fields;
         }

@@ -1,4 +1,4 @@
-//! Pages and sheets by document 01's table, a second time: packing, the page test and inspection.
+//! Pages and sheets by the table of documents 01 and 02, a second time: packing, the page test and inspection.
 
 use std::collections::BTreeMap;
 
@@ -8,6 +8,7 @@ pub const MOST_FILES: u64 = 256;
 const OPENING: u64 = 1;
 const IMAGE: u64 = 2;
 const OUTCOME: u64 = 3;
+const CARRIED: u64 = 1;
 const COMMITTED: u64 = 1;
 const END_MARK: u64 = 0xA5;
 
@@ -60,7 +61,7 @@ fn is_admitted(fields: &Fields, place: u64, files: u64) -> bool {
     let [kind, small, file, action, link, start] = fields.numbers;
     let zeros_from = |n: usize| fields.value[n..].iter().all(|byte| *byte == 0);
     match kind {
-        OPENING => [small, file, link, start] == [0; 4] && action == place && zeros_from(0),
+        OPENING => small <= CARRIED && [file, link, start] == [0; 3] && action == place && zeros_from(0),
         IMAGE => {
             let is_image = small <= 32 && (1..=files).contains(&file) && (1..place).contains(&action);
             is_image && link < place && start >= 1 && zeros_from(small as usize)

@@ -42,8 +42,12 @@ static const struct {
                  {"an image of length 1", 2, 1},
                  {"an image of length 32", 2, 32},
                  {"a committed outcome", 3, 1},
-                 {"an aborted outcome", 3, 2}};
-enum { KINDS = sizeof each_kind / sizeof *each_kind };
+                 {"an aborted outcome", 3, 2},
+                 {"a carried opening", 1, 1}};
+enum { KINDS = sizeof each_kind / sizeof *each_kind, OPENING = 0, CARRIED = KINDS - 1 };
+
+/* What may lie where no opening lies below. */
+static int any_opening(void) { return below(2) ? OPENING : CARRIED; }
 
 /* Packs a page of a kind with a random value; file, link and start are an image's, and an opening names itself. */
 static int pack_page(uint8_t *page, int k, uint64_t place, uint64_t file, uint64_t action, uint64_t link, uint64_t start) {
@@ -99,7 +103,7 @@ static int random_pages_are_spoiled(void) {
     count_step = 85;
     for (int n = 0; n < RANDOM_PAGES; n++) {
         uint64_t place = 1 + below(below(2) ? 20 : 65536), files = 1 + below(256);
-        if (!pack_any(page, place == 1 ? 0 : (int)below(KINDS), place, files) || tested(place, files) != DESK_FITS)
+        if (!pack_any(page, place == 1 ? any_opening() : (int)below(KINDS), place, files) || tested(place, files) != DESK_FITS)
             return 0;
         int zeroed = spoil(page);
         if (!is_spoiled(place, zeroed))
@@ -129,16 +133,16 @@ static struct named ask(void) {
     return (struct named){a[WHICH] == REFUSED && a[FIRST] == 2 ? a[SECOND] : 0, lowest, alike};
 }
 
-/* A sheet with pages of each kind: an action over three files, committed; another on the first of them, aborted; one that has nothing yet;
-   and blank pages. */
-enum { USED = 9, ALL = 12 };
+/* A sheet with pages of each kind: an action over three files, committed; another on the first of them, aborted; one that has nothing yet,
+   and a carried one that has nothing; and blank pages. */
+enum { USED = 10, ALL = 12 };
 static int pack_sheet(void) {
     memset(sheet, 0, PAGE * ALL);
     pages = ALL;
     return pack_page(page_at(1), 0, 1, 0, 0, 0, 0) && pack_page(page_at(2), 1, 2, 1, 1, 0, 10) && pack_page(page_at(3), 2, 3, 2, 1, 0, 10)
            && pack_page(page_at(4), 3, 4, 3, 1, 0, 10) && pack_page(page_at(5), 4, 5, 0, 1, 0, 0) && pack_page(page_at(6), 0, 6, 0, 0, 0, 0)
            && pack_page(page_at(7), 3, 7, 1, 6, 2, UINT64_MAX) && pack_page(page_at(8), 5, 8, 0, 6, 0, 0)
-           && pack_page(page_at(9), 0, 9, 0, 0, 0, 0);
+           && pack_page(page_at(9), OPENING, 9, 0, 0, 0, 0) && pack_page(page_at(10), CARRIED, 10, 0, 0, 0, 0);
 }
 
 /* For a file count by which the sheet is lawful. Inspect names the spoiled page; open too, but of an opening the last page of its action.
@@ -147,7 +151,7 @@ static int pack_sheet(void) {
 static const struct {
     uint64_t open, zeroed_open, zeroed_inspect;
 } names[USED + 1] = {[1] = {5, 5, 2}, [2] = {2, 0, 7}, [3] = {3, 0, 0}, [4] = {4, 0, 0}, [5] = {5, 0, 7},
-                     [6] = {8, 8, 7}, [7] = {7, 0, 0}, [8] = {8, 0, 0}, [9] = {9, 0, 0}};
+                     [6] = {8, 8, 7}, [7] = {7, 0, 0}, [8] = {8, 0, 0}, [9] = {9, 0, 0}, [10] = {10, 0, 0}};
 
 static int is_named(uint64_t place, int zeroed) {
     struct named n = ask();
@@ -184,7 +188,7 @@ static void fill_random(void) {
         uint64_t action = p == 1 ? 0 : 1 + below(p - 1);
         while (action > 0 && below(20) && !is_opening(action))
             action--;
-        pack_page(page_at(p), action ? (int)below(KINDS) : 0, p, 1 + below(file_count), action, below(p), 1 + below(1000));
+        pack_page(page_at(p), action ? (int)below(KINDS) : any_opening(), p, 1 + below(file_count), action, below(p), 1 + below(1000));
     }
 }
 

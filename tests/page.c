@@ -10,7 +10,7 @@ static uint8_t sheet[MOST * PAGE];
 /* A number near a bound, or any. */
 static uint64_t near(uint64_t bound) { return below(4) ? bound - 1 + below(3) : below(1 + bound * 2); }
 
-/* A page that fits at this place: an opening at place 1, any kind above it. */
+/* A page that fits at this place: an opening, carried or not, at place 1, any kind above it. */
 static void good_page(uint8_t *page, uint64_t place, uint64_t files) {
     uint8_t value[32] = {0};
     int kind = place == 1 ? 1 : 1 + (int)below(3), used = (int)below(33);
@@ -20,15 +20,15 @@ static void good_page(uint8_t *page, uint64_t place, uint64_t files) {
         plain_pack(page, 2, used, 1 + below(files), 1 + below(place - 1), below(place), below(8) ? 1 + below(1000) : UINT64_MAX,
                    value, place);
     else
-        plain_pack(page, kind, kind == 1 ? 0 : 1 + (int)below(2), 0, kind == 1 ? place : 1 + below(place - 1), 0, 0,
-                   (const uint8_t[32]){0}, place);
+        plain_pack(page, kind, (kind == 3) + (int)below(2), 0, kind == 1 ? place : 1 + below(place - 1), 0, 0, (const uint8_t[32]){0},
+                   place);
 }
 
 /* A good page with one field on or beside its bounds, and the check word made right again. */
 static void edge_page(uint8_t *page, uint64_t place, uint64_t files) {
     switch (below(9)) {
     case 0: page[0] = (uint8_t)below(5); break;
-    case 1: page[1] = (uint8_t)(below(2) ? below(4) : near(32)); break;
+    case 1: page[1] = (uint8_t)(below(2) ? below(4) : below(4) ? near(32) : 255); break;
     case 2: page[2 + below(2)] = 1; break;
     case 3: plain_put(page, 4, 8, below(2) ? below(2) : near(files)); break;
     case 4: plain_put(page, 8, 12, below(2) ? below(2) : near(place)); break;
@@ -148,21 +148,52 @@ static int every_word(void) {
     return words == WORDS;
 }
 
-/* The opening at each place but the last, which no image lies above: that image counts only under an opening, and not where the
-   opening has another word, which is tried at the lower places and at some of the others. The place's third and fourth byte are 0. */
+/* The pages of the longest sheet: an opening of some sort, and the image above it, which counts only under a sealed one. */
+static uint8_t pages[PLACES * PAGE], fates[PLACES];
+
+static int is_found(uint64_t place) {
+    uint64_t found = bench_walk(pages, sizeof pages, fates, PLACES, 256, 1, place + 1);
+    return found == place + 1 ? 1 : found == 0 ? 0 : 2;
+}
+
+/* With small byte 0 an opening, with 1 a carried one, else none. Its word is right, and then another one, which is tried at the lower
+   places and at some of the others, as is a small byte that no opening has: there the walk goes down all pages. */
+static int opening_is_right(uint64_t place, int small) {
+    uint8_t *opening = pages + PAGE * (place - 1);
+    int is_sealed = small <= 1, is_tried = place < 2048 || !below(64);
+    plain_pack(opening, 1, small, 0, place, 0, 0, (const uint8_t[32]){0}, place);
+    if ((is_sealed || is_tried) && is_found(place) != is_sealed)
+        return 0;
+    opening[60 + below(2)] ^= (uint8_t)(1 + below(255));
+    return !is_sealed || !is_tried || is_found(place) == 0;
+}
+
+/* The opening, plain and carried, at each place but the last, which no image lies above. The place's third and fourth byte are 0. */
 static int every_opening(void) {
-    static uint8_t pages[PLACES * PAGE], fates[PLACES];
+    static const int smalls[] = {0, 1, 2, 255};
     for (uint64_t place = 1; place < PLACES; place++) {
-        uint8_t *opening = pages + PAGE * (place - 1);
-        plain_pack(opening, 1, 0, 0, place, 0, 0, (const uint8_t[32]){0}, place);
-        plain_pack(opening + PAGE, 2, 0, 1, place, 0, 1, (const uint8_t[32]){0}, place + 1);
+        plain_pack(pages + PAGE * place, 2, 0, 1, place, 0, 1, (const uint8_t[32]){0}, place + 1);
         fates[place - 1] = 2;
-        if (bench_walk(pages, sizeof pages, fates, PLACES, 256, 1, place + 1) != place + 1)
-            return 0;
-        opening[60 + below(2)] ^= (uint8_t)(1 + below(255));
-        if ((place < 2048 || !below(64)) && bench_walk(pages, sizeof pages, fates, PLACES, 256, 1, place + 1) != 0)
-            return 0;
+        for (size_t i = 0; i < sizeof smalls / sizeof *smalls; i++)
+            if (!opening_is_right(place, smalls[i]))
+                return printf("place %llu, small byte %d\n", (unsigned long long)place, smalls[i]), 0;
     }
+    return 1;
+}
+
+/* Every small byte of an opening, at the lowest and the highest place and some between, by the page test: 0 and 1 fit. */
+static int every_small(void) {
+    static const uint64_t places[] = {1, 2, 255, 256, 257, 4096, PLACES - 1, PLACES};
+    memset(pages, 0, sizeof pages);
+    for (size_t i = 0; i < sizeof places / sizeof *places; i++)
+        for (int small = 0; small < 256; small++) {
+            uint64_t place = places[i];
+            plain_pack(pages + PAGE * (place - 1), 1, small, 0, place, 0, 0, (const uint8_t[32]){0}, place);
+            int fits = plain_fits(pages + PAGE * (place - 1), place, 1);
+            if (fits != (small <= 1) || bench_test(pages, PAGE * place, 1) != (uint64_t)fits)
+                return 0;
+            memset(pages + PAGE * (place - 1), 0, PAGE);
+        }
     return 1;
 }
 
@@ -177,7 +208,8 @@ int main(int count, char **words) {
     told("random pages", agree(RANDOM, &fitting) && fitting > SHEETS);
     told("pack writes the plain page, or nothing", packs_alike());
     told("images with every word", every_word());
-    told("the opening at every place but the last", every_opening());
+    told("the opening, plain and carried, at every place but the last", every_opening());
+    told("every small byte of an opening", every_small());
     printf("%d passed, %d failed\n", passed, failed);
     return failed != 0;
 }

@@ -1,4 +1,4 @@
-/* A page by document 01's table in plain C, byte by byte: what the proved code is timed beside and compared with. */
+/* A page by the table of documents 01 and 02 in plain C, byte by byte: what the proved code is timed beside and compared with. */
 #ifndef PLAIN_H
 #define PLAIN_H
 #include <stdint.h>
@@ -66,7 +66,7 @@ __attribute__((unused)) static int plain_fits(const uint8_t *page, uint64_t plac
         return 0;
     switch (page[0]) {
     case 1:
-        return small == 0 && file == 0 && action == place && link == 0 && start == 0;
+        return small <= 1 && file == 0 && action == place && link == 0 && start == 0; /* 1: carried */
     case 2:
         return small <= 32 && file >= 1 && file <= files && action >= 1 && action < place && link < place && start >= 1;
     case 3:

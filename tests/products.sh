@@ -23,7 +23,7 @@ test_that() {
 }
 
 # seen FILE: a line for each function that is looked at: how many products and divisions it has, calls of routines for them too, its name, and
-# which words it begins, of 60 bytes at 48,406 or of an opening at 97,034.
+# which words it begins, of 60 bytes at 48,406 or of an opening at 97,034, carried at 112,265.
 seen() {
     objdump -dr --no-show-raw-insn "$1" | awk '
         /^[0-9a-f]+ <.*>:$/ { name = $0; sub(/^[0-9a-f]+ </, "", name); sub(/>:$/, "", name); products[name] += 0; next }
@@ -34,7 +34,7 @@ seen() {
         instruction ~ /mul|div|madd|^v?dp[bp]|^vp4?dp|^tdp|^fprem|^vfn?m/ { products[name]++ }
         /[$-]0xfff[01]([^0-9a-f]|$)|ffff000f/ { words[name] = 1 }
         /[$]0xbd16([^0-9a-f]|$)/ { words[name] = 1; begins[name] = begins[name] " BYTES" }
-        /[$]0x17b0a([^0-9a-f]|$)/ { words[name] = 1; begins[name] = begins[name] " OPENING" }
+        /[$]0x(17b0a|1b689)([^0-9a-f]|$)/ { words[name] = 1; begins[name] = begins[name] " OPENING" }
         END { for (name in products) if (name in words || name ~ /^encoding::/) print products[name] " " name begins[name] }'
 }
 

@@ -20,7 +20,7 @@ static void add_page(uint64_t place, int wild) {
     if (row[TOKEN] && (kind == 2 || kind == 3) && below(2))
         action = action_of(row[TOKEN]);
     if (kind == 1)
-        plain_pack(page, 1, 0, 0, place, 0, 0, none, place);
+        plain_pack(page, 1, below(6) == 0, 0, place, 0, 0, none, place);
     else if (kind == 4)
         plain_pack(page, 3, 1 + (int)below(2), 0, action, 0, 0, none, place);
     else

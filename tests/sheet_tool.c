@@ -51,7 +51,7 @@ static void fill_page(uint8_t *page, uint64_t place) {
     uint64_t length = below(33), action = 1 + below(place);
     switch (below(4)) {
     case 0:
-        plain_pack(page, 1, 0, 0, place, 0, 0, value, place);
+        plain_pack(page, 1, (int)below(2), 0, place, 0, 0, value, place);
         break;
     case 1:
         plain_pack(page, 3, 1 + (int)below(2), 0, action, 0, 0, value, place);
@@ -101,7 +101,7 @@ static uint64_t used_pages(void) {
 
 /* ---- the tests */
 
-static int sheets_seen, blanks_seen, wrong_seen, packed_seen;
+static int sheets_seen, blanks_seen, wrong_seen, packed_seen, carried_seen;
 
 /* Nothing said on one side unless the status says so. */
 static int is_said(struct said s, int status) {
@@ -130,20 +130,28 @@ static int inspect_is_right(void) {
     return is_right;
 }
 
-/* The words of an image's line go back into `sheet pack`: the same 64 bytes. */
-static int packs_again(char *line, uint64_t place, const uint8_t *page) {
-    char place_word[24], number[24], action[24], link[24], start[24], value[80];
-    if (sscanf(line, "%23[0-9]: image, file %23[0-9], action %23[0-9], link %23[0-9], start %23[0-9], value %79s", place_word, number,
-               action, link, start, value) != 6)
-        return 1;
-    char *words[] = {"sheet", "pack", "5", place_word, "image", number, action, link, start, value};
-    struct said s = say(10, words);
+/* Words for `sheet pack` give the same 64 bytes. */
+static int gives(int count, char **words, const uint8_t *page) {
+    struct said s = say(count, words);
     int is_right = s.status == FINE && s.out_size == PAGE && memcmp(s.out, page, PAGE) == 0;
     if (!is_right)
-        printf("page %llu: %s is not packed again\n", (unsigned long long)place, line);
+        printf("page %s is not packed again: %s\n", words[3], words[4]);
     packed_seen++;
     forget(s);
     return is_right;
+}
+
+/* The words of an image's or an opening's line go back into `sheet pack`. A carried opening has small byte 1. */
+static int packs_again(char *line, const uint8_t *page) {
+    char place[24], first[24], second[24] = "", number[24], action[24], link[24], start[24], value[80];
+    if (sscanf(line, "%23[0-9]: image, file %23[0-9], action %23[0-9], link %23[0-9], start %23[0-9], value %79s", place, number, action,
+               link, start, value) == 6)
+        return gives(10, (char *[]){"sheet", "pack", "5", place, "image", number, action, link, start, value}, page);
+    int count = sscanf(line, "%23[0-9]: %23[a-z] %23[a-z]", place, first, second), is_carried = strcmp(first, "carried") == 0;
+    if (count < 2 || strcmp(is_carried ? second : first, "opening") != 0)
+        return 1;
+    carried_seen += is_carried;
+    return page[1] == is_carried && gives(5, (char *[]){"sheet", "pack", "5", place, first}, page);
 }
 
 /* A line for each page up to the end, then one for the blank ones. */
@@ -152,7 +160,7 @@ static int lines_are_right(struct said s) {
     for (char *line = strtok(s.out, "\n"); line; line = strtok(NULL, "\n"), place++) {
         if (strtoull(line, NULL, 10) != place)
             return 0;
-        if (place <= end && !packs_again(line, place, bytes + PAGE * (place - 1)))
+        if (place <= end && !packs_again(line, bytes + PAGE * (place - 1)))
             return 0;
     }
     return place == 1 + end + (end < size / PAGE);
@@ -183,7 +191,8 @@ static int files_are_right(void) {
         if (!blank_is_right() || !inspect_is_right() || !show_is_right())
             return 0;
     }
-    return sheets_seen > RUNS / 2 && blanks_seen > RUNS / 100 && wrong_seen > RUNS / 4 && packed_seen > RUNS;
+    return sheets_seen > RUNS / 2 && blanks_seen > RUNS / 100 && wrong_seen > RUNS / 4 && packed_seen > RUNS
+           && carried_seen > RUNS / 4;
 }
 
 /* Blank files around the length of the longest sheet. */
@@ -210,8 +219,8 @@ static int is_option(int count, char **words) {
 
 /* Words that are no command, or a command with wrong ones. */
 static int words_are_right(void) {
-    static char *const known[] = {"blank", "inspect", "show", "pack", "-h", "--version", "-x", "image", "opening", "committed",
-                                  "aborted", "0", "1", "2", "5", "257", "65537", "-1", "18446744073709551616", "", "0x", "0x0",
+    static char *const known[] = {"blank", "inspect", "show", "pack", "-h", "--version", "-x", "image", "opening", "carried",
+                                  "committed", "aborted", "0", "1", "2", "5", "257", "65537", "-1", "18446744073709551616", "", "0x", "0x0",
                                   "0xzz", "a", "1 ", "no/file"};
     int options_seen = 0;
     for (int run = 0; run < 20 * RUNS; run++) {

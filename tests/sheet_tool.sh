@@ -50,6 +50,9 @@ zeros 16384 >blank
 { head -c 192 again; "$tool" pack 8 4 image 3 1 3 9 AD; } >linked
 { "$tool" pack 8 1 opening; "$tool" pack 8 2 image 3 1 0 10 AB; "$tool" pack 8 3 opening; "$tool" pack 8 4 image 3 3 0 9 AD; } >anothers
 { "$tool" pack 8 1 opening; zeros 64; "$tool" pack 8 3 opening; } >gap
+{ "$tool" pack 8 1 carried; "$tool" pack 8 2 image 3 1 0 10 AB; "$tool" pack 8 3 committed 1; "$tool" pack 8 4 carried; zeros 64; } >moved
+{ head -c 256 moved; "$tool" pack 8 5 image 3 4 2 11 AC; "$tool" pack 8 6 committed 4; "$tool" pack 8 7 opening; } >carried
+{ printf '\001\002'; "$tool" pack 8 1 opening | tail -c 62; } >small_2
 { "$tool" pack 8 1 opening; "$tool" pack 8 2 image 1 1 0 1 0x; "$tool" pack 8 3 image 2 1 0 1 0x3078; } >values
 { zeros 63; } >short
 { zeros 65; } >odd
@@ -88,6 +91,10 @@ expect 1 "anothers: $wrong
 4: image, file 3, action 3, link 0, start 9, value AD" "" inspect 8 anothers
 expect 1 "gap: $wrong
 2: blank" "" inspect 8 gap
+expect 0 "moved: lawful, 4 of 5 pages used" "" inspect 8 moved
+expect 0 "carried: lawful, 7 of 7 pages used" "" inspect 8 carried
+expect 1 "small_2: $wrong
+1: unfit" "" inspect 8 small_2
 expect 1 "stray: $wrong
 1: blank" "" inspect 256 stray
 expect 2 "" "sheet: FILES is 1 to 256, not 0" inspect 0 lawful
@@ -114,12 +121,19 @@ expect 0 "1: opening
 expect 1 "1: opening
 2: blank
 3: opening" "" show 8 gap
+expect 0 "1: carried opening
+2: image, file 3, action 1, link 0, start 10, value AB
+3: committed, action 1
+4: carried opening
+5: blank" "" show 8 moved
+expect 1 "1: unfit" "" show 8 small_2
 expect 0 "1 to 256: blank" "" show 8 blank
 expect 2 "" "sheet: odd: no sheet: 65 bytes are not pages of 64" show 8 odd
 
 # ---- pack
 zeros30=000000000000000000000000000000000000000000000000000000000000
 packs "010000000000000001000000000000000000000000000000${zeros30}000001000000a3cb00a5" 8 1 opening
+packs "010100000000000001000000000000000000000000000000${zeros30}000001000000310700a5" 8 1 carried
 packs "020200000300000001000000000000000a000000000000004142${zeros30}02000000541500a5" 8 2 image 3 1 0 10 AB
 no="sheet: no such page: NUMBER is 1 to FILES, ACTION 1 or more, START 1 or more; ACTION and LINK are below PLACE"
 expect 1 "" "sheet: no such page: ACTION is 1 or more, and below PLACE" pack 8 2 committed 2
@@ -136,6 +150,8 @@ for place in 0 65537 18446744073709551617 -1 ""; do
 done
 expect 2 "" "sheet: FILES is 1 to 256, not 0" pack 0 0 opening
 expect 2 "" "sheet: pack what? See sheet help" pack 8 1 opening 1
+expect 2 "" "sheet: pack what? See sheet help" pack 8 1 carried 1
+expect 2 "" "sheet: pack what? See sheet help" pack 8 1 carried opening
 
 # ---- words and options
 help=$("$tool" help)
