@@ -141,7 +141,7 @@ impl Desk {
             return "lost".to_string();
         }
         let word = match &change {
-            Change::Opening => "begin",
+            Change::Opening { .. } => "begin",
             Change::Image { file, .. } => {
                 now.overtake(&self.sheet, *file);
                 "write"

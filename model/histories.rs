@@ -1,8 +1,9 @@
 //! The store as documents 01 and 02 tell it, at the level of histories: each file has its versions and at most one token, which another
 //! image of its action overtakes, each action a fate and the place at which it was decided, every image that was stored whole stays, and
-//! every append uses up one place. There are no bytes here, no rows and no links.
+//! every append uses up one place. What a carried action brought from an older sheet is marked so. There are no bytes here, no rows and no
+//! links.
 
-use std::collections::BTreeMap;
+use std::collections::{BTreeMap, BTreeSet};
 
 pub const PAGES: u64 = 256;
 pub const MOST_FILES: u64 = 256;
@@ -20,6 +21,7 @@ pub struct Version {
     pub place: u64,
     pub start: u64,
     pub value: Vec<u8>,
+    pub is_carried: bool, // what was before it is on an older sheet
 }
 
 pub struct Token {
@@ -60,9 +62,10 @@ pub struct Image {
 }
 
 /// What stays when the supply is cut.
-#[derive(Default)]
 pub struct Sheet {
-    pub used: u64, // places, torn ones included
+    pub pages: u64,
+    pub used: u64,              // places, torn ones included
+    pub carried: BTreeSet<u64>, // actions
     pub fates: BTreeMap<u64, Fate>,
     pub outcomes: BTreeMap<u64, u64>, // by action, the place at which it was decided
     pub files: BTreeMap<u64, File>,
@@ -79,7 +82,7 @@ pub struct Session {
 
 /// One append.
 pub enum Change {
-    Opening,
+    Opening { is_carried: bool },
     Image { file: u64, start: u64, action: u64, value: Vec<u8> },
     Outcome { action: u64, fate: Fate },
 }
@@ -98,7 +101,18 @@ fn refused<T>(number: u64) -> Result<T, Refusal> {
     Err(Refusal(number, 0))
 }
 
+impl Default for Sheet {
+    fn default() -> Sheet {
+        Sheet::blank(PAGES)
+    }
+}
+
 impl Sheet {
+    pub fn blank(pages: u64) -> Sheet {
+        let (fates, outcomes, files) = (BTreeMap::new(), BTreeMap::new(), BTreeMap::new());
+        Sheet { pages, used: 0, carried: BTreeSet::new(), fates, outcomes, files, images: Vec::new() }
+    }
+
     pub fn undecided(&self) -> u64 {
         self.fates.values().filter(|fate| **fate == Fate::Undecided).count() as u64
     }
@@ -109,6 +123,9 @@ impl Sheet {
         }
         if let Some(image) = self.images.iter().rev().find(|image| image.file > files) {
             return Err(Refusal(2, image.place));
+        }
+        if self.carried.contains(&1) && !self.outcomes.contains_key(&1) {
+            return refused(24);
         }
         Ok(Session { files, floor, seen: BTreeMap::new(), seen_token: BTreeMap::new() })
     }
@@ -123,12 +140,13 @@ impl Sheet {
         self.used += 1;
         let place = self.used;
         match change {
-            Change::Opening => {
+            Change::Opening { is_carried } => {
                 self.fates.insert(place, Fate::Undecided);
+                self.carried.extend(Some(place).filter(|_| is_carried));
             }
             Change::Image { file, start, action, value } => {
                 self.images.push(Image { place, file, start, action });
-                let version = Version { place, start, value };
+                let version = Version { place, start, value, is_carried: self.carried.contains(&action) };
                 self.files.entry(file).or_default().token = Some(Token { action, version });
             }
             Change::Outcome { action, fate } => {
@@ -168,7 +186,7 @@ impl Sheet {
     }
 
     fn has_room(&self, need: u64) -> Result<(), Refusal> {
-        if PAGES - self.used < need {
+        if self.pages - self.used < need {
             return refused(11);
         }
         Ok(())
@@ -176,7 +194,7 @@ impl Sheet {
 
     pub fn begin(&self) -> Result<Change, Refusal> {
         self.has_room(self.undecided() + 2)?;
-        Ok(Change::Opening)
+        Ok(Change::Opening { is_carried: false })
     }
 
     /// The outcome to be stored or, if the action was decided alike before, the place of that one.
@@ -225,7 +243,10 @@ impl Sheet {
         if time >= history.newest_start() {
             now.see(file, time);
         }
-        Ok(history.at(time).cloned())
+        match history.at(time) {
+            None if history.versions.iter().any(|version| version.is_carried) => refused(25),
+            found => Ok(found.cloned()),
+        }
     }
 }
 

@@ -1,20 +1,21 @@
-/* The proved calls beside plain ones, written here from documents 01 and 02 line by line: long runs of random calls on a sheet, with
-   cuts, openings, and lent fates, rows, states and pages that are damaged, for 1 to 13 files. After every call the answer, the state and
-   every lent byte and number must be the same. Prints a line for each test and 'N passed, M failed'. */
-#include "plainsheet.h"
+/* The proved calls beside the plain ones of plaincalls.h: long runs of random calls on a sheet, with cuts, openings, and lent fates, rows,
+   states and pages that are damaged, for 1 to 13 files. After every call the answer, the state and every lent byte and number must be the
+   same. Prints a line for each test and 'N passed, M failed'. */
+#include "plaincalls.h"
 
 enum { RUNS = 8000, LARGE_RUNS = 20, CALLS = 60, KINDS = ABORT + 1 };
 struct ask {
     struct call call;
     uint8_t value[40];
 };
-static struct kept kept;
-static int seen_refusal[16], seen_answer[8], seen_cut[PAGE + 2];
+static int seen_refusal[32], seen_answer[8], seen_cut[PAGE + 2];
 
-/* What a test of an action, a decision of one that is decided, a write, or a call that rebuilds a row has met; several may come at once. */
+/* What a test of an action, a decision of one that is decided, a write, a read, or a call that rebuilds a row has met; several may come at
+   once. */
 enum { SAME, OPPOSITE, TRUE_FATE, OTHER_OUTCOME, NO_OUTCOME, TWO_OUTCOMES, OUTCOME_ABOVE, NO_OPENING, FULL_SHEET, PAGE_ABOVE,
        TOKEN_LEFT, COLD_ROW, FALSELY_OPEN, OTHERS_TOKEN, OTHERS_TOKEN_10, OWN_LOWER, OWN_SAME, OWN_HIGHER, OWN_END_KEPT, OWN_END_RAISED,
-       OWN_COLD, OWN_10, OWN_11, OWN_BELOW_CURRENT, STRAY_END, TWO_UNDECIDED, MET };
+       OWN_COLD, OWN_10, OWN_11, OWN_BELOW_CURRENT, STRAY_END, TWO_UNDECIDED, CARRIED_LOWEST, CARRIED_ABOVE, CARRIED_COLD, CARRIED_INSIDE,
+       CARRIED_PASSED, CARRIED_READ, NONE_BESIDE, EMPTY_BESIDE, MET };
 static const char *const met[MET] = {"the same decision again", "the opposite decision", "a fate that is the outcome's",
                                      "a fate that is not the outcome's", "a fate without an outcome", "two outcomes",
                                      "an outcome above the end", "an outcome without an opening", "a full sheet",
@@ -26,7 +27,12 @@ static const char *const met[MET] = {"the same decision again", "the opposite de
                                      "a file written again, its row cold", "a file written again at a start that 10 refuses",
                                      "a file written again on too few pages", "a file written again, its token below the current place",
                                      "no token, but a token end above the start",
-                                     "a cold row, and images of two undecided actions above its current one"};
+                                     "a cold row, and images of two undecided actions above its current one",
+                                     "refusal 25, the lowest image carried", "refusal 25, the lowest image not carried",
+                                     "refusal 25, the row cold", "refusal 25 inside an action",
+                                     "a carried image passed and a version found", "a carried image read",
+                                     "no version that is old enough, none of them carried, beside a carried opening",
+                                     "no version, beside a carried opening"};
 static int seen_met[MET];
 
 /* What a row is that a call comes to: right, or wrong in one thing. Up to NAMINGS that is the token's action alone: read, write and rebuild
@@ -53,144 +59,6 @@ static int seen_place[2][MOST_FILES][MOST_FILES];
 /* The calls that come to a row. */
 enum { ROW_CALLS = 5 };
 static const enum kind row_calls[ROW_CALLS] = {READ, WRITE, REBUILD, COMMIT, ABORT};
-
-/* ---- the plain calls: each gives the numbers of its answer */
-
-static uint64_t action_line(uint64_t action) {
-    if (action < 1 || action > kept.end || action > pages || kept.fates[action - 1] < 1 || kept.fates[action - 1] > 3)
-        return 5;
-    return kept.fates[action - 1] == 1 ? 0 : 6;
-}
-
-/* Lines 11 and 12, and the page. */
-static int stored(uint64_t a[TOLD], uint64_t need, int kind, int small, uint64_t file, uint64_t action, uint64_t link, uint64_t start,
-                  const uint8_t *value) {
-    if (pages - kept.end < need)
-        return no(a, 11, 0), 0;
-    if (!is_blank(kept.end + 1))
-        return no(a, 12, 0), 0;
-    kept.end++;
-    plain_pack(page_at(kept.end), kind, small, file, kind == 1 ? kept.end : action, link, start, value, kept.end);
-    answer(a, STORED, kept.end, 0, 0);
-    return 1;
-}
-
-static const uint8_t none[32];
-
-static void plain_begin(uint64_t a[TOLD]) {
-    if (!stored(a, kept.undecided + 2, 1, 0, 0, 0, 0, 0, none))
-        return;
-    kept.fates[kept.end - 1] = 1;
-    kept.undecided++;
-}
-
-/* Whether a file's row is rebuilt, names the action, and has a token that is the action's. */
-static int holds_token(uint64_t file, uint64_t action, uint64_t end) {
-    const uint64_t *row = row_in(&kept, file);
-    return row[MARK] == 1 && row[TOKEN_ACTION] == action && row[TOKEN] >= 1 && row[TOKEN] <= end && is_image(row[TOKEN], file)
-           && action_of(row[TOKEN]) == action;
-}
-
-/* Where the action is decided already: the fate says which decision it was, the sheet where it lies. */
-static void plain_decide(uint64_t a[TOLD], uint64_t action, int verdict) {
-    uint64_t line = action_line(action), end = kept.end;
-    if (line == 6 && kept.fates[action - 1] == verdict + 1)
-        return answer(a, STORED, outcome_of(action, end), 0, 0);
-    if (line)
-        return no(a, line, 0);
-    if (!stored(a, 1, 3, verdict, 0, action, 0, 0, none))
-        return;
-    kept.fates[action - 1] = (uint8_t)(verdict + 1);
-    kept.undecided -= kept.undecided > 0;
-    for (uint64_t f = 1; f <= file_count; f++) {
-        uint64_t *row = row_in(&kept, f);
-        if (!holds_token(f, action, end))
-            continue;
-        if (verdict == 1)
-            row[CURRENT] = row[TOKEN], row[CURRENT_END] = row[TOKEN_END];
-        row[TOKEN] = row[TOKEN_END] = row[TOKEN_ACTION] = 0;
-    }
-}
-
-static void raise(uint64_t *end, uint64_t time) { *end = *end < time ? time : *end; }
-
-/* The token of the same action is overtaken, and leaves its end. */
-static void plain_write(uint64_t a[TOLD], const struct call *q) {
-    uint64_t line = action_line(q->action), place = kept.end + 1;
-    if (q->file < 1 || q->file > file_count)
-        return no(a, 3, 0);
-    if (q->length > 32)
-        return no(a, 4, 0);
-    if (line)
-        return no(a, line, 0);
-    uint64_t *row = row_in(&kept, q->file);
-    if (!warm(a, &kept, q->file))
-        return;
-    if (row[TOKEN] && action_of(row[TOKEN]) != q->action)
-        return no(a, 8, action_of(row[TOKEN]));
-    if (q->time <= row[CURRENT_END] || q->time <= kept.floor)
-        return no(a, 10, 0);
-    uint8_t value[32] = {0};
-    memcpy(value, q->value, q->length);
-    if (!stored(a, kept.undecided + 1, 2, (int)q->length, q->file, q->action, row[CURRENT], q->time, value))
-        return;
-    row[TOKEN_END] = row[TOKEN] ? row[TOKEN_END] : 0;
-    raise(row + TOKEN_END, q->time);
-    row[TOKEN] = place;
-    row[TOKEN_ACTION] = q->action;
-}
-
-static void told_value(uint64_t a[TOLD], uint64_t place) { answer(a, VALUE, place, start_of(place), page_at(place)[1]); }
-
-static void plain_read(uint64_t a[TOLD], const struct call *q) {
-    uint64_t line = q->action ? action_line(q->action) : 0, place;
-    if (q->file < 1 || q->file > file_count)
-        return no(a, 3, 0);
-    if (line)
-        return no(a, line, 0);
-    uint64_t *row = row_in(&kept, q->file);
-    if (!warm(a, &kept, q->file))
-        return;
-    if (row[TOKEN] && start_of(row[TOKEN]) <= q->time) {
-        if (action_of(row[TOKEN]) != q->action)
-            return no(a, 9, action_of(row[TOKEN]));
-        raise(row + TOKEN_END, q->time);
-        return told_value(a, row[TOKEN]);
-    }
-    for (place = row[CURRENT]; place && start_of(place) > q->time;) {
-        uint64_t link = link_of(place);
-        if (link && !is_image(link, q->file))
-            return no(a, 13, place);
-        place = link;
-    }
-    if (place == row[CURRENT])
-        raise(row + CURRENT_END, q->time);
-    if (place)
-        told_value(a, place);
-    else
-        answer(a, NOTHING, 0, 0, 0);
-}
-
-static void plain_call(uint64_t a[TOLD], const struct call *q) {
-    if (kept.end > pages || kept.undecided > kept.end)
-        return no(a, 1, 0);
-    switch (q->kind) {
-    case BEGIN:
-        return plain_begin(a);
-    case WRITE:
-        return plain_write(a, q);
-    case READ:
-        return plain_read(a, q);
-    case TEST:
-        if (action_line(q->action) == 5)
-            return no(a, 5, 0);
-        return answer(a, FATE, kept.fates[q->action - 1], outcome_of(q->action, kept.end), 0);
-    case REBUILD:
-        return plain_rebuild(a, &kept, q->file);
-    default:
-        plain_decide(a, q->action, q->kind == COMMIT ? 1 : 2);
-    }
-}
 
 /* ---- what was met */
 
@@ -311,6 +179,42 @@ static int has_two_undecided(uint64_t file) {
     return 0;
 }
 
+static int has_carried_opening(void) {
+    for (uint64_t p = kept.end; p > 0; p--)
+        if (is_opening(p) && page_at(p)[1] == 1)
+            return 1;
+    return 0;
+}
+
+/* What is met where a read goes down the links. */
+static void meet_links(const struct call *q, uint64_t place, int is_cold) {
+    int carried = 0, lowest = 0, passed = 0;
+    for (; place && start_of(place) > q->time; passed++, place = link_of(place)) {
+        lowest = is_carried(place);
+        carried += lowest;
+        if (link_of(place) && !is_image(link_of(place), q->file))
+            return;
+    }
+    int is_refused = place == 0 && carried;
+    seen_met[CARRIED_LOWEST] += is_refused && lowest;
+    seen_met[CARRIED_ABOVE] += is_refused && !lowest;
+    seen_met[CARRIED_COLD] += is_refused && is_cold;
+    seen_met[CARRIED_INSIDE] += is_refused && q->action;
+    seen_met[CARRIED_PASSED] += place && carried;
+    seen_met[CARRIED_READ] += place && is_carried(place);
+    if (place == 0 && !carried)
+        seen_met[passed ? NONE_BESIDE : EMPTY_BESIDE] += has_carried_opening();
+}
+
+/* What is met where a read comes past line 9 to the versions. */
+static void meet_read(const struct call *q) {
+    struct kept copy = kept;
+    uint64_t a[TOLD], *row = row_in(&copy, q->file);
+    int is_cold = row[MARK] == 0;
+    if (warm(a, &copy, q->file) && (row[TOKEN] == 0 || start_of(row[TOKEN]) > q->time))
+        meet_links(q, row[CURRENT], is_cold);
+}
+
 /* What is met where a read, write or rebuild may come to line 7. */
 static void meet_row(const struct call *q) {
     uint64_t line = q->kind == REBUILD || (q->kind == READ && q->action == 0) ? 0 : action_line(q->action);
@@ -322,6 +226,8 @@ static void meet_row(const struct call *q) {
     seen_met[TWO_UNDECIDED] += row[MARK] == 0 && has_two_undecided(q->file);
     if (q->kind == WRITE)
         meet_write(q);
+    if (q->kind == READ)
+        meet_read(q);
 }
 
 /* What is met where an action is decided, or decided again. */
@@ -459,10 +365,33 @@ static void relink(uint64_t place) {
     plain_pack(page, 2, page[1], file_of(place), action_of(place), below(place), start_of(place), value, place);
 }
 
+/* An opening packed anew as a carried one, or the other way round: its pages stay sealed. */
+static void carry(uint64_t place) {
+    if (is_opening(place))
+        plain_pack(page_at(place), 1, below(4) > 0, 0, place, 0, 0, none, place);
+}
+
+/* Some version of a file whose action becomes a carried one, and a read that may pass it. */
+static void carry_version(struct call *q) {
+    uint64_t file = 1 + below(file_count), row[ROW_LENGTH];
+    if (kept.end > pages)
+        return;
+    row_of(file, kept.fates, kept.end, row);
+    uint64_t place = row[CURRENT];
+    while (place && link_of(place) && is_image(link_of(place), file) && below(2))
+        place = link_of(place);
+    if (place)
+        carry(action_of(place));
+    uint64_t time = below(2) ? 0 : place && below(3) ? start_of(place) - below(2) : below(20);
+    *q = (struct call){READ, file, time, below(3) ? 0 : random_action(), 0, NULL};
+    if (below(4) == 0)
+        row_in(&kept, file)[MARK] = 0;
+}
+
 /* Something lent that no call has left. */
 static void damage(void) {
     uint64_t place = older();
-    switch (below(11)) {
+    switch (below(12)) {
     case 0:
         kept.rows[below(ROW_LENGTH * file_count)] = below(pages + 2);
         break;
@@ -487,6 +416,9 @@ static void damage(void) {
     case 8:
     case 9:
         relink(1 + below(pages));
+        break;
+    case 10:
+        carry(1 + below(pages));
         break;
     default:
         kept.end = below(pages + 2);
@@ -669,6 +601,8 @@ static uint64_t spoil(enum damaged what, struct call *q) {
         revive(q);
     if (what == ANYTHING && below(10) == 0)
         twist(q);
+    if (what == ANYTHING && below(10) == 0)
+        carry_version(q);
     if (what == ROWS_ALONE && below(6) == 0)
         misname(q);
     return what == ROWS_ALONE && below(6) == 0 ? mislay(q) : 0;
@@ -736,7 +670,7 @@ static int large_alike(enum damaged what) {
 
 /* Every answer, every refusal that these calls can give, every cut and all that is to be met has come often; 2 is open's. */
 static int all_seen(void) {
-    for (int n = 1; n <= 13; n++)
+    for (int n = 1; n <= 25; n = n == 13 ? 25 : n + 1)
         if (n != 2 && seen_refusal[n] < 20)
             return printf("refusal %d came %d times\n", n, seen_refusal[n]), 0;
     for (int n = REBUILT; n <= FATE; n++)

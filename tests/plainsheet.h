@@ -38,6 +38,8 @@ static int is_sealed_for(uint64_t place, uint64_t files) {
 static int is_sealed(uint64_t place) { return is_sealed_for(place, file_count); }
 static int is_kind(uint64_t place, int kind) { return page_at(place)[0] == kind && is_sealed(place); }
 static int is_image(uint64_t place, uint64_t file) { return file_of(place) == file && is_kind(place, 2); }
+/* Of a sealed image: whether it was carried from an older sheet. */
+__attribute__((unused)) static int is_carried(uint64_t place) { return page_at(action_of(place))[1] == 1; }
 static int is_bad(uint64_t place) { return is_blank(place) || (!is_torn(place) && !is_sealed(place)); }
 
 static uint64_t end_of(void) {
@@ -54,6 +56,9 @@ static uint64_t outcome_of(uint64_t action, uint64_t upto) {
             return p;
     return 0;
 }
+
+/* Whether the sheet begins with a carried opening that has no outcome: a move onto it was cut. */
+static int is_half_moved(uint64_t end) { return end > 0 && is_opening(1) && page_at(1)[1] == 1 && outcome_of(1, end) == 0; }
 
 /* The fate of an action by the newest outcome up to a place. */
 static uint8_t fate_of(uint64_t action, uint64_t upto) {
@@ -130,15 +135,15 @@ static void answer(uint64_t a[TOLD], uint64_t which, uint64_t first, uint64_t se
 }
 static void no(uint64_t a[TOLD], uint64_t number, uint64_t place) { answer(a, REFUSED, number, place, 0); }
 
-/* Refused: the highest bad page, three zeros as the state, and fates and rows as they were. */
+/* Refused: three zeros as the state, and fates and rows as they were; the highest bad page is named. */
 static void plain_open(uint64_t a[TOLD], struct kept *k) {
     uint64_t end = end_of(), bad = end;
     while (bad > 0 && !is_bad(bad))
         bad--;
     k->end = k->undecided = 0;
-    if (bad) {
+    if (bad || is_half_moved(end)) {
         k->floor = 0;
-        return no(a, 2, bad);
+        return bad ? no(a, 2, bad) : no(a, 24, 0);
     }
     for (uint64_t p = 1; p <= pages; p++) {
         k->fates[p - 1] = fate_of(p, end);

@@ -20,7 +20,7 @@ static void add_page(uint64_t place, int wild) {
     if (row[TOKEN] && (kind == 2 || kind == 3) && below(2))
         action = action_of(row[TOKEN]);
     if (kind == 1)
-        plain_pack(page, 1, below(6) == 0, 0, place, 0, 0, none, place);
+        plain_pack(page, 1, below(place == 1 ? 3 : 6) == 0, 0, place, 0, 0, none, place);
     else if (kind == 4)
         plain_pack(page, 3, 1 + (int)below(2), 0, action, 0, 0, none, place);
     else
@@ -58,6 +58,44 @@ static uint64_t large_count(void) { return 1025 + below(MOST - 1024); }
 
 static int refused_seen;
 
+/* What may come of a carried opening at place 1: no outcome, so that open is refused 24, also where one is torn, or 2, which comes first; an
+   outcome, with which it opens; and of one above place 1 without an outcome. */
+enum { HALF_MOVED, TORN_OUTCOME, HALF_MOVED_BAD, CARRIED_COMMITTED, CARRIED_ABORTED, CARRIED_ABOVE, CARRIED };
+static const char *const each_carried[CARRIED] = {"a carried opening without an outcome", "a carried opening with a torn outcome",
+                                                  "a carried opening without an outcome, and a bad page",
+                                                  "a carried opening, committed", "a carried opening, aborted",
+                                                  "a carried opening above place 1 without an outcome"};
+static int carried_seen[CARRIED];
+
+static int has_torn_outcome(uint64_t action) {
+    for (uint64_t p = pages; p > 0; p--)
+        if (is_torn(p) && page_at(p)[0] == 3 && action_of(p) == action)
+            return 1;
+    return 0;
+}
+
+static void count_carried(const uint64_t a[TOLD]) {
+    uint64_t end = end_of();
+    int is_refused = a[WHICH] == REFUSED;
+    for (uint64_t p = 2; p <= end; p++)
+        carried_seen[CARRIED_ABOVE] += !is_refused && is_opening(p) && page_at(p)[1] == 1 && outcome_of(p, end) == 0;
+    if (end == 0 || !is_opening(1) || page_at(1)[1] != 1)
+        return;
+    if (outcome_of(1, end) == 0) {
+        carried_seen[a[FIRST] == 2 ? HALF_MOVED_BAD : HALF_MOVED]++;
+        carried_seen[TORN_OUTCOME] += a[FIRST] == 24 && has_torn_outcome(1);
+    } else if (!is_refused)
+        carried_seen[fate_of(1, end) == 2 ? CARRIED_COMMITTED : CARRIED_ABORTED]++;
+}
+
+static int all_carried_came(void) {
+    int all = 1;
+    for (int i = 0; i < CARRIED; i++)
+        if (carried_seen[i] < 20)
+            all = (printf("only %d times: %s\n", carried_seen[i], each_carried[i]), 0);
+    return all;
+}
+
 static int open_is_alike(void) {
     struct kept was, left;
     uint64_t a[TOLD];
@@ -65,7 +103,8 @@ static int open_is_alike(void) {
     was.floor = 9;
     left = was;
     plain_open(a, &left);
-    refused_seen += a[WHICH] == REFUSED;
+    refused_seen += a[WHICH] == REFUSED && a[FIRST] == 2;
+    count_carried(a);
     return called_alike((struct call){.kind = OPEN}, sheet, was, a, &left);
 }
 
@@ -404,6 +443,7 @@ int main(int count, char **words) {
     printf("seed %llu\n", (unsigned long long)seed);
     told("open, lawful sheets", opens_alike(small_count, SHEETS, 0));
     told("open, any sheets", opens_alike(small_count, SHEETS, 1));
+    told("open, carried openings with and without an outcome", all_carried_came());
     told("open, lengths", sizes_alike());
     told("open, rows for 0 to 258 files", row_counts_alike());
     told("rebuild, any rows and fates", rebuilds_alike(small_count, SHEETS));
