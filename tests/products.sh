@@ -34,7 +34,7 @@ seen() {
         instruction ~ /mul|div|madd|^v?dp[bp]|^vp4?dp|^tdp|^fprem|^vfn?m/ { products[name]++ }
         /[$-]0xfff[01]([^0-9a-f]|$)|ffff000f/ { words[name] = 1 }
         /[$]0xbd16([^0-9a-f]|$)/ { words[name] = 1; begins[name] = begins[name] " BYTES" }
-        /[$]0x(17b0a|1b689)([^0-9a-f]|$)/ { words[name] = 1; begins[name] = begins[name] " OPENING" }
+        /[$ \t]0x(17b0a|1b689)([^0-9a-f]|$)/ { words[name] = 1; begins[name] = begins[name] " OPENING" }
         END { for (name in products) if (name in words || name ~ /^encoding::/) print products[name] " " name begins[name] }'
 }
 

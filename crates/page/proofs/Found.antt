@@ -1,23 +1,24 @@
 -- What an answer of the page test tells: the laws that the layers above cite. Assumes nothing.
 use Prim.Native.Nat.{ℕ, _≤_, _<_}
 use mathlib.Core.Path.{_≡_, refl, sym, ap, subst, _∙_}
-use mathlib.Core.Bool.{Bool, true, false, cond, false≢true}
+use mathlib.Core.Bool.{Bool, true, false, cond, _&&_, false≢true}
 use mathlib.Core.List.{List, [], _∷_}
 use native.Mathlib.Omega.{arith}
 use borrow.Author.Tests.{eqb-true, eq-eqb, ne-eqb}
 use lib.Dec.{eqb}
-use lib.ListN.{length}
+use lib.ListN.{length, getD}
 use types.Run.{OneOf, miss}
 use denote.Enum.Declared.{tagOf}
 use Rattle.encoding.specs.Bytes.{zeros}
-use Rattle.encoding.proofs.Logic.{and-true, and-both}
+use Rattle.encoding.proofs.Logic.{and-true, and-both, and-end, and-false}
+use Rattle.encoding.proofs.Numbers.{number-byte}
 use Rattle.page.specs.declared.Page.{Page}
 use Rattle.page.specs.declared.Unpacked.{Unpacked}
 use Rattle.page.specs.declared.Unpacked.the-variants.{Refused, Blank, Torn, Opening, Image, Outcome, Unfit}
 use Rattle.page.proofs.Unpacked.{the-type}
-use Rattle.page.specs.Layout.{valueSize, pageSize}
+use Rattle.page.specs.Layout.{valueSize, pageSize, smallAt}
 use Rattle.page.specs.Table.{fieldsOf, openingAs, lowest, highest, meetsRules, isPageOf, fits, torn}
-use Rattle.page.specs.Answers.{inBounds, byKind, tested, isFitPage, onImage, isOutcomeOf}
+use Rattle.page.specs.Answers.{inBounds, byKind, tested, isFitPage, isOpeningPage, isCarriedPage, onImage, isOutcomeOf}
 use Rattle.page.specs.Steps.{hasKind}
 use Rattle.page.proofs.Rules.{Between, between-true, InBounds, in-bounds}
 
@@ -129,6 +130,23 @@ opening-is s place files p e =
     let link : p .link ≡ 0 = omega arith in
     let start : p .start ≡ 0 = omega arith in
     record { small = omega arith; is = λ i. record { kind = k i; small = p .small; file = file i; action = action i; link = link i; start = start i } }
+
+-- a carried opening is an opening with 1 in its small byte
+pub carried-by : (s : List ℕ) (place files : ℕ) → (eqb (getD s smallAt 0) 1 && isOpeningPage (tested s place files)) ≡ isCarriedPage (tested s place files)
+unfolding isOpeningPage isCarriedPage fieldsOf
+carried-by s place files = go (tested s place files) (found s place files _ refl)
+  where
+    none : (eqb (getD s smallAt 0) 1 && false) ≡ false
+    none = and-false (eqb (getD s smallAt 0) 1) false refl
+
+    go : (u : Unpacked) → Found s place files u → (eqb (getD s smallAt 0) 1 && isOpeningPage u) ≡ isCarriedPage u
+    go Refused f = none
+    go Blank f = none
+    go Torn f = none
+    go (Opening p) f = and-end (eqb (getD s smallAt 0) 1) ∙ ap (λ (n : ℕ). eqb n 1) (sym (ap (λ (q : Page). q .small) (f .fields-are) ∙ number-byte s 1))
+    go (Image p) f = none
+    go (Outcome p) f = none
+    go Unfit f = none
 
 -- ---- what `let Unpacked::Image(p) = u else { .. }` tells in its else, or with an outcome: the tag is another's
 

@@ -32,7 +32,7 @@ tested s place files =
     (cond (zeros s) Blank (cond (torn s) Torn (cond (fits s place files) (byKind (fieldsOf s)) Unfit)))
     Refused
 
--- blank, fit, an opening, and an outcome of an action, of what the page test says
+-- blank, fit, an opening, a carried one, and an outcome of an action, of what the page test says
 abbrev pub isBlankPage : Unpacked → Bool
 isBlankPage Refused = false
 isBlankPage Blank = true
@@ -59,6 +59,15 @@ isOpeningPage (Opening p) = true
 isOpeningPage (Image p) = false
 isOpeningPage (Outcome p) = false
 isOpeningPage Unfit = false
+
+unfoldable pub isCarriedPage : Unpacked → Bool
+isCarriedPage Refused = false
+isCarriedPage Blank = false
+isCarriedPage Torn = false
+isCarriedPage (Opening p) = eqb (p .small) 1
+isCarriedPage (Image p) = false
+isCarriedPage (Outcome p) = false
+isCarriedPage Unfit = false
 
 unfoldable pub isOutcomeOf : ℕ → Unpacked → Bool
 isOutcomeOf a Refused = false

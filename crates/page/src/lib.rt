@@ -17,7 +17,7 @@ ghost use Rattle.encoding.specs.Bytes.{bytes, zeros, same, check};
 ghost use Rattle.page.specs.Layout.{valueAt, pageSize, mostPlaces, valueSize};
 ghost use Rattle.page.specs.Table.{head, front, packed, field, fieldsOf, openingAs, opening, image, outcome, lowest, highest, within, between, used, meetsRules, isPageOf, torn};
 ghost use Rattle.page.specs.Steps.{framed, hasKind, named};
-ghost use Rattle.page.specs.Answers.{inBounds, byKind, tested, isBlankPage, isFitPage, isOpeningPage, isOutcomeOf, packs, imageOfFile, imageAbove, valueIn};
+ghost use Rattle.page.specs.Answers.{inBounds, byKind, tested, isBlankPage, isFitPage, isOpeningPage, isCarriedPage, isOutcomeOf, packs, imageOfFile, imageAbove, valueIn};
 
 // The fields of a page (a log record), kind to start. The 32 bytes of the value stay beside it.
 pub struct Page {
@@ -426,6 +426,19 @@ impl Page {
             return false;
         }
         Page::is_packed_opening(part, small, place)
+    }
+
+    // Whether the page test finds a carried opening, by its small byte before anything else.
+    pub fn is_carried(part: &[u8], place: u64, files: u64) -> bool
+        ensures { λ r. ⌜ r ≡ isCarriedPage (tested (now (part .entry)) place files) ⌝ }
+    {
+        if part.len() != Page::SIZE {
+            return false;
+        }
+        if byte_at(part, Page::SMALL) != 1 {
+            return false;
+        }
+        Page::is_opening(part, place, files)
     }
 
     // A part of a page's size with this kind.

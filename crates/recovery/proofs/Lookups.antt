@@ -1,20 +1,17 @@
 -- Look-ups that take every number: a page's kind at a place, a fate, a file's row. Assumes nothing.
 use Prim.Native.Nat.{ℕ, zero, suc, pred, _+_, _-_, _*_, _/_, _≤_, _<_}
-use mathlib.Core.Path.{_≡_, refl, sym, ap, _∙_}
+use mathlib.Core.Path.{_≡_, refl, sym}
 use mathlib.Core.Bool.{Bool, true, false, _&&_}
-use mathlib.Core.List.{List, [], _∷_}
+use mathlib.Core.List.{List}
 use native.Mathlib.Omega.{arith}
 use native.Mathlib.Numerals.{sub-one}
 use borrow.Author.Tests.{leb-true, leb-false}
-use lib.Dec.{leb, eqb}
-use types.Run.{OneOf, miss}
-use denote.Enum.Declared.{tagOf}
+use lib.Dec.{leb}
 use lib.ListN.{length, getD, List·getD-eq-default}
 use Rattle.encoding.proofs.Logic.{and-true}
-use Rattle.page.specs.declared.Page.{Page}
 use Rattle.page.specs.declared.Unpacked.{Unpacked}
 use Rattle.page.specs.declared.Unpacked.the-variants.{Refused, Blank, Torn, Opening, Image, Outcome, Unfit}
-use Rattle.page.specs.Answers.{tested, isOpeningPage}
+use Rattle.page.specs.Answers.{tested, isOpeningPage, isCarriedPage}
 use Rattle.recovery.specs.Places.{nth}
 use Rattle.recovery.specs.Sheet.{pageBytes, entryOf, isOpening, decoded}
 use Rattle.recovery.specs.World.{cold, isFile, isCarried}
@@ -23,8 +20,6 @@ use Rattle.recovery.specs.Steps.{rowOf, withRowOf}
 use Rattle.recovery.specs.declared.Row.{Row}
 use Rattle.recovery.proofs.Places.{getD-tabulate-out}
 use Rattle.recovery.proofs.FlatRows.{row-at}
-use Rattle.recovery.proofs.Pages.{decoded-is}
-use Rattle.page.proofs.Unpacked.{the-type}
 
 -- ---- an opening at a place
 
@@ -38,26 +33,19 @@ opening-entry b (Image x) = refl
 opening-entry b (Outcome x) = refl
 opening-entry b Unfit = refl
 
--- ---- a carried opening at a place
+carried-entry : (b : List ℕ) (u : Unpacked) → isCarriedPage u ≡ isCarried (entryOf b u)
+unfolding isCarriedPage
+carried-entry b Refused = refl
+carried-entry b Blank = refl
+carried-entry b Torn = refl
+carried-entry b (Opening x) = refl
+carried-entry b (Image x) = refl
+carried-entry b (Outcome x) = refl
+carried-entry b Unfit = refl
 
-abbrev other-kinds : List ℕ
-other-kinds = 0 ∷ 1 ∷ 2 ∷ 4 ∷ 5 ∷ 6 ∷ []
-
-not-carried : (b : List ℕ) (u : Unpacked) → OneOf other-kinds (tagOf the-type u) → false ≡ isCarried (entryOf b u)
-not-carried b Refused k = refl
-not-carried b Blank k = refl
-not-carried b Torn k = refl
-not-carried b (Opening p) k = absurd (miss other-kinds 3 tt k)
-not-carried b (Image p) k = refl
-not-carried b (Outcome p) k = refl
-not-carried b Unfit k = refl
-
-module _ (s : List ℕ) (p files : ℕ) (u : Unpacked) (e : u ≡ tested (pageBytes s p) p files) where
-  pub carried-other : OneOf other-kinds (tagOf the-type u) → false ≡ isCarried (decoded files s p)
-  carried-other k = not-carried (pageBytes s p) u k ∙ ap isCarried (decoded-is s p files u e)
-
-  pub carried-opening : (x : Page) → u ≡ Opening x → eqb (x .small) 1 ≡ isCarried (decoded files s p)
-  carried-opening x q = ap (λ (y : Unpacked). isCarried (entryOf (pageBytes s p) y)) (sym q) ∙ ap isCarried (decoded-is s p files u e)
+pub carried-decoded : (s : List ℕ) (p files : ℕ) → isCarriedPage (tested (pageBytes s p) p files) ≡ isCarried (decoded files s p)
+unfolding decoded
+carried-decoded s p files = carried-entry (pageBytes s p) (tested (pageBytes s p) p files)
 
 pub opening-decoded : (s : List ℕ) (p files : ℕ) → isOpeningPage (tested (pageBytes s p) p files) ≡ isOpening (decoded files s p)
 unfolding decoded

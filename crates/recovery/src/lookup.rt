@@ -68,11 +68,7 @@ pub fn is_opening_at(sheet: &[u8], place: u64, files: u64) -> bool
 pub fn is_carried_at(sheet: &[u8], place: u64, files: u64) -> bool
     ensures { λ r. ⌜ r ≡ isCarried (decoded files (now (sheet .entry)) place) ⌝ }
 {
-    let found = page_at(sheet, place, files);
-    let Unpacked::Opening(p) = found else {
-        return false;
-    };
-    p.small == 1
+    Page::is_carried(part_at(sheet, place), place, files)
 }
 
 // Whether the page at a place is an outcome of an action.
