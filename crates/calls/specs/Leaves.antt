@@ -1,12 +1,13 @@
 -- What a call leaves of what is lent: the one form of every call's contract.
 use mathlib.Core.List.{List, _++_}
-use mathlib.Core.Bool.{cond}
+use mathlib.Core.Bool.{cond, _&&_}
 use Prim.Native.Nat.{ℕ, suc, _+_, _-_, _*_}
 use lib.ListN.{length, take, drop, replicate}
-use lib.Dec.{eqb}
+use lib.Dec.{eqb, leb}
 use Rattle.page.specs.declared.Page.{Page}
 use Rattle.page.specs.Layout.{pageSize, valueSize}
-use Rattle.page.specs.Table.{packed}
+use Rattle.page.specs.Table.{packed, meetsRules}
+use Rattle.page.specs.Answers.{inBounds}
 use Rattle.page.specs.Table as table
 use Rattle.recovery.specs.Log.{Entry, blank, torn, bad, opening, image, outcome}
 use Rattle.recovery.specs.declared.State.{State}
@@ -42,6 +43,13 @@ packedEntry place g = packed (fieldsAt place g) (valueAt g) place
 -- the sheet with the page above place q replaced
 unfoldable pub withPage : List ℕ → ℕ → List ℕ → List ℕ
 withPage s q page = take (pageSize * q) s ++ (page ++ drop (pageSize * q + pageSize) s)
+
+-- the sheet with a page above place q, where there is room for it and it obeys the rules; else as it was
+unfoldable pub appended : List ℕ → ℕ → ℕ → Page → List ℕ → List ℕ
+appended s q files page value =
+    cond (leb (pageSize * q + pageSize) (length s) && inBounds pageSize (suc q) files && meetsRules page value (suc q) files)
+    (withPage s q (packed page value (suc q)))
+    s
 
 -- ---- what is left
 

@@ -9,6 +9,7 @@ mod refusing;
 mod testing;
 mod writing;
 
+pub use appending::append;
 pub use beginning::begin;
 pub use deciding::abort;
 pub use deciding::commit;

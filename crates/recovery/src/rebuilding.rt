@@ -109,7 +109,7 @@ pub fn row_holds_by(end: u64, row: Row, current: Sought, token: Sought) -> bool
 }
 
 // Line 7.
-fn row_holds_in(sheet: &[u8], end: u64, files: u64, file: u64, row: Row) -> bool
+pub fn row_holds_in(sheet: &[u8], end: u64, files: u64, file: u64, row: Row) -> bool
     ensures { λ r. ⌜ r ≡ rowHoldsIn (now (sheet .entry)) files end file row ⌝ }
 {
     let current = image_at(sheet, row.current, files, file);

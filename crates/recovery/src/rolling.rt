@@ -5,7 +5,7 @@ ghost use Prim.Native.Nat.{max};
 ghost use Rattle.recovery.specs.RollSteps.{raised};
 
 // The later of two times.
-fn later(a: u64, b: u64) -> u64
+pub fn later(a: u64, b: u64) -> u64
     ensures { λ r. ⌜ r ≡ max a b ⌝ }
 {
     if a < b {

@@ -1,11 +1,16 @@
--- `calls::appending::append`: the page that pack leaves, put back into the sheet. Assumes nothing.
-use Rattle.calls.proofs.Appends.{put-page, pack-left}
-use Rattle.calls.specs.Leaves.{withPage}
+-- `calls::appending::append`: nothing without room, else what pack leaves of the page, put back into the sheet. Assumes nothing.
+use Rattle.calls.proofs.Appends.{none-left, pack-left}
 use denote.Ref.{now}
-use mathlib.Core.Path.{ap, _∙_}
+use mathlib.Core.Path.{refl}
+use native.Mathlib.Omega.{arith}
 use borrow.Author.Needs.{needs}
 use Rattle.calls.proofs.appending.append.Statement.{statement}
 use Rattle.calls.proofs.appending.append.Tie as tie
+
+returns : tie.Need-returns
+returns c =
+    let a = c .before .before .args in
+    none-left (now (a .sheet)) (a .page) (now (a .value)) (a .end) (a .files) (c .if1 .taken)
 
 mul-a : tie.Need-mul-a
 mul-a c = search needs
@@ -31,18 +36,17 @@ pack-requires c κs = search needs
 same-length : tie.Need-same-length
 same-length c = search needs
 
-returns : tie.Need-returns
-returns c =
-    let start = c .before .before .before .before .before in
-    let a = start .args in
+returns-2 : tie.Need-returns-2
+returns-2 c =
+    let a = c .before .before .before .before .before .before .args in
     let p = c .before .before .pack in
-    put-page (now (a .sheet)) (a .end) (p .last .1 .1 .1 .1 .0)
-    ∙ ap (withPage (now (a .sheet)) (a .end)) (pack-left (now (a .sheet)) (a .page) (now (a .value)) (a .end) (a .files) (p .result) (p .last .1 .1 .1 .1 .0) (start .pre .0) (start .pre .1) (start .pre .2) (p .ensures))
+    pack-left (now (a .sheet)) (a .page) (now (a .value)) (a .end) (a .files) (p .result) (p .last .1 .1 .1 .1 .0) _ (omega arith) (p .ensures) refl
 
 pub append-spec : {M : Type 1} → statement M
 append-spec =
     tie.close
     (tie.spec
+    returns
     mul-a
     add-e
     add-pack
@@ -51,4 +55,4 @@ append-spec =
     part-pack-end
     pack-requires
     same-length
-    returns)
+    returns-2)

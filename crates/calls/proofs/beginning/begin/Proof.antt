@@ -2,13 +2,14 @@
 use denote.Ref.{now}
 use lib.ListN.{length}
 use mathlib.Core.Bool.{true}
-use mathlib.Core.Path.{_≡_}
+use mathlib.Core.Path.{_≡_, _∙_}
 use native.Mathlib.Omega.{arith}
 use Prim.Native.Nat.{_+_, _-_, _/_, _≤_}
 use Rattle.page.specs.Layout.{pageSize}
 use Rattle.recovery.specs.Steps.{lineOne}
 use Rattle.encoding.proofs.Logic.{refused, passed}
 use Rattle.calls.proofs.Ends.{Lent, lent-is, by-refuse, ends-line-1}
+use Rattle.calls.proofs.Appends.{appended-is}
 use Rattle.calls.proofs.BeginEnds.{begin-refused, begin-room, begin-asked, begin-done}
 use borrow.Author.Needs.{needs}
 use Rattle.calls.proofs.beginning.begin.Statement.{statement}
@@ -59,9 +60,7 @@ opening-requires : tie.Need-opening-requires
 opening-requires c κs = search needs
 
 append-requires : tie.Need-append-requires
-append-requires c κs =
-    let a = c .before .before .before .before .before .before .before .before .before .before .before .before .before .args in
-    rw (c .before .before .opening .ensures, c .before .before .before .before .before .before .before .file-count .ensures) (begin-asked (now (a .sheet)) (now (a .fates)) (now (a .rows)) (a .state) (fit (c .before .before .before .before .before .before .before .before)) _ (rw (c .before .before .before .before .before .before .before .file-count .ensures) at (c .before .before .before .before .room-line .ensures)) (c .before .before .before .if2 .left))
+append-requires c κs = search needs
 
 slice-write-fates : tie.Need-slice-write-fates
 slice-write-fates c = let k = known (c .before .before .before .before .before .before .before .before .before .before .before) .sizes in omega (arith, k, room (c .before .before .before .before .before .before))
@@ -76,7 +75,9 @@ same-length-3 : tie.Need-same-length-3
 same-length-3 c = search needs
 
 returns-3 : tie.Need-returns-3
-returns-3 c = begin-done _ _ _ _ (fit (c .before .before .before .before .before .before .before .before .before .before .before .before)) _ (rw (c .before .before .before .before .before .before .before .before .before .before .before .file-count .ensures) at (c .before .before .before .before .before .before .before .before .room-line .ensures)) (c .before .before .before .before .before .before .before .if2 .left) _ (rw (c .before .before .before .before .before .before .opening .ensures) at (c .before .before .before .append .ensures))
+returns-3 c =
+    let a = c .before .before .before .before .before .before .before .before .before .before .before .before .before .before .before .before .before .args in
+    begin-done _ _ _ _ (fit (c .before .before .before .before .before .before .before .before .before .before .before .before)) _ (rw (c .before .before .before .before .before .before .before .before .before .before .before .file-count .ensures) at (c .before .before .before .before .before .before .before .before .room-line .ensures)) (c .before .before .before .before .before .before .before .if2 .left) _ (rw (c .before .before .before .before .before .before .opening .ensures) at (c .before .before .before .append .ensures ∙ appended-is _ _ _ _ _ (rw (c .before .before .before .before .before .before .opening .ensures, c .before .before .before .before .before .before .before .before .before .before .before .file-count .ensures) (begin-asked (now (a .sheet)) (now (a .fates)) (now (a .rows)) (a .state) (fit (c .before .before .before .before .before .before .before .before .before .before .before .before)) _ (rw (c .before .before .before .before .before .before .before .before .before .before .before .file-count .ensures) at (c .before .before .before .before .before .before .before .before .room-line .ensures)) (c .before .before .before .before .before .before .before .if2 .left)))))
 
 pub begin-spec : {M : Type 1} → statement M
 begin-spec =

@@ -3,7 +3,9 @@
 use Prim.Native.Nat.{_<_}
 use Rattle.page.specs.Layout.{mostPlaces}
 use denote.Ref.{now}
+use mathlib.Core.Path.{_∙_}
 use native.Mathlib.Omega.{arith}
+use Rattle.calls.proofs.Appends.{appended-is}
 use Rattle.calls.proofs.DecideEnds.{Ready, ready, decide-again, decide-refused, end-low, rows-whole, outcome-asked, decide-done}
 use Rattle.calls.proofs.Ends.{by-refuse}
 use borrow.Author.Needs.{needs}
@@ -71,10 +73,7 @@ outcome-page-requires : tie.Need-outcome-page-requires
 outcome-page-requires c κs = search needs
 
 append-requires : tie.Need-append-requires
-append-requires c κs =
-    let e = c .before .before .before .before .before .before .before .before .before .before in
-    let a = e .before .before .before .before .before .before .before .before .before .before .args in
-    rw (e .before .before .file-count .ensures) (outcome-asked (now (a .sheet)) (now (a .fates)) (now (a .rows)) (a .state) (a .action) (a .committed) (known e) _ (c .before .before .outcome-page .ensures))
+append-requires c κs = search needs
 
 outcome-fate-requires : tie.Need-outcome-fate-requires
 outcome-fate-requires c κs = search needs
@@ -109,7 +108,8 @@ returns-3 : tie.Need-returns-3
 returns-3 c =
     let d = c .before .before .before .before .before .before .before .before .before .before in
     let e = d .before .before .before .before .before in
-    decide-done _ _ _ _ _ _ (known e) _ (c .before .before .before .before .before .before .before .outcome-page .ensures) _ _ _ _ (c .before .before .before .before .append .ensures) (c .before .outcome-fate .ensures) (rw (e .before .before .file-count .ensures) at (d .settle-rows .ensures)) (c .less-one .ensures)
+    let a = e .before .before .before .before .before .before .before .before .before .before .args in
+    decide-done _ _ _ _ _ _ (known e) _ (c .before .before .before .before .before .before .before .outcome-page .ensures) _ _ _ _ (c .before .before .before .before .append .ensures ∙ appended-is _ _ _ _ _ (rw (e .before .before .file-count .ensures) (outcome-asked (now (a .sheet)) (now (a .fates)) (now (a .rows)) (a .state) (a .action) (a .committed) (known e) _ (c .before .before .before .before .before .before .before .outcome-page .ensures)))) (c .before .outcome-fate .ensures) (rw (e .before .before .file-count .ensures) at (d .settle-rows .ensures)) (c .less-one .ensures)
 
 pub decide-spec : {M : Type 1} → statement M
 decide-spec =

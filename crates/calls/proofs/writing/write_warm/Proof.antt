@@ -3,6 +3,7 @@ use mathlib.Core.Path.{sym, _∙_}
 use denote.Ref.{now}
 use lib.ListN.{length}
 use native.Mathlib.Omega.{arith}
+use Rattle.calls.proofs.Appends.{appended-is}
 use Rattle.calls.proofs.WriteEnds.{write-refused, append-asked, write-done}
 use Rattle.calls.proofs.Ends.{lent-is}
 use borrow.Author.Needs.{needs}
@@ -50,10 +51,7 @@ image-requires : tie.Need-image-requires
 image-requires c κs = search needs
 
 append-requires : tie.Need-append-requires
-append-requires c κs =
-    let b = c .before .before .before .before .before .before .before .before .before .before .before .before .before .before .before .before .before .before .before .before .before .before .before .before in
-    let a = b .args in
-    rw (c .before .before .before .before .before .before .before .before .before .before .before .before .before .before .before .before .before .before .file-count .ensures) (append-asked (now (a .sheet)) (now (a .fates)) (now (a .rows)) (a .state) (b .pre .0) (a .file) (a .start) (a .action) (now (a .value)) (b .pre .1) (b .pre .2) (b .pre .3) _ _ (c .before .before .before .before .before .before .before .before .before .before .before .before .before .before .before .warm-row .ensures) _ (rw (c .before .before .before .before .before .before .before .before .before .before .before .before .before .before .before .before .before .before .file-count .ensures) at (sym (c .before .before .before .before .before .before .before .before .before .answer .given .1) ∙ c .before .before .before .before .before .before .before .before .before .before .before .write-answer .ensures)) (b .fits .start .fits) _ (c .before .before .image .ensures) _ (c .before .before .before .before .before .before .before .before .before .before .before .before .before .before .before .before .before .before .before .pad .ensures))
+append-requires c κs = search needs
 
 same-length-3 : tie.Need-same-length-3
 same-length-3 c = search needs
@@ -65,7 +63,7 @@ returns-2 : tie.Need-returns-2
 returns-2 c =
     let b = c .before .before .before .before .before .before .before .before .before .before .before .before .before .before .before .before .before .before .before .before .before .before .before .before .before .before .before in
     let a = b .args in
-    write-done (now (a .sheet)) (now (a .fates)) (now (a .rows)) (a .state) (b .pre .0) (a .file) (a .start) (a .action) (now (a .value)) (b .pre .1) (b .pre .2) (b .pre .3) _ _ (c .before .before .before .before .before .before .before .before .before .before .before .before .before .before .before .before .before .before .warm-row .ensures) _ (rw (c .before .before .before .before .before .before .before .before .before .before .before .before .before .before .before .before .before .before .before .before .before .file-count .ensures) at (sym (c .before .before .before .before .before .before .before .before .before .before .before .before .answer .given .1) ∙ c .before .before .before .before .before .before .before .before .before .before .before .before .before .before .write-answer .ensures)) _ (c .before .before .before .before .before .image .ensures) _ (c .before .before .before .before .before .before .before .before .before .written-row .ensures) _ _ _ (c .before .before .before .before .before .before .before .before .before .before .before .before .before .before .before .before .before .before .before .before .before .before .pad .ensures) (c .before .before .append .ensures) (c .before .before .before .before .before .before .before .before .set-row .ensures)
+    write-done (now (a .sheet)) (now (a .fates)) (now (a .rows)) (a .state) (b .pre .0) (a .file) (a .start) (a .action) (now (a .value)) (b .pre .1) (b .pre .2) (b .pre .3) _ _ (c .before .before .before .before .before .before .before .before .before .before .before .before .before .before .before .before .before .before .warm-row .ensures) _ (rw (c .before .before .before .before .before .before .before .before .before .before .before .before .before .before .before .before .before .before .before .before .before .file-count .ensures) at (sym (c .before .before .before .before .before .before .before .before .before .before .before .before .answer .given .1) ∙ c .before .before .before .before .before .before .before .before .before .before .before .before .before .before .write-answer .ensures)) _ (c .before .before .before .before .before .image .ensures) _ (c .before .before .before .before .before .before .before .before .before .written-row .ensures) _ _ _ (c .before .before .before .before .before .before .before .before .before .before .before .before .before .before .before .before .before .before .before .before .before .before .pad .ensures) (c .before .before .append .ensures ∙ appended-is _ _ _ _ _ (rw (c .before .before .before .before .before .before .before .before .before .before .before .before .before .before .before .before .before .before .before .before .before .file-count .ensures) (append-asked (now (a .sheet)) (now (a .fates)) (now (a .rows)) (a .state) (b .pre .0) (a .file) (a .start) (a .action) (now (a .value)) (b .pre .1) (b .pre .2) (b .pre .3) _ _ (c .before .before .before .before .before .before .before .before .before .before .before .before .before .before .before .before .before .before .warm-row .ensures) _ (rw (c .before .before .before .before .before .before .before .before .before .before .before .before .before .before .before .before .before .before .before .before .before .file-count .ensures) at (sym (c .before .before .before .before .before .before .before .before .before .before .before .before .answer .given .1) ∙ c .before .before .before .before .before .before .before .before .before .before .before .before .before .before .write-answer .ensures)) (b .fits .start .fits) _ (c .before .before .before .before .before .image .ensures) _ (c .before .before .before .before .before .before .before .before .before .before .before .before .before .before .before .before .before .before .before .before .before .before .pad .ensures)))) (c .before .before .before .before .before .before .before .before .set-row .ensures)
 
 pub write-warm-spec : {M : Type 1} → statement M
 write-warm-spec =

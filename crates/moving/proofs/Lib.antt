@@ -1,0 +1,10 @@
+pub mod Lowest
+pub mod Rows
+pub mod CarriedPages
+pub mod StoredPages
+pub mod FreshLog
+pub mod FreshOpened
+pub mod Went
+pub mod MoveLaws
+pub mod MoveEnds
+pub mod MoveCall

@@ -1,0 +1,4 @@
+pub mod Moved
+pub mod MoveLeaves
+pub mod MoveSteps
+pub mod Promised
