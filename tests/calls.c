@@ -601,7 +601,7 @@ static uint64_t spoil(enum damaged what, struct call *q) {
         revive(q);
     if (what == ANYTHING && below(10) == 0)
         twist(q);
-    if (what == ANYTHING && below(10) == 0)
+    if (what == ANYTHING && below(5) == 0)
         carry_version(q);
     if (what == ROWS_ALONE && below(6) == 0)
         misname(q);

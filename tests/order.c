@@ -1,5 +1,5 @@
-/* The order in which an append's bytes reach the sheet, in the code as it was compiled: the calls of the library, and the program
-   itself in a short conversation, run one instruction at a time. After each the whole sheet is looked at: only the page above
+/* The order in which an append's bytes reach the sheet, in the code as it was compiled: the calls of the library, a move to a fresh sheet, and
+   the program itself in a short conversation, run one instruction at a time. After each the whole sheet is looked at: only the page above
    the end may have changed, byte 0 is stored before any other of it and alone, byte 63 after all others and alone, and between
    them each byte goes once from 0 to what it will be, in any order. A store of what already stands is not seen.
 
@@ -171,7 +171,7 @@ static void controls(void) {
     found_out("a byte that is first another one is found out", another_byte_first);
 }
 
-/* ---- the library and the program */
+/* ---- the calls of the library */
 
 /* Two actions: begin, write, write the same file again, commit; begin, write, abort. The first value has no byte that is 0. */
 static const char text[] = "all-thirty-two-bytes-of-a-value.", short_text[] = "AB", again_text[] = "C";
@@ -212,6 +212,37 @@ static void calls(void) {
         l.end = told[END], l.undecided = told[UNDECIDED];
     }
 }
+
+/* ---- a move: its pages are stored in order of place, each as an append stores it */
+
+static uint8_t old[APPENDS * PAGE];
+
+/* Five files with versions, from the last down; the fresh pages are in file order. */
+static void expect_moved(void) {
+    static const uint64_t files[] = {2, 3, 5, 6, 8};
+    uint8_t value[32] = {0};
+    plain_pack(old, 1, 0, 0, 1, 0, 0, value, 1);
+    plain_pack(old + PAGE * (APPENDS - 1), 3, 1, 0, 1, 0, 0, value, APPENDS);
+    plain_pack(whole[1], 1, 1, 0, 1, 0, 0, value, 1);
+    plain_pack(whole[APPENDS], 3, 1, 0, 1, 0, 0, value, APPENDS);
+    for (uint64_t i = 0; i < APPENDS - 2; i++) {
+        int length = i == 0 ? 32 : (int)i;
+        memset(value, 0, sizeof value);
+        memcpy(value, text, (size_t)length);
+        plain_pack(old + PAGE * (APPENDS - 2 - i), 2, length, files[i], 1, 0, LATE + i, value, APPENDS - 1 - i);
+        plain_pack(whole[i + 2], 2, length, files[i], 1, 0, LATE + i, value, i + 2);
+    }
+}
+
+/* Onto the sheet that is watched. */
+static void move(void) {
+    static uint8_t fates[APPENDS] = {2};
+    static uint64_t rows[ROW_LENGTH * FILES];
+    uint64_t told[TOLD];
+    make_move((struct lent){old, sizeof old, fates, APPENDS, rows, ROW_LENGTH * FILES, APPENDS, 0, 0}, sheet, sizeof sheet, told);
+}
+
+/* ---- the program */
 
 /* Where the program keeps its sheet: the one place of what it may write that has the opening and then the rest of a blank sheet. */
 static void *sheet_of(pid_t process) {
@@ -313,6 +344,9 @@ int main(int count, char **words) {
     struct watch w = watched(calls, &right);
     told("the calls of the library store each page from byte 0 to byte 63", right && w.end == APPENDS);
     told("so does the program", talked(words[1]));
+    expect_moved();
+    w = watched(move, &right);
+    told("so does a move, and its pages in order of place", right && w.end == APPENDS);
     printf("%d passed, %d failed\n", passed, failed);
     return failed != 0;
 }
