@@ -9,17 +9,21 @@
 .PHONY: all test check-long bench install uninstall clean help
 
 LIBRARY = target/staticlib/libdesk.a
+HARNESS = target/staticlib/libharness.a
 SOURCES = $(shell find crates -name '*.rt')
 COMMANDS = 20000000
 PREFIX = /usr/local
 INTO = $(DESTDIR)$(PREFIX)
 
-all: build/sheet build/model build/model-pages
+all: build/sheet build/model build/model-pages build/model-moves
 	rt check
 	@echo 'target/bin/console: the command program. build/sheet: the tool for sheets.'
 
 $(LIBRARY): $(SOURCES)
 	rt staticlib desk
+
+$(HARNESS): $(SOURCES)
+	rt staticlib harness
 
 build/sheet: c/sheet.c c/desk.h $(LIBRARY)
 	@mkdir -p build
@@ -33,15 +37,20 @@ build/model-pages: $(wildcard model/*.rs) $(LIBRARY)
 	@mkdir -p build
 	rustc -O --edition 2021 -D warnings -L $(dir $(LIBRARY)) -l static=desk -o $@ model/pages.rs
 
+build/model-moves: $(wildcard model/*.rs) $(HARNESS)
+	@mkdir -p build
+	rustc -O --edition 2021 -D warnings -L $(dir $(HARNESS)) -l static=harness -o $@ model/moves.rs
+
 target/bin/console: $(SOURCES)
 	rt check console
 
 test:
 	.ci/run
 
-check-long: build/model build/model-pages target/bin/console
+check-long: build/model build/model-pages build/model-moves target/bin/console
 	build/model check target/bin/console $(or $(SEED),$(shell date +%s)) $(COMMANDS)
 	build/model-pages $(or $(SEED),$(shell date +%s)) $(shell expr $(COMMANDS) / 4)
+	build/model-moves $(or $(SEED),$(shell date +%s)) $(shell expr $(COMMANDS) / 4)
 
 bench:
 	bench/run
