@@ -15,8 +15,8 @@ static const uint8_t none[32];
 
 /* How a sheet is filled: actions are an opening, six images and an outcome each, and may have a small one below them, an opening and its
    outcome. Images are all under one opening, and their starts grow with the place, or fall. Tokens are one a file, all of one action or all but
-   the last of another. */
-enum fill { BLANK, OPENINGS, IMAGES, FALLING_IMAGES, TORN, ACTIONS, SMALL_ACTION, LINKS, TOKENS, OTHERS_TOKENS };
+   the last of another; versions are one a file, of one action. The rows of both are rebuilt. */
+enum fill { BLANK, OPENINGS, IMAGES, FALLING_IMAGES, TORN, ACTIONS, SMALL_ACTION, LINKS, TOKENS, OTHERS_TOKENS, VERSIONS };
 
 struct sheet {
     uint8_t *bytes, *fates;
@@ -154,6 +154,14 @@ static uint64_t run_commit_past(struct sheet s) {
     uint64_t which = called(s, FILES, FILES + 2, 2, (struct call){.kind = COMMIT, .action = 2}, WHICH);
     return which == STORED && last[CURRENT] == FILES + 2 && s.numbers[TOKEN] == 3;
 }
+/* A move of every file's version to a sheet of 1,024 pages, and what it has stored put back to 0. */
+static uint64_t run_move(struct sheet s) {
+    static uint8_t fresh[PAGE * 1024];
+    uint64_t told[TOLD], end = FILES + 2;
+    memset(fresh, 0, PAGE * end);
+    make_move((struct lent){s.bytes, PAGE * s.pages, s.fates, s.pages, s.numbers, ROW_LENGTH * FILES, end, 0, 0}, fresh, sizeof fresh, told);
+    return told[WHICH] == MOVED && told[FIRST] == 1 && fresh[PAGE * end - 1] == 0xA5 && fresh[PAGE * end] == 0;
+}
 
 struct row {
     const char *what;
@@ -217,19 +225,33 @@ static void fill_tokens(struct sheet s, uint64_t openings) {
     }
 }
 
+/* The tokens of one action, committed. */
+static void fill_versions(struct sheet s) {
+    fill_tokens(s, 1);
+    plain_pack(s.bytes + PAGE * (FILES + 1), 3, 1, 0, 1, 0, 0, none, FILES + 2);
+    s.fates[0] = 2;
+    for (uint64_t f = 0; f < FILES; f++) {
+        uint64_t *row = s.numbers + ROW_LENGTH * f;
+        row[CURRENT] = row[TOKEN], row[CURRENT_END] = row[TOKEN_END];
+        row[TOKEN] = row[TOKEN_END] = row[TOKEN_ACTION] = 0;
+    }
+}
+
 static struct sheet filled(enum fill fill, uint64_t pages) {
     struct sheet s = {calloc(pages, PAGE), calloc(pages, 1), calloc(ROW_LENGTH * FILES, sizeof *s.numbers), pages};
     if (!s.bytes || !s.fates || !s.numbers)
         exit(1);
-    int is_of_actions = fill == ACTIONS || fill == SMALL_ACTION, is_of_tokens = fill == TOKENS || fill == OTHERS_TOKENS;
+    int is_of_actions = fill == ACTIONS || fill == SMALL_ACTION, is_of_rows = fill == TOKENS || fill == OTHERS_TOKENS || fill == VERSIONS;
     if (is_of_actions) {
         fill_actions(s, fill == SMALL_ACTION ? 2 : 0);
         run_open(s); /* sets the fates that rebuild, read and test go by */
     }
-    if (is_of_tokens)
+    if (fill == VERSIONS)
+        fill_versions(s);
+    else if (is_of_rows)
         fill_tokens(s, fill == TOKENS ? 1 : 2);
     s.fates[0] = fill == LINKS ? 2 : s.fates[0];
-    for (uint64_t p = 1; fill != BLANK && !is_of_actions && !is_of_tokens && p <= pages; p++) {
+    for (uint64_t p = 1; fill != BLANK && !is_of_actions && !is_of_rows && p <= pages; p++) {
         uint8_t *page = s.bytes + PAGE * (p - 1);
         if (fill == OPENINGS || p == 1)
             plain_pack(page, 1, 0, 0, p, 0, 0, none, p);
@@ -346,6 +368,7 @@ static void time_calls(void) {
         {"commit that settles 256 rows, a row", run_commit, TOKENS, 1, 0, 0, {0}, FILES},
         {"commit past 255 tokens of another action, a row", run_commit_past, OTHERS_TOKENS, 1, 0, 0, {0}, FILES},
         {"commit asked again after the commit", run_again, ACTIONS, -2, 0, 0, {0}, 0},
+        {"move of 256 files, a row", run_move, VERSIONS, 1, 0, 0, {0}, FILES},
     };
     TABLE("the calls, 1,024 pages", calls, 1024, 100, 8);
 }
