@@ -117,7 +117,7 @@ pub record Carries (w : World) (k : ℕ) : Type 0 where
   pub file-is : (f : ℕ) (i : Image) → 1 ≤ f → f ≤ k → versionOf w f ≡ some i → i .file ≡ f
   pub started : (f : ℕ) (i : Image) → 1 ≤ f → f ≤ k → versionOf w f ≡ some i → 1 ≤ i .start
 
-carries-less : (w : World) (k : ℕ) → Carries w (suc k) → Carries w k
+pub carries-less : (w : World) (k : ℕ) → Carries w (suc k) → Carries w k
 carries-less w k c = record {
   file-is = λ f i h l e. c .file-is f i h (omega arith) e;
   started = λ f i h l e. c .started f i h (omega arith) e;
@@ -128,7 +128,7 @@ placedBy p none = []
 placedBy p (some i) = record { place = p; image = carried i } ∷ []
 
 module _ (w : World) where
-  none-above : (k f : ℕ) → Carries w k → k < f → imagesOf (logTo w k) f ≡ []
+  pub none-above : (k f : ℕ) → Carries w k → k < f → imagesOf (logTo w k) f ≡ []
   unfolding logTo imagesOf
   none-above zero f c h = refl
   none-above (suc k) f c h = go (versionOf w (suc k)) refl (none-above k f (carries-less w k c) (omega arith))
@@ -138,6 +138,18 @@ module _ (w : World) where
       go (some i) e r =
           let q = c .file-is (suc k) i (omega arith) (omega arith) e in
           rw (ne-eqb (i .file) f (λ z. omega arith)) r
+
+  -- no image is one of file 0
+  pub none-zero : (k : ℕ) → Carries w k → imagesOf (logTo w k) 0 ≡ []
+  unfolding logTo imagesOf
+  none-zero zero c = refl
+  none-zero (suc k) c = go (versionOf w (suc k)) refl (none-zero k (carries-less w k c))
+    where
+      go : (v : Option Image) → versionOf w (suc k) ≡ v → imagesOf (logTo w k) 0 ≡ [] → imagesOf (topped v (logTo w k)) 0 ≡ []
+      go none e r = r
+      go (some i) e r =
+          let q = c .file-is (suc k) i (omega arith) (omega arith) e in
+          rw (ne-eqb (i .file) 0 (λ z. omega arith)) r
 
   -- each file's one image, at its place
   pub one-image : (k f : ℕ) → Carries w k → 1 ≤ f → f ≤ k → imagesOf (logTo w k) f ≡ placedBy (suc (countTo w f)) (versionOf w f)

@@ -3,8 +3,14 @@ pub mod Rows
 pub mod CarriedPages
 pub mod StoredPages
 pub mod FreshLog
+pub mod FreshVersions
 pub mod FreshOpened
 pub mod Went
 pub mod MoveLaws
 pub mod MoveEnds
 pub mod MoveCall
+pub mod ReadAlike
+pub mod Floor
+pub mod FreshCut
+pub mod DecodedBytes
+pub mod MoveRefusals
