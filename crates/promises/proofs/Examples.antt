@@ -402,19 +402,19 @@ late-writes = hears-by 12 2 (at late) (calls (write 1 13 7 [])) (Stored 10) (is-
 -- ---- each promise of it
 
 -- the page of the older version, found at the end; it is committed
-pub found-met : IsPageOf older (pageIn 12 2 (boxAt late) 2)
+pub found-met : IsPageOf older (pageIn 2 (boxAt late) 2)
 found-met = promised 12 2 .found (at begun) (at (does (decide 1 true) ∷ does (read 1 6 0) ∷ newer ++ does token ∷ tail)) older 2 late-run writes
 
 abbrev seen : Image
 seen = record { file = 1; action = 1; link = found-met .0; start = 5; value = 7 ∷ [] }
 
-pub none-shown-met : Shown 12 2 (boxAt late) 1 6 0 2 5 1
+pub none-shown-met : Shown 2 (boxAt late) 1 6 0 2 5 1
 none-shown-met = promised 12 2 .none-shown (at late) 1 6 0 2 5 1 late-run late-reads
 
-effective-met : IsEffective 12 2 (boxAt late) 2 seen
-effective-met = subst (IsEffective 12 2 (boxAt late) 2) (image-same (sym (none-shown-met .effective .here) ∙ found-met .1)) (none-shown-met .effective)
+effective-met : IsEffective 2 (boxAt late) 2 seen
+effective-met = subst (IsEffective 2 (boxAt late) 2) (image-same (sym (none-shown-met .effective .here) ∙ found-met .1)) (none-shown-met .effective)
 
-version-met : IsVersion 12 2 (boxAt late) 1 2 seen
+version-met : IsVersion 2 (boxAt late) 1 2 seen
 version-met = (effective-met, refl, (3, late-committed))
 
 pub highest-met : 5 ≤ 5
@@ -437,10 +437,10 @@ pub opened-met : isRefused (openLeaves (sheetOf (boxAt late)) fates rows 0 .answ
 opened-met = promised 12 2 .opened (at late) 0 fates rows late-run refl refl
 
 -- the commit cut after all 64 bytes, after 20, after none
-pub found-cut-met : IsPageOf (decide 7 true) (pageIn 12 2 (boxAt (life ++ cut (decide 7 true) 64 ∷ [])) 9)
+pub found-cut-met : IsPageOf (decide 7 true) (pageIn 2 (boxAt (life ++ cut (decide 7 true) 64 ∷ [])) 9)
 found-cut-met = promised 12 2 .found-cut (at life) [] (decide 7 true) 9 (firstBytes 64) (is-run 12 2 (life ++ cut (decide 7 true) 64 ∷ []) refl) refl would-commit
 
-pub torn-cut-met : pageIn 12 2 (boxAt late) 9 ≡ torn
+pub torn-cut-met : pageIn 2 (boxAt late) 9 ≡ torn
 unfolding latest hasCarried
 torn-cut-met = promised 12 2 .torn-cut (at life) (at (opened 6 ∷ [])) (decide 7 true) 9 (firstBytes 20) late-run refl refl would-commit
     (λ e. let z : blank ≡ outcome 7 true = sym (blank-above 12 2 (at life) (is-run 12 2 life refl) 9 (omega arith) (omega arith)) ∙ e in clash cc)
@@ -498,10 +498,10 @@ pub can-be-decided-met : (place : ℕ) × Hears (boxAt late) (calls (decide 7 tr
 unfolding latest hasCarried
 can-be-decided-met = promised 12 2 .can-be-decided (at late) 7 true late-run (0, late-open) (blank-above 12 2 (at late) late-run 12 (omega arith) (omega arith))
 
-pub whole-or-none-met : AllShow 12 2 (boxAt late) 7 ⊎ NoneShows 12 2 (boxAt late) 7
+pub whole-or-none-met : AllShow 2 (boxAt late) 7 ⊎ NoneShows 2 (boxAt late) 7
 whole-or-none-met = promised 12 2 .whole-or-none (at late) 7 late-run
 
-pub all-shown-met : ShowsAt 12 2 (boxAt late) 2 seen
+pub all-shown-met : ShowsAt 2 (boxAt late) 2 seen
 all-shown-met = promised 12 2 .all-shown (at late) 2 seen late-run effective-met (3, late-committed)
 
 -- the token written again, from 7 on, whole or cut after 20 bytes
@@ -522,13 +522,13 @@ twice-open : Told-of twice (does (test 7)) (Told 1 0)
 unfolding modelHeard latest hasCarried
 twice-open = hears-by 12 2 (at twice) (calls (test 7)) (Told 1 0) (is-run 12 2 (twice ++ does (test 7) ∷ []) refl) refl
 
-pub token-met : (link : ℕ) × IsEffective 12 2 (boxAt life) 8 (record { file = 2; action = 7; link = link; start = 9; value = 9 ∷ [] })
+pub token-met : (link : ℕ) × IsEffective 2 (boxAt life) 8 (record { file = 2; action = 7; link = link; start = 9; value = 9 ∷ [] })
 token-met = promised 12 2 .overtakes (at before) (calls token) 2 9 7 8 (9 ∷ []) (is-run 12 2 life refl) refl writes-token
 
-pub overtakes-met : (link : ℕ) × IsEffective 12 2 (boxAt twice) 9 (record { file = 2; action = 7; link = link; start = 7; value = 6 ∷ [] })
+pub overtakes-met : (link : ℕ) × IsEffective 2 (boxAt twice) 9 (record { file = 2; action = 7; link = link; start = 7; value = 6 ∷ [] })
 overtakes-met = promised 12 2 .overtakes (at life) (calls again) 2 7 7 9 (6 ∷ []) (is-run 12 2 twice refl) refl writes-again
 
-pub overtakes-cut-met : (link : ℕ) × IsEffective 12 2 (boxAt (life ++ cut again 64 ∷ [])) 9 (record { file = 2; action = 7; link = link; start = 7; value = 6 ∷ [] })
+pub overtakes-cut-met : (link : ℕ) × IsEffective 2 (boxAt (life ++ cut again 64 ∷ [])) 9 (record { file = 2; action = 7; link = link; start = 7; value = 6 ∷ [] })
 overtakes-cut-met = promised 12 2 .overtakes (at life) (eventOf 12 2 (cut again 64)) 2 7 7 9 (6 ∷ []) (is-run 12 2 (life ++ cut again 64 ∷ []) refl) (refl, refl) writes-again
 
 pub own-shown-met : Hears (boxAt twice) (calls (read 2 8 7)) (Value 9 7 1)
@@ -542,7 +542,7 @@ overtaken-met c file time reader start size h =
     let q = promised 12 2 .found (at life) (at (does (decide 7 c) ∷ [])) again 9 r writes-again in
     promised 12 2 .overtaken (at (twice ++ does (decide 7 c) ∷ [])) 8 9 file time reader start size _ _ r (p .1) (q .1) refl refl (omega arith) h
 
-pub torn-overtakes-none-met : IsEffective 12 2 (boxAt pulled) 8 (record { file = 2; action = 7; link = token-met .0; start = 9; value = 9 ∷ [] })
+pub torn-overtakes-none-met : IsEffective 2 (boxAt pulled) 8 (record { file = 2; action = 7; link = token-met .0; start = 9; value = 9 ∷ [] })
 torn-overtakes-none-met = promised 12 2 .torn-overtakes-none (at life) again (firstBytes 20) 8 _ (is-run 12 2 pulled refl) refl (token-met .1)
 
 pub alike-met : Value 2 5 1 ≡ Value 2 5 1

@@ -43,8 +43,8 @@ module _ (n files : ℕ) (b : Box) (r : Reached n files b) where
   there-before e t p j h =
       from-event n files b r e t p (image j) (solid-image j) (page-lies-in n files (after b e) (reached-next n files b r e t) p (image j) (solid-image j) h)
 
-  pub box-torn-none : (k : Call) (kept : ℕ → Bool) → Allowed n files (cuts k kept) → kept markAt ≡ false → (place : ℕ) (i : Image) → IsEffective n files b place i
-      → IsEffective n files (after b (cuts k kept)) place i
+  pub box-torn-none : (k : Call) (kept : ℕ → Bool) → Allowed n files (cuts k kept) → kept markAt ≡ false → (place : ℕ) (i : Image) → IsEffective files b place i
+      → IsEffective files (after b (cuts k kept)) place i
   box-torn-none k kept t h place i e = record {
     here = let y = page-lies-in n files b r place (image i) (solid-image i) (e .here) in stays n files b r (cuts k kept ∷ []) (t, tt) place (image i) (y .low) (y .high) (y .here);
     none-newer = λ p j q f a. turn p j f a (there-before (cuts k kept) t p j q);
@@ -68,7 +68,7 @@ module _ (n files : ℕ) (b : Box) (r : Reached n files b) where
         go (off u) r x = not-heard x
 
     pub box-overtakes : (e : Event) → Allowed n files e → IsWhole (write f s a v) e
-        → (link : ℕ) × IsEffective n files (after b e) place (record { file = f; action = a; link = link; start = s; value = v })
+        → (link : ℕ) × IsEffective files (after b e) place (record { file = f; action = a; link = link; start = s; value = v })
     box-overtakes e t w = let k = page e t w in (k .0, record { here = k .1; none-newer = λ p j q g c. turn p j (there-before e t p j q) })
       where
         page : (e : Event) → Allowed n files e → IsWhole (write f s a v) e → IsPageOf (write f s a v) (sealed files (sheetOf (after b e)) place)

@@ -188,24 +188,24 @@ module _ (n files : ℕ) (es : List Event) (r : Run n files es) where
   told-two : isOn box ≡ true → (action p : ℕ) → m .model .status action ≡ some (model.committed p) → answerTo box (calls (test action)) ≡ some (Told 2 p)
   told-two o action p e = answer-is n files box m (calls (test action)) tt ∙ rw (o, e)
 
-  all-show : (action p : ℕ) → answerTo box (calls (test action)) ≡ some (Told 2 p) → AllShow n files box action
+  all-show : (action p : ℕ) → answerTo box (calls (test action)) ≡ some (Told 2 p) → AllShow files box action
   all-show action p h place i here mine = hears box (calls (read (i .file) (i .start) 0)) (Value place (i .start) (length (i .value)))
       (box-all n files box m place i here p (subst (λ x. answerTo box (calls (test x)) ≡ some (Told 2 p)) (sym mine) h))
 
-  none-shows : (action : ℕ) → ((p : ℕ) → answerTo box (calls (test action)) ≡ some (Told 2 p) → ⊥) → NoneShows n files box action
+  none-shows : (action : ℕ) → ((p : ℕ) → answerTo box (calls (test action)) ≡ some (Told 2 p) → ⊥) → NoneShows files box action
   none-shows action h file time reader place start size i other here mine e =
       let v = box-shows n files box m file time reader place start size (answered box (calls (read file time reader)) (Value place start size) e) in
       let a : v .seen .action ≡ action = ap (λ (x : Image). x .action) (image-same (sym (v .effective .here) ∙ here)) ∙ mine in
       let w = v .whose (λ q. other (sym q ∙ a)) in
       h (w .0) (subst (λ x. answerTo box (calls (test x)) ≡ some (Told 2 (w .0))) a (answered box (calls (test (v .seen .action))) (Told 2 (w .0)) (w .1)))
 
-  not-two : (action : ℕ) (x : Fate) → fateOf (m .log) action ≡ x → (fateNumber x ≡ 2 → ⊥) → NoneShows n files box action
+  not-two : (action : ℕ) (x : Fate) → fateOf (m .log) action ≡ x → (fateNumber x ≡ 2 → ⊥) → NoneShows files box action
   not-two action x e h = none-shows action (λ p q. h (ap fateNumber (sym e) ∙ told-fate n files box m action 2 p q .2))
 
-  pub run-whole-or-none : (action : ℕ) → AllShow n files box action ⊎ NoneShows n files box action
+  pub run-whole-or-none : (action : ℕ) → AllShow files box action ⊎ NoneShows files box action
   run-whole-or-none action = go (isOn box) refl (fateOf (m .log) action) refl
     where
-      go : (c : Bool) → isOn box ≡ c → (x : Fate) → fateOf (m .log) action ≡ x → AllShow n files box action ⊎ NoneShows n files box action
+      go : (c : Bool) → isOn box ≡ c → (x : Fate) → fateOf (m .log) action ≡ x → AllShow files box action ⊎ NoneShows files box action
       go c o unknown e = inr (not-two action unknown e (λ q. omega arith))
       go c o undecided e = inr (not-two action undecided e (λ q. omega arith))
       go c o aborted e = inr (not-two action aborted e (λ q. omega arith))

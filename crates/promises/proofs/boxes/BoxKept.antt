@@ -1,30 +1,32 @@
 -- A page once stored, whole or in part, keeps its bytes; and a call that is cut before its first byte leaves the sheet as it was.
-use Prim.Native.Nat.{ℕ, zero, suc, _+_, _-_, _*_, _/_, min, _≤_, _<_}
+use Rattle.moving.specs.MoveLeaves.{MoveLeft, lowerMove, moveLeaves}
+use Rattle.moving.specs.Moved.{moved}
+use Prim.Native.Nat.{ℕ, zero, suc, _+_, _-_, _*_, _/_, min, _≤_, _<_, _%_}
 use mathlib.Core.Path.{_≡_, refl, sym, ap, _∙_, subst}
 use mathlib.Core.List.{List, [], _∷_, _++_}
-use mathlib.Core.Bool.{Bool, true, false}
+use mathlib.Core.Bool.{Bool, true, false, cond, _&&_}
 use native.Mathlib.Omega.{arith}
 use lib.ListN.{length, getD, take, drop, length-append, length-take, length-drop, drop-of-length-le, List·getD-append}
 use lib.Seq.{ext-getD, getD-take, getD-drop, length-take-le}
-use lib.Dec.{leb}
+use lib.Dec.{leb, eqb}
 use borrow.Author.Tests.{leb-true, leb-false}
-use Rattle.encoding.proofs.Logic.{by-test}
+use Rattle.encoding.proofs.Logic.{by-test, or-false}
 use Rattle.page.specs.Layout.{pageSize, kindAt}
 use Rattle.recovery.specs.Log.{blank}
 use Rattle.recovery.specs.Sheet.{pageBytes, sealed}
 use Rattle.recovery.specs.World.{opened}
 use Rattle.recovery.specs.Numbers.{isRefused}
-use Rattle.recovery.specs.Lent.{Left, rowLength, rowsOf, pagesOf, whole, leaves, refused, closed, openLeaves}
+use Rattle.recovery.specs.Lent.{Left, rowLength, rowsOf, pagesOf, whole, leaves, refused, closed, openLeaves, lent}
 use Rattle.calls.specs.Calls.{Call}
 use Rattle.calls.specs.Leaves.{withPage}
 use Rattle.calls.proofs.OnePage.{SameBut, only-one-page}
 use Rattle.calls.specs.Cuts.{mixed, storedOf}
-use Rattle.promises.specs.Runs.{Ordered, Box, on, off, sheetOf, Event, calls, opens, cuts, callOn, boxOf, after, runs, AllAllowed}
+use Rattle.promises.specs.Runs.{Ordered, Box, on, off, sheetOf, Event, calls, opens, cuts, callOn, boxOf, after, runs, AllAllowed, moves, cutsMove, moveOn, isMoved, movedIn}
 use Rattle.promises.proofs.bytes.Mixed.{mixed-long, mixed-none, none-kept}
 use Rattle.promises.proofs.bytes.ByteCalls.{page-back}
 use Rattle.promises.proofs.boxes.Extends.{ext-refl, event-extends}
 use Rattle.promises.proofs.boxes.Boxes.{Reached, end-is, page-above}
-use Rattle.promises.proofs.boxes.BoxRuns.{reached-next, reached-on}
+use Rattle.promises.proofs.boxes.BoxRuns.{reached-next, reached-on, pagesAfter}
 
 -- sheets as long, with the same bytes up to a place
 pub record SameTo (q : ℕ) (s t : List ℕ) : Type 0 where
@@ -42,6 +44,9 @@ same-page q s t h (suc r) k = ext-getD 0 (pageBytes t (suc r)) (pageBytes s (suc
 
     look : (x : List ℕ) (i : ℕ) → i < pageSize → getD (pageBytes x (suc r)) i 0 ≡ getD x (pageSize * r + i) 0
     look x i v = getD-take pageSize (drop (pageSize * r) x) i 0 v ∙ getD-drop (pageSize * r) x i 0
+
+same-all : {q : ℕ} (s : List ℕ) → SameTo q s s
+same-all s = record { long = refl; bytes = λ i h. refl }
 
 -- ---- each event
 
@@ -85,41 +90,63 @@ pub open-box : (s fates rows : List ℕ) (floor : ℕ) → sheetOf (boxOf (openL
 open-box s fates rows floor = by-test (λ (b : Box). sheetOf b ≡ s) (isRefused (openLeaves s fates rows floor .answer))
     {x = off (openLeaves s fates rows floor .sheet)} {y = on (openLeaves s fates rows floor)} (λ e. open-sheet s fates rows floor) (λ e. open-sheet s fates rows floor)
 
+-- a move leaves the old sheet
+move-sheet : (m : Left) (fresh : List ℕ) → moveOn m fresh .left .sheet ≡ m .sheet
+unfolding moveLeaves
+move-sheet m fresh =
+    by-test (λ (x : MoveLeft). x .left .sheet ≡ m .sheet) (whole (length (m .sheet)) (length (m .rows)) && eqb (length fresh % pageSize) 0)
+    {x = lowerMove (m .sheet) fresh (moved (lent (m .sheet) (m .fates) (m .rows) (m .state)) (pagesOf fresh (length (m .rows) / rowLength)))}
+    {y = record { left = refused 1 0 (m .sheet) (m .fates) (m .rows) (m .state); fresh = fresh }} (λ e. refl) (λ e. refl)
+
 -- ---- a run
 
 module _ (n files : ℕ) where
-  event-same : (b : Box) (r : Reached n files b) (e : Event) → SameTo (length (r .log)) (sheetOf b) (sheetOf (after b e))
-  event-same (on m) r (calls k) = subst (λ q. SameTo q (m .sheet) (callOn m k .sheet)) (end-is n files m r) (call-same m k)
-  event-same (off s) r (calls k) = record { long = refl; bytes = λ i h. refl }
-  event-same b r (opens floor fates rows) =
+  event-same : (b : Box) (r : Reached n files b) (e : Event) → isMoved b e ≡ false → SameTo (length (r .log)) (sheetOf b) (sheetOf (after b e))
+  event-same (on m) r (calls k) q = subst (λ q. SameTo q (m .sheet) (callOn m k .sheet)) (end-is n files m r) (call-same m k)
+  event-same (off s) r (calls k) q = same-all s
+  event-same b r (opens floor fates rows) q =
       let z = open-box (sheetOf b) fates rows floor in
       record { long = ap length z; bytes = λ i h. ap (λ t. getD t i 0) z }
-  event-same (on m) r (cuts k kept) =
+  event-same (on m) r (cuts k kept) q =
       subst (λ q. SameTo q (m .sheet) (storedOf kept (m .state .end) (callOn m k .sheet) (m .sheet))) (end-is n files m r)
       (cut-same m k kept (omega (arith, end-is n files m r, r .at .holds .room, r .at .long)))
-  event-same (off s) r (cuts k kept) = record { long = refl; bytes = λ j h. refl }
+  event-same (off s) r (cuts k kept) q = same-all s
+  event-same (on m) r (moves fresh) q = subst (λ c. SameTo (length (r .log)) (m .sheet) (sheetOf (cond c (off (moveOn m fresh .fresh)) (on (moveOn m fresh .left))))) (sym q) (subst (SameTo (length (r .log)) (m .sheet)) (sym (move-sheet m fresh)) (same-all (m .sheet)))
+  event-same (off s) r (moves fresh) q = same-all s
+  event-same (on m) r (cutsMove fresh k) q = subst (λ c. SameTo (length (r .log)) (m .sheet) (cond c (moveOn m fresh .fresh) (m .sheet))) (sym q) (same-all (m .sheet))
+  event-same (off s) r (cutsMove fresh k) q = same-all s
 
-  run-kept : (b : Box) (r : Reached n files b) (es : List Event) → AllAllowed n files es → (p : ℕ) → p ≤ length (r .log) → pageBytes (sheetOf (runs b es)) p ≡ pageBytes (sheetOf b) p
-  run-kept b r [] al p h = refl
-  run-kept b r (e ∷ es) al p h =
-      let g = event-extends n files b r e (al .0) (r .log) (ext-refl (r .log)) in
-      run-kept (after b e) (reached-next n files b r e (al .0)) es (al .1) p (omega (arith, g .longer))
-      ∙ same-page (length (r .log)) (sheetOf b) (sheetOf (after b e)) (event-same b r e) p h
+run-kept : (n files : ℕ) (b : Box) (r : Reached n files b) (es : List Event) → AllAllowed files b es → movedIn b es ≡ false → (p : ℕ) → p ≤ length (r .log)
+    → pageBytes (sheetOf (runs b es)) p ≡ pageBytes (sheetOf b) p
+run-kept n files b r [] al q p h = refl
+run-kept n files b r (e ∷ es) al q p h =
+    let z = or-false (isMoved b e) (movedIn (after b e) es) q in
+    let g = event-extends n files b r e (z .0) (r .log) (ext-refl (r .log)) in
+    run-kept (pagesAfter n b e) files (after b e) (reached-next n files b r e (al .0)) es (al .1) (z .1) p (omega (arith, g .longer))
+    ∙ same-page (length (r .log)) (sheetOf b) (sheetOf (after b e)) (event-same n files b r e (z .0)) p h
 
+-- and as many pages
+run-long : (n files : ℕ) (b : Box) (r : Reached n files b) (es : List Event) → AllAllowed files b es → movedIn b es ≡ false → length (sheetOf (runs b es)) ≡ length (sheetOf b)
+run-long n files b r [] al q = refl
+run-long n files b r (e ∷ es) al q =
+    let z = or-false (isMoved b e) (movedIn (after b e) es) q in
+    run-long (pagesAfter n b e) files (after b e) (reached-next n files b r e (al .0)) es (al .1) (z .1) ∙ event-same n files b r e (z .0) .long
+
+module _ (n files : ℕ) where
   no-page : (s : List ℕ) (p : ℕ) → length s ≡ pageSize * n → n < p → pageBytes s p ≡ []
   no-page s zero l h = absurd (omega arith)
   no-page s (suc q) l h = ap (take pageSize) (drop-of-length-le s {i = pageSize * q} (omega arith))
 
-  pub box-kept : (b : Box) → Reached n files b → (es : List Event) → AllAllowed n files es → (p : ℕ) → (sealed files (sheetOf b) p ≡ blank → ⊥)
+  pub box-kept : (b : Box) → Reached n files b → (es : List Event) → AllAllowed files b es → movedIn b es ≡ false → (p : ℕ) → (sealed files (sheetOf b) p ≡ blank → ⊥)
       → pageBytes (sheetOf (runs b es)) p ≡ pageBytes (sheetOf b) p
-  box-kept b r es al zero h = refl
-  box-kept b r es al (suc q) h = go (leb (suc q) n) refl (leb (suc q) (length (r .log))) refl
+  box-kept b r es al mv zero h = refl
+  box-kept b r es al mv (suc q) h = go (leb (suc q) n) refl (leb (suc q) (length (r .log))) refl
     where
       go : (x : Bool) → leb (suc q) n ≡ x → (y : Bool) → leb (suc q) (length (r .log)) ≡ y → pageBytes (sheetOf (runs b es)) (suc q) ≡ pageBytes (sheetOf b) (suc q)
       go false e y f =
-          no-page (sheetOf (runs b es)) (suc q) (reached-on n files b r es al .at .long) (leb-false (suc q) n e)
+          no-page (sheetOf (runs b es)) (suc q) (run-long n files b r es al mv ∙ r .at .long) (leb-false (suc q) n e)
           ∙ sym (no-page (sheetOf b) (suc q) (r .at .long) (leb-false (suc q) n e))
-      go true e true f = run-kept b r es al (suc q) (leb-true (suc q) (length (r .log)) f)
+      go true e true f = run-kept n files b r es al mv (suc q) (leb-true (suc q) (length (r .log)) f)
       go true e false f = absurd (h (page-above n files b r (suc q) (leb-false (suc q) (length (r .log)) f) (leb-true (suc q) n e)))
 
   pub box-lost : (b : Box) (k : Call) (kept : ℕ → Bool) → Ordered kept → kept kindAt ≡ false → sheetOf (after b (cuts k kept)) ≡ sheetOf b

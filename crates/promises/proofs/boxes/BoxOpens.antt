@@ -28,7 +28,7 @@ use Rattle.promises.proofs.boxes.Boxes.{sizes-are, isOn, isRight, world
 module _ (n files : ℕ) where
   -- ---- an opening: refused by line 1, or else accepted
 
-  module _ (b : Box) (r : Reached n files b) (floor : ℕ) (fates rows : List ℕ) (al : Allowed n files (opens floor fates rows)) where
+  module _ (b : Box) (r : Reached n files b) (floor : ℕ) (fates rows : List ℕ) (al : Allowed files b (opens floor fates rows)) where
     abbrev s : List ℕ
     s = sheetOf b
 
@@ -57,6 +57,10 @@ module _ (n files : ℕ) where
         (λ e. by-test (λ (x : Result). x .1 .sheet ≡ pages files n s) (eqb (highestBad (down (pages files n s) (endOf (pages files n s) (length (pages files n s))))) 0)
         (λ e. by-test (λ (x : Result). x .1 .sheet ≡ pages files n s) (unfinished (pages files n s) (endOf (pages files n s) (length (pages files n s)))) (λ e. refl) (λ e. refl)) (λ e. refl)) (λ e. refl)
 
+    -- as the premise says it, of the sheet's length
+    right-rows : isRight n fates rows ≡ true → length rows ≡ rowLength * files
+    right-rows e = al (rw (r .at .long) e)
+
     abbrev o : Result
     o = opened (pages files n s) fates (rowsOf rows) floor
 
@@ -65,7 +69,7 @@ module _ (n files : ℕ) where
       k = sizes-right (pageSize * n) (length fates) (length rows) e
 
       few : length rows / rowLength ≡ files
-      few = let z : length rows ≡ rowLength * files = al e in omega arith
+      few = let z : length rows ≡ rowLength * files = right-rows e in omega arith
 
       left : leaves s o ≡ openLeaves s fates rows floor
       unfolding openLeaves
@@ -124,7 +128,7 @@ module _ (n files : ℕ) where
     right-is : isLent (r .model) fates rows ≡ isRight n fates rows
     right-is = rw (r .at .pages-are, r .at .files-are) (bool-ext (eqb (length fates) n && eqb (length rows) (rowLength * files)) (isRight n fates rows)
         (λ q. let p = and-true (eqb (length fates) n) (eqb (length rows) (rowLength * files)) q in sizes-are n files fates rows (r .at .sized) (eqb-true (length fates) n (p .0)) (eqb-true (length rows) (rowLength * files) (p .1)))
-        (λ q. rw (eq-eqb (length fates) n (sizes-right (pageSize * n) (length fates) (length rows) q .fates-are ∙ (omega arith)), eq-eqb (length rows) (rowLength * files) (al q))))
+        (λ q. rw (eq-eqb (length fates) n (sizes-right (pageSize * n) (length fates) (length rows) q .fates-are ∙ (omega arith)), eq-eqb (length rows) (rowLength * files) (right-rows q))))
 
     pub opened-at : At n files (boxOf (openLeaves s fates rows floor)) (r .log) (opening (isOpened (r .model) fates rows))
     opened-at = subst (λ c. At n files (boxOf (openLeaves s fates rows floor)) (r .log) (opening (c && not (isUnfinished (r .model))))) (sym right-is) (was-opened .at)

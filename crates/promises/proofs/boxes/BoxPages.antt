@@ -50,11 +50,11 @@ module _ (n files : ℕ) (b : Box) (r : Reached n files b) where
   lies-page p g h = log-page n files b r p (h .low) (h .high) ∙ h .here
 
   -- and so are its effective images
-  pub effective-in : (p : ℕ) (i : Image) → IsEffective n files b p i → Among (record { place = p; image = i }) (effectiveOf (r .log) (i .file))
+  pub effective-in : (p : ℕ) (i : Image) → IsEffective files b p i → Among (record { place = p; image = i }) (effectiveOf (r .log) (i .file))
   effective-in p i h =
       among-effective (r .log) p i (page-lies-in p (image i) (solid-image i) (h .here)) (λ q j y. h .none-newer q j (lies-page q (image j) y))
 
-  pub effective-out : (f : ℕ) (x : Placed) → Among x (effectiveOf (r .log) f) → IsEffective n files b (x .place) (x .image)
+  pub effective-out : (f : ℕ) (x : Placed) → Among x (effectiveOf (r .log) f) → IsEffective files b (x .place) (x .image)
   effective-out f x h = record {
     here = lies-page (x .place) (image (x .image)) (effective-lies (r .log) f x h);
     none-newer = λ q j e. effective-none-newer (r .log) f x h q j (page-lies-in q (image j) (solid-image j) e);

@@ -44,7 +44,7 @@ module _ (n files : ℕ) (b : Box) (r : Reached n files b) where
 
   -- ---- an effective image shows
 
-  module _ (place : ℕ) (i : Image) (h : IsEffective n files b place i) where
+  module _ (place : ℕ) (i : Image) (h : IsEffective files b place i) where
     pub box-all : (q : ℕ) → answerTo b (calls (test (i .action))) ≡ some (Told 2 q) → answerTo b (calls (read (i .file) (i .start) 0)) ≡ some (Value place (i .start) (length (i .value)))
     box-all q t =
         let k = told-fate n files b r (i .action) 2 q t in
@@ -69,13 +69,13 @@ module _ (n files : ℕ) (b : Box) (r : Reached n files b) where
       go false o q = not-heard q
 
   module _ (f t a : ℕ) where
-    committed-told : (i : Image) → isOn b ≡ true → Whose (r .log) a i → (i .action ≡ a → ⊥) → TellsFate n files b (i .action) 2
+    committed-told : (i : Image) → isOn b ≡ true → Whose (r .log) a i → (i .action ≡ a → ⊥) → TellsFate files b (i .action) 2
     committed-told i on (shared c) o =
         let e = tells n files b r (i .action) (rw c (omega arith)) ∙ ap (λ x. Told (fateNumber x) (outcomeOf (r .log) (i .action))) c in
         (outcomeOf (r .log) (i .action), hears b (calls (test (i .action))) (Told 2 (outcomeOf (r .log) (i .action))) (answer-is n files b r (calls (test (i .action))) tt ∙ rw on (ap some e)))
     committed-told i on (own h q) o = absurd (o q)
 
-    pub box-shows : (p s l : ℕ) → answerTo b (calls (read f t a)) ≡ some (Value p s l) → Shown n files b f t a p s l
+    pub box-shows : (p s l : ℕ) → answerTo b (calls (read f t a)) ≡ some (Value p s l) → Shown files b f t a p s l
     box-shows p s l e =
         let k = heard-on (read f t a) tt (Value p s l) e in
         let v = read-shows (r .log) (r .model) lawful (r .at .says) f t a p s l (k .1) in
@@ -88,16 +88,16 @@ module _ (n files : ℕ) (b : Box) (r : Reached n files b) where
         }
 
     -- the highest start that is not above the time
-    module _ (q : ℕ) (i : Image) (v : IsVersion n files b f q i) where
+    module _ (q : ℕ) (i : Image) (v : IsVersion files b f q i) where
       effective-of : Among (record { place = q; image = i }) (effectiveOf (r .log) f)
       effective-of = subst (λ g. Among (record { place = q; image = i }) (effectiveOf (r .log) g)) (v .1) (effective-in n files b r q i (v .0))
 
       fate : fateOf (r .log) (i .action) ≡ committed
       fate = same-fate (told-fate n files b r (i .action) 2 (v .2 .0) (answered b (calls (test (i .action))) (Told 2 (v .2 .0)) (v .2 .1)) .2)
 
-    pub box-highest : (p s l : ℕ) → answerTo b (calls (read f t a)) ≡ some (Value p s l) → (q : ℕ) (i : Image) → IsVersion n files b f q i → i .start ≤ t → i .start ≤ s
+    pub box-highest : (p s l : ℕ) → answerTo b (calls (read f t a)) ≡ some (Value p s l) → (q : ℕ) (i : Image) → IsVersion files b f q i → i .start ≤ t → i .start ≤ s
     box-highest p s l e q i v =
         read-shows (r .log) (r .model) lawful (r .at .says) f t a p s l (heard-on (read f t a) tt (Value p s l) e .1) .latest (record { place = q; image = i }) (effective-of q i v) (fate q i v)
 
-    pub box-later : answerTo b (calls (read f t a)) ≡ some Nothing → (q : ℕ) (i : Image) → IsVersion n files b f q i → t < i .start
+    pub box-later : answerTo b (calls (read f t a)) ≡ some Nothing → (q : ℕ) (i : Image) → IsVersion files b f q i → t < i .start
     box-later e q i v = read-none (r .log) (r .model) lawful (r .at .says) f t a (heard-on (read f t a) tt Nothing e .1) (record { place = q; image = i }) (effective-of q i v) (fate q i v)

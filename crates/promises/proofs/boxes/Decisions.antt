@@ -14,7 +14,7 @@ use Rattle.recovery.specs.declared.Answer.{Answer}
 use Rattle.recovery.specs.declared.Answer.the-variants.{Refused, Stored, Told}
 use Rattle.recovery.proofs.LogFates.{undecided-known}
 use Rattle.calls.specs.Calls.{begin, test, decide, call}
-use Rattle.promises.specs.Runs.{Box, on, off, sheetOf, Event, calls, opens, cuts, answerTo, after, runs, Allowed, AllAllowed}
+use Rattle.promises.specs.Runs.{Box, on, off, sheetOf, Event, calls, opens, cuts, answerTo, after, runs, Allowed, AllAllowed, moves, cutsMove, movedIn}
 use Rattle.promises.specs.Model.{Model, Reply, decidedAs, deciding, modelCall}
 use Rattle.promises.specs.FromLog.{statusOf}
 use Rattle.promises.specs.Promises.{IsWhole}
@@ -25,7 +25,7 @@ use Rattle.promises.proofs.worlds.Sim.{Step, stay, add}
 use Rattle.promises.proofs.bytes.Stored.{bytesOf}
 use Rattle.promises.proofs.bytes.Cuts.{cutLog}
 use Rattle.promises.proofs.boxes.Boxes.{worldIn, Reached, call-is, agrees, model-says, end-is}
-use Rattle.promises.proofs.boxes.BoxRuns.{logAfter, reached-next, reached-on}
+use Rattle.promises.proofs.boxes.BoxRuns.{logAfter, reached-next, reached-on, pagesAfter, pagesOn}
 use Rattle.promises.proofs.boxes.Extends.{extends, ext-refl, ext-decided}
 use Rattle.promises.proofs.boxes.Found.{some-is, not-heard, stored-is, whole-log, hears-fate}
 
@@ -56,10 +56,12 @@ module _ {files : ℕ} {l : List Entry} {x : Answer} (p : ℕ) (e : x ≡ Stored
 
 module _ (n files : ℕ) where
   -- an event that answers a decision, or stores all of it
-  event-decided : (b : Box) (r : Reached n files b) (e : Event) (t : Allowed n files e) (a p : ℕ) (c : Bool) → IsWhole (decide a c) e → answerTo b (calls (decide a c)) ≡ some (Stored p)
+  event-decided : (b : Box) (r : Reached n files b) (e : Event) (t : Allowed files b e) (a p : ℕ) (c : Bool) → IsWhole (decide a c) e → answerTo b (calls (decide a c)) ≡ some (Stored p)
       → DecidedAt (logAfter n files b r e) a c p
   event-decided (off s) r e t a p c w q = not-heard q
   event-decided (on m) r (opens floor fates rows) t a p c w q = absurd w
+  event-decided (on m) r (moves fresh) t a p c w q = absurd w
+  event-decided (on m) r (cutsMove fresh k) t a p c w q = absurd w
   event-decided (on m) r (calls k) t a p c w q =
       subst (λ k. DecidedAt (agrees n files m r k .log) a c p) (sym w) (step-decided p (sym (model-says n files m r (decide a c)) ∙ some-is q) a c (agrees n files m r (decide a c) .step))
   event-decided (on m) r (cuts k kept) t a p c w q =
@@ -68,21 +70,22 @@ module _ (n files : ℕ) where
       subst (λ k. DecidedAt (cutLog (r .log) (agrees n files m r k .log) (bytesOf kept)) a c p) (sym (w .0))
       (subst (λ l. DecidedAt l a c p) (sym (whole-log p says kept (t .1) (w .1) s)) (step-decided p says a c s))
 
-  -- a box whose log has a decision
-  pub record DecidedIn (b : Box) (a : ℕ) (c : Bool) (p : ℕ) : Type 0 where
-    pub box : Reached n files b
-    pub at : DecidedAt (box .log) a c p
+-- a box whose log has a decision
+pub record DecidedIn (n files : ℕ) (b : Box) (a : ℕ) (c : Bool) (p : ℕ) : Type 0 where
+  pub box : Reached n files b
+  pub at : DecidedAt (box .log) a c p
 
-  pub run-decides : (b : Box) (r : Reached n files b) (e : Event) (t : Allowed n files e) (es : List Event) (al : AllAllowed n files es) (a p : ℕ) (c : Bool)
-      → IsWhole (decide a c) e → answerTo b (calls (decide a c)) ≡ some (Stored p) → DecidedIn (runs (after b e) es) a c p
-  run-decides b r e t es al a p c w q =
-      let d = event-decided b r e t a p c w q in
-      let first = reached-next n files b r e t in
-      record { box = reached-on n files (after b e) first es al; at = ext-decided (extends n files (after b e) first es al (first .log) (ext-refl (first .log))) d }
+pub run-decides : (n files : ℕ) (b : Box) (r : Reached n files b) (e : Event) (t : Allowed files b e) (es : List Event) (al : AllAllowed files (after b e) es) → movedIn (after b e) es ≡ false → (a p : ℕ) (c : Bool)
+    → IsWhole (decide a c) e → answerTo b (calls (decide a c)) ≡ some (Stored p) → DecidedIn (pagesOn (pagesAfter n b e) (after b e) es) files (runs (after b e) es) a c p
+run-decides n files b r e t es al mv a p c w q =
+    let d = event-decided n files b r e t a p c w q in
+    let first = reached-next n files b r e t in
+    record { box = reached-on (pagesAfter n b e) files (after b e) first es al; at = ext-decided (extends (pagesAfter n b e) files (after b e) first es al mv (first .log) (ext-refl (first .log))) d }
 
-  -- ---- what such a box answers
+-- ---- what such a box answers
 
-  module _ (b : Box) (a : ℕ) (c : Bool) (p : ℕ) (d : DecidedIn b a c p) where
+module _ (n files : ℕ) where
+  module _ (b : Box) (a : ℕ) (c : Bool) (p : ℕ) (d : DecidedIn n files b a c p) where
     abbrev m : Model
     m = d .box .model
 
@@ -103,14 +106,14 @@ module _ (n files : ℕ) where
   by-other m false p k = refl
 
   module _ (a : ℕ) (c : Bool) (p : ℕ) where
-    pub same-reply : (b : Box) (d : DecidedIn b a c p) → modelCall (d .box .model) (decide a c) ≡ (Stored p, d .box .model)
+    pub same-reply : (b : Box) (d : DecidedIn n files b a c p) → modelCall (d .box .model) (decide a c) ≡ (Stored p, d .box .model)
     same-reply b d = rw (status-is b a c p d) (by-same (d .box .model) c p _)
 
-    pub again-answer : (b : Box) → DecidedIn b a c p → (x : Answer) → answerTo b (calls (decide a c)) ≡ some x → x ≡ Stored p
+    pub again-answer : (b : Box) → DecidedIn n files b a c p → (x : Answer) → answerTo b (calls (decide a c)) ≡ some x → x ≡ Stored p
     again-answer (on m) d x h = sym (some-is h) ∙ model-says n files m (d .box) (decide a c) ∙ ap (λ r. r .0) (same-reply (on m) d)
     again-answer (off s) d x h = not-heard h
 
-    pub again-sheet : (b : Box) → DecidedIn b a c p → sheetOf (after b (calls (decide a c))) ≡ sheetOf b
+    pub again-sheet : (b : Box) → DecidedIn n files b a c p → sheetOf (after b (calls (decide a c))) ≡ sheetOf b
     again-sheet (on m) d =
         let k = agrees n files m (d .box) (decide a c) in
         let used : d .box .model .used ≡ length (k .log) = ap (λ r. r .1 .used) (sym (same-reply (on m) d)) ∙ k .after .says .used in
@@ -118,18 +121,18 @@ module _ (n files : ℕ) where
         ap (λ x. x .sheet) (call-is n files m (d .box) (decide a c)) ∙ rw (eq-eqb (call (worldIn n files m) (decide a c) .1 .end) (m .state .end) same)
     again-sheet (off s) d = refl
 
-    pub other-answer : (b : Box) → DecidedIn b a c p → (x : Answer) → answerTo b (calls (decide a (not c))) ≡ some x → x ≡ Refused 6 0
+    pub other-answer : (b : Box) → DecidedIn n files b a c p → (x : Answer) → answerTo b (calls (decide a (not c))) ≡ some x → x ≡ Refused 6 0
     other-answer (on m) d x h =
         let other : modelCall (d .box .model) (decide a (not c)) .0 ≡ Refused 6 0 = rw (status-is (on m) a c p d) (by-other (d .box .model) c p _) in
         sym (some-is h) ∙ model-says n files m (d .box) (decide a (not c)) ∙ other
     other-answer (off s) d x h = not-heard h
 
-  pub box-begun : (b : Box) (r : Reached n files b) (es : List Event) (al : AllAllowed n files es) (place : ℕ) (x : Answer) → answerTo b (calls begin) ≡ some (Stored place)
+  pub box-begun : (b : Box) (r : Reached n files b) (es : List Event) (al : AllAllowed files (after b (calls begin)) es) → movedIn (after b (calls begin)) es ≡ false → (place : ℕ) (x : Answer) → answerTo b (calls begin) ≡ some (Stored place)
       → answerTo (runs (after b (calls begin)) es) (calls (test place)) ≡ some x → (fate : ℕ) × (at : ℕ) × (1 ≤ fate) × (fate ≤ 3) × (x ≡ Told fate at) × (fate ≡ 1 → at ≡ 0)
-  box-begun (on m) r es al place x e h =
+  box-begun (on m) r es al mv place x e h =
       let first = reached-next n files (on m) r (calls begin) tt in
       let z = step-begun place (sym (model-says n files m r begin) ∙ some-is e) (agrees n files m r begin .step) in
       let late = reached-on n files (after (on m) (calls begin)) first es al in
-      let f = extends n files (after (on m) (calls begin)) first es al (first .log) (ext-refl (first .log)) .known place (undecided-known z) in
-      (fateNumber (fateOf (late .log) place), outcomeOf (late .log) place, f, number-high (fateOf (late .log) place), hears-fate n files (runs (after (on m) (calls begin)) es) late place x f h, λ e. nowhere (late .log) place (late .at .holds .lawful) (λ d. omega arith))
-  box-begun (off s) r es al place x e h = not-heard e
+      let f = extends n files (after (on m) (calls begin)) first es al mv (first .log) (ext-refl (first .log)) .known place (undecided-known z) in
+      (fateNumber (fateOf (late .log) place), outcomeOf (late .log) place, f, number-high (fateOf (late .log) place), hears-fate (pagesOn n (after (on m) (calls begin)) es) files (runs (after (on m) (calls begin)) es) late place x f h, λ e. nowhere (late .log) place (late .at .holds .lawful) (λ d. omega arith))
+  box-begun (off s) r es al mv place x e h = not-heard e

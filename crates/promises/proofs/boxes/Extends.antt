@@ -1,5 +1,7 @@
 -- A run only adds to the log: its pages stay, what was decided stays decided so, and what was known stays known.
-use mathlib.Core.Path.{_≡_, refl, _∙_}
+use Rattle.encoding.proofs.Logic.{or-false}
+use Rattle.promises.proofs.boxes.BoxMoves.{freshLog}
+use mathlib.Core.Path.{_≡_, refl, _∙_, subst, sym}
 use mathlib.Core.List.{List, [], _∷_}
 use mathlib.Core.Bool.{Bool, true, false, cond}
 use Prim.Native.Nat.{ℕ, suc, _≤_}
@@ -17,10 +19,10 @@ use Rattle.calls.specs.Calls.{Call}
 use Rattle.recovery.specs.declared.Answer.{Answer}
 use Rattle.promises.proofs.worlds.Sim.{Step, stay, add}
 use Rattle.promises.proofs.bytes.Cuts.{cutLog}
-use Rattle.promises.specs.Runs.{Box, on, off, sheetOf, Event, calls, opens, cuts, after, runs, Allowed, AllAllowed}
+use Rattle.promises.specs.Runs.{Box, on, off, sheetOf, Event, calls, opens, cuts, after, runs, Allowed, AllAllowed, moves, cutsMove, isMoved, movedIn}
 use Rattle.promises.proofs.bytes.Stored.{bytesOf}
 use Rattle.promises.proofs.boxes.Boxes.{Reached, agrees, log-page}
-use Rattle.promises.proofs.boxes.BoxRuns.{logAfter, reached-next, reached-on}
+use Rattle.promises.proofs.boxes.BoxRuns.{logAfter, reached-next, reached-on, pagesAfter, pagesOn}
 
 -- a log that goes on from another: the same pages, what was decided decided so and at its place, what was known known
 pub record Extends (l l′ : List Entry) : Type 0 where
@@ -63,21 +65,28 @@ ext-cut l k k′ n (add g q e) w h = rw (ne-eqb (suc (length k)) (length k) (λ 
 -- ---- an event and a run only add to the log
 
 module _ (n files : ℕ) where
-  pub event-extends : (b : Box) (r : Reached n files b) (e : Event) (t : Allowed n files e) (l : List Entry) → Extends l (r .log) → Extends l (logAfter n files b r e)
+  pub event-extends : (b : Box) (r : Reached n files b) (e : Event) → isMoved b e ≡ false → (l : List Entry) → Extends l (r .log) → Extends l (logAfter n files b r e)
   event-extends (on m) r (calls k) t l h = let a = agrees n files m r k in ext-step l (r .log) (a .log) (a .step) (a .after .lawful) h
   event-extends (off s) r (calls k) t l h = h
   event-extends (on m) r (opens floor fates rows) t l h = h
   event-extends (off s) r (opens floor fates rows) t l h = h
   event-extends (on m) r (cuts k kept) t l h = let a = agrees n files m r k in ext-cut l (r .log) (a .log) (bytesOf kept) (a .step) (a .after .lawful) h
   event-extends (off s) r (cuts k kept) t l h = h
+  event-extends (on m) r (moves fresh) t l h = subst (λ c. Extends l (cond c (freshLog n files m r fresh) (r .log))) (sym t) h
+  event-extends (off s) r (moves fresh) t l h = h
+  event-extends (on m) r (cutsMove fresh k) t l h = subst (λ c. Extends l (cond c (freshLog n files m r fresh) (r .log))) (sym t) h
+  event-extends (off s) r (cutsMove fresh k) t l h = h
 
-  pub extends : (b : Box) (r : Reached n files b) (es : List Event) (t : AllAllowed n files es) (l : List Entry) → Extends l (r .log) → Extends l (reached-on n files b r es t .log)
-  extends b r [] t l h = h
-  extends b r (e ∷ es) t l h = extends (after b e) (reached-next n files b r e (t .0)) es (t .1) l (event-extends b r e (t .0) l h)
+pub extends : (n files : ℕ) (b : Box) (r : Reached n files b) (es : List Event) (t : AllAllowed files b es) → movedIn b es ≡ false → (l : List Entry) → Extends l (r .log)
+    → Extends l (reached-on n files b r es t .log)
+extends n files b r [] t q l h = h
+extends n files b r (e ∷ es) t q l h =
+    let z = or-false (isMoved b e) (movedIn (after b e) es) q in
+    extends (pagesAfter n b e) files (after b e) (reached-next n files b r e (t .0)) es (t .1) (z .1) l (event-extends n files b r e (z .0) l h)
 
-  -- a page of the log stays through any run
-  pub stays : (b : Box) (r : Reached n files b) (es : List Event) → AllAllowed n files es → (p : ℕ) (g : Entry) → 1 ≤ p → p ≤ length (r .log) → entryIn (r .log) p ≡ g
-      → sealed files (sheetOf (runs b es)) p ≡ g
-  stays b r es t p g low high e =
-      let x = extends b r es t (r .log) (ext-refl (r .log)) in
-      log-page n files (runs b es) (reached-on n files b r es t) p low (omega (arith, x .longer)) ∙ x .pages p high ∙ e
+-- a page of the log stays through any run in which no move takes place
+pub stays : (n files : ℕ) (b : Box) (r : Reached n files b) (es : List Event) → AllAllowed files b es → movedIn b es ≡ false → (p : ℕ) (g : Entry) → 1 ≤ p → p ≤ length (r .log)
+    → entryIn (r .log) p ≡ g → sealed files (sheetOf (runs b es)) p ≡ g
+stays n files b r es t q p g low high e =
+    let x = extends n files b r es t q (r .log) (ext-refl (r .log)) in
+    log-page (pagesOn n b es) files (runs b es) (reached-on n files b r es t) p low (omega (arith, x .longer)) ∙ x .pages p high ∙ e

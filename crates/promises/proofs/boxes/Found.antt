@@ -18,7 +18,7 @@ use Rattle.recovery.specs.Lent.{Left}
 use Rattle.inspection.specs.Lawful.{current}
 use Rattle.recovery.proofs.Spots.{entry-top}
 use Rattle.calls.specs.Calls.{Call, begin, write, read, test, decide, rebuild}
-use Rattle.promises.specs.Runs.{Ordered, Box, on, off, sheetOf, Event, calls, cuts, callOn, answerTo, after, runs, Typed, AllAllowed}
+use Rattle.promises.specs.Runs.{Ordered, Box, on, off, sheetOf, Event, calls, cuts, callOn, answerTo, after, runs, Typed, AllAllowed, movedIn}
 use Rattle.promises.specs.Promises.{IsPageOf}
 use Rattle.promises.proofs.logs.Logs.{Known, not-undecided}
 use Rattle.promises.proofs.logs.Outcomes.{Lies, lies-top, outcome-lies, nowhere}
@@ -84,34 +84,34 @@ module _ {files : ℕ} {k : Call} {l : List Entry} {x : Answer} (p : ℕ) (e : x
 
 -- ---- a call that was answered with a place, on a box that is on
 
+-- through any run in which no move takes place
+there : (n files : ℕ) (b : Box) (q : Reached n files b) (es : List Event) → AllAllowed files b es → movedIn b es ≡ false → (p : ℕ) (g : Entry) → Lies (q .log) p g → sealed files (sheetOf (runs b es)) p ≡ g
+there n files b q es al mv p g h = stays n files b q es al mv p g (h .low) (h .high) (h .here)
+
+had : (n files : ℕ) (b : Box) (q : Reached n files b) (es : List Event) → AllAllowed files b es → movedIn b es ≡ false → (k : Call) (p : ℕ) → Has (q .log) k p → IsPageOf k (sealed files (sheetOf (runs b es)) p)
+had n files b q es al mv k p h = subst (IsPageOf k) (sym (there n files b q es al mv p (h .0) (h .1))) (h .2)
+
 module _ (n files : ℕ) where
-  -- through any run
-  there : (b : Box) (q : Reached n files b) (es : List Event) → AllAllowed n files es → (p : ℕ) (g : Entry) → Lies (q .log) p g → sealed files (sheetOf (runs b es)) p ≡ g
-  there b q es al p g h = stays n files b q es al p g (h .low) (h .high) (h .here)
-
-  had : (b : Box) (q : Reached n files b) (es : List Event) → AllAllowed n files es → (k : Call) (p : ℕ) → Has (q .log) k p → IsPageOf k (sealed files (sheetOf (runs b es)) p)
-  had b q es al k p h = subst (IsPageOf k) (sym (there b q es al p (h .0) (h .1))) (h .2)
-
-  module _ (m : Left) (r : Reached n files (on m)) (k : Call) (t : Typed k) (place : ℕ) (e : callOn m k .answer ≡ Stored place) (es : List Event) (al : AllAllowed n files es) where
+  module _ (m : Left) (r : Reached n files (on m)) (k : Call) (t : Typed k) (place : ℕ) (e : callOn m k .answer ≡ Stored place) (es : List Event) where
     says : modelCall (r .model) k .0 ≡ Stored place
     says = sym (model-says n files m r k) ∙ e
 
-    found-call : IsPageOf k (sealed files (sheetOf (runs (after (on m) (calls k)) es)) place)
-    found-call = had (on (callOn m k)) (reached-next n files (on m) r (calls k) t) es al k place (step-has place says (agrees n files m r k .step))
+    found-call : AllAllowed files (on (callOn m k)) es → movedIn (on (callOn m k)) es ≡ false → IsPageOf k (sealed files (sheetOf (runs (after (on m) (calls k)) es)) place)
+    found-call al mv = had n files (on (callOn m k)) (reached-next n files (on m) r (calls k) t) es al mv k place (step-has place says (agrees n files m r k .step))
 
-    module _ (kept : ℕ → Bool) (o : Ordered kept) where
+    module _ (kept : ℕ → Bool) (o : Ordered kept) (al : AllAllowed files (after (on m) (cuts k kept)) es) (mv : movedIn (after (on m) (cuts k kept)) es ≡ false) where
       abbrev was-cut : Reached n files (after (on m) (cuts k kept))
       was-cut = reached-next n files (on m) r (cuts k kept) (t, o)
 
       found-whole : kept markAt ≡ true → IsPageOf k (sealed files (sheetOf (runs (after (on m) (cuts k kept)) es)) place)
       found-whole h =
-          had (after (on m) (cuts k kept)) was-cut es al k place
+          had n files (after (on m) (cuts k kept)) was-cut es al mv k place
           (subst (λ l. Has l k place) (sym (whole-log place says kept o h (agrees n files m r k .step))) (step-has place says (agrees n files m r k .step)))
 
       found-torn : kept kindAt ≡ true → kept markAt ≡ false → (IsPageOf k (sealed files (m .sheet) place) → ⊥) → sealed files (sheetOf (runs (after (on m) (cuts k kept)) es)) place ≡ torn
       found-torn h j b =
-          there (after (on m) (cuts k kept)) was-cut es al place torn
-          (torn-log place says kept h j (λ y. b (had (on m) r [] tt k place y)) (agrees n files m r k .step))
+          there n files (after (on m) (cuts k kept)) was-cut es al mv place torn
+          (torn-log place says kept h j (λ y. b (had n files (on m) r [] tt refl k place y)) (agrees n files m r k .step))
 
 -- ---- fates
 
@@ -154,25 +154,28 @@ module _ (n files : ℕ) where
 
   -- ---- by the box
 
-  module _ (b : Box) (r : Reached n files b) (k : Call) (t : Typed k) (place : ℕ) (e : answerTo b (calls k) ≡ some (Stored place)) (es : List Event) (al : AllAllowed n files es) where
-    pub box-found : IsPageOf k (sealed files (sheetOf (runs (after b (calls k)) es)) place)
+  module _ (b : Box) (r : Reached n files b) (k : Call) (t : Typed k) (place : ℕ) (e : answerTo b (calls k) ≡ some (Stored place)) (es : List Event) where
+    pub box-found : AllAllowed files (after b (calls k)) es → movedIn (after b (calls k)) es ≡ false → IsPageOf k (sealed files (sheetOf (runs (after b (calls k)) es)) place)
     box-found = go b r e
       where
-        go : (b : Box) → Reached n files b → answerTo b (calls k) ≡ some (Stored place) → IsPageOf k (sealed files (sheetOf (runs (after b (calls k)) es)) place)
-        go (on m) r e = found-call n files m r k t place (some-is e) es al
-        go (off s) r e = not-heard e
+        go : (b : Box) → Reached n files b → answerTo b (calls k) ≡ some (Stored place) → AllAllowed files (after b (calls k)) es → movedIn (after b (calls k)) es ≡ false
+            → IsPageOf k (sealed files (sheetOf (runs (after b (calls k)) es)) place)
+        go (on m) r e al mv = found-call n files m r k t place (some-is e) es al mv
+        go (off s) r e al mv = not-heard e
 
-    module _ (kept : ℕ → Bool) (o : Ordered kept) where
+    module _ (kept : ℕ → Bool) (o : Ordered kept) (al : AllAllowed files (after b (cuts k kept)) es) (mv : movedIn (after b (cuts k kept)) es ≡ false) where
       pub box-found-cut : kept markAt ≡ true → IsPageOf k (sealed files (sheetOf (runs (after b (cuts k kept)) es)) place)
-      box-found-cut h = go b r e
+      box-found-cut h = go b r e al mv
         where
-          go : (b : Box) → Reached n files b → answerTo b (calls k) ≡ some (Stored place) → IsPageOf k (sealed files (sheetOf (runs (after b (cuts k kept)) es)) place)
-          go (on m) r e = found-whole n files m r k t place (some-is e) es al kept o h
-          go (off s) r e = not-heard e
+          go : (b : Box) → Reached n files b → answerTo b (calls k) ≡ some (Stored place) → AllAllowed files (after b (cuts k kept)) es → movedIn (after b (cuts k kept)) es ≡ false
+              → IsPageOf k (sealed files (sheetOf (runs (after b (cuts k kept)) es)) place)
+          go (on m) r e al mv = found-whole n files m r k t place (some-is e) es kept o al mv h
+          go (off s) r e al mv = not-heard e
 
       pub box-torn : kept kindAt ≡ true → kept markAt ≡ false → (IsPageOf k (sealed files (sheetOf b) place) → ⊥) → sealed files (sheetOf (runs (after b (cuts k kept)) es)) place ≡ torn
-      box-torn h j = go b r e
+      box-torn h j = go b r e al mv
         where
-          go : (b : Box) → Reached n files b → answerTo b (calls k) ≡ some (Stored place) → (IsPageOf k (sealed files (sheetOf b) place) → ⊥) → sealed files (sheetOf (runs (after b (cuts k kept)) es)) place ≡ torn
-          go (on m) r e y = found-torn n files m r k t place (some-is e) es al kept o h j y
-          go (off s) r e y = not-heard e
+          go : (b : Box) → Reached n files b → answerTo b (calls k) ≡ some (Stored place) → AllAllowed files (after b (cuts k kept)) es → movedIn (after b (cuts k kept)) es ≡ false
+              → (IsPageOf k (sealed files (sheetOf b) place) → ⊥) → sealed files (sheetOf (runs (after b (cuts k kept)) es)) place ≡ torn
+          go (on m) r e al mv y = found-torn n files m r k t place (some-is e) es kept o al mv h j y
+          go (off s) r e al mv y = not-heard e

@@ -1,22 +1,24 @@
 -- In a run no undecided action is a carried one: what was carried over to a sheet is committed before the sheet is used. So no opening
 -- finds a move unfinished, and no version that is committed later is a carried one.
-use Prim.Native.Nat.{ℕ, suc}
-use mathlib.Core.Path.{_≡_, refl, ap, _∙_}
+use Prim.Native.Nat.{ℕ, suc, _*_, _/_}
+use mathlib.Core.Path.{_≡_, refl, sym, ap, subst, _∙_}
 use mathlib.Core.List.{List, [], _∷_}
 use mathlib.Core.Bool.{Bool, true, false, cond, not, _||_}
 use mathlib.Core.Option.{Option, some, none}
 use native.Mathlib.Omega.{arith}
-use lib.Dec.{eqb}
+use lib.ListN.{length}
+use lib.Dec.{eqb, leb}
 use borrow.Author.Tests.{eqb-true}
 use Rattle.encoding.proofs.Logic.{by-test, and-false, clash}
-use Rattle.page.specs.Layout.{kindAt, markAt}
+use Rattle.page.specs.Layout.{pageSize, kindAt, markAt}
+use Rattle.recovery.specs.Numbers.{isRefused}
 use Rattle.calls.specs.Calls.{Call, begin, write, read, test, decide, rebuild}
-use Rattle.promises.specs.Runs.{Box, on, off, Event, calls, opens, cuts, runs, AllAllowed}
-use Rattle.promises.specs.Model.{Status, pending, committed, aborted, Model, Reply, stores, decidedAs, modelCall, modelOpened, modelCut, isPending, isUnfinished, isOpened, modelAfter}
+use Rattle.promises.specs.Runs.{Box, Event, calls, opens, cuts, moves, cutsMove, after, AllAllowed}
+use Rattle.promises.specs.Model.{Status, pending, committed, aborted, Model, Reply, stores, decidedAs, modelCall, modelOpened, modelCut, isPending, movedPages, modelMoved, modelMove, isUnfinished, isOpened, modelAfter}
 use Rattle.promises.proofs.worlds.LogSays.{carried-above}
-use Rattle.promises.proofs.worlds.ModelCalls.{begins, writes, reads, tests, decides, rebuilds, call-sized, cut-sized}
+use Rattle.promises.proofs.worlds.ModelCalls.{begins, writes, reads, tests, decides, rebuilds}
 use Rattle.promises.proofs.boxes.Boxes.{isOn, Reached}
-use Rattle.promises.proofs.boxes.BoxRuns.{reached-next, reached-on}
+use Rattle.promises.proofs.boxes.BoxRuns.{pagesAfter, move-model, reached-next, reached-on}
 
 abbrev pub Settled : Model → Type 0
 Settled m = (a : ℕ) → m .status a ≡ some pending → m .carried a ≡ false
@@ -63,32 +65,34 @@ open-settled : (m : Model) → Settled m → (floor : ℕ) (c : Bool) → Settle
 open-settled m h floor true = h
 open-settled m h floor false = h
 
--- what was carried over, no event changes
-module _ (n files : ℕ) where
-  carried-next : (b : Bool) (m : Model) (e : Event) → modelAfter b m e .carried ≡ m .carried
-  carried-next true m (calls k) = call-sized m k .carried
-  carried-next false m (calls k) = refl
-  carried-next b m (opens floor fates rows) = by-test (λ (x : Model). x .carried ≡ m .carried) (isOpened m fates rows) (λ e. refl) (λ e. refl)
-  carried-next true m (cuts k kept) = cut-sized m k kept .carried
-  carried-next false m (cuts k kept) = refl
+move-settled : (m : Model) → Settled m → (fresh : List ℕ) → Settled (modelMove m fresh .1)
+move-settled m h fresh = subst Settled (sym (move-model m fresh)) (go (isRefused (modelMove m fresh .0)))
+  where
+    none-pending : (b : Bool) (p : ℕ) → cond b (some (committed p)) none ≡ some pending → ⊥
+    none-pending true p e = clash cc
+    none-pending false p e = clash cc
 
-  pub carried-on : (b : Box) (r : Reached n files b) (es : List Event) (al : AllAllowed n files es) → reached-on n files b r es al .model .carried ≡ r .model .carried
-  carried-on b r [] al = refl
-  carried-on b r (e ∷ es) al = carried-on _ (reached-next n files b r e (al .0)) es (al .1) ∙ carried-next (isOn b) (r .model) e
+    go : (c : Bool) → Settled (cond c m (modelMoved m (length fresh / pageSize)))
+    go true = h
+    go false = λ a p. absurd (none-pending (eqb a 1) (movedPages m) p)
 
-  pub settled-next : (b : Box) (r : Reached n files b) (e : Event) → Settled (r .model) → Settled (modelAfter (isOn b) (r .model) e)
-  settled-next b r e h = go (isOn b) e
-    where
-      above : r .model .carried (suc (r .model .used)) ≡ false
-      above = r .at .says .carried (suc (r .model .used)) ∙ carried-above (r .log) (suc (r .model .used)) (omega (arith, r .at .says .used))
+pub settled-next : (n files : ℕ) (b : Box) (r : Reached n files b) (e : Event) → Settled (r .model) → Settled (modelAfter (isOn b) (r .model) e)
+settled-next n files b r e h = go (isOn b) e
+  where
+    above : r .model .carried (suc (r .model .used)) ≡ false
+    above = r .at .says .carried (suc (r .model .used)) ∙ carried-above (r .log) (suc (r .model .used)) (omega (arith, r .at .says .used))
 
-      go : (o : Bool) (e : Event) → Settled (modelAfter o (r .model) e)
-      go true (calls k) = call-settled (r .model) h above k
-      go false (calls k) = h
-      go o (opens floor fates rows) = open-settled (r .model) h floor (isOpened (r .model) fates rows)
-      go true (cuts k kept) = cut-settled (r .model) h above k kept
-      go false (cuts k kept) = h
+    go : (o : Bool) (e : Event) → Settled (modelAfter o (r .model) e)
+    go true (calls k) = call-settled (r .model) h above k
+    go false (calls k) = h
+    go o (opens floor fates rows) = open-settled (r .model) h floor (isOpened (r .model) fates rows)
+    go true (cuts k kept) = cut-settled (r .model) h above k kept
+    go false (cuts k kept) = h
+    go true (moves fresh) = move-settled (r .model) h fresh
+    go false (moves fresh) = h
+    go true (cutsMove fresh k) = by-test Settled (leb (pageSize * movedPages (r .model)) k) (λ e. move-settled (r .model) h fresh) (λ e. h)
+    go false (cutsMove fresh k) = h
 
-  pub settled-on : (b : Box) (r : Reached n files b) (es : List Event) (al : AllAllowed n files es) → Settled (r .model) → Settled (reached-on n files b r es al .model)
-  settled-on b r [] al h = h
-  settled-on b r (e ∷ es) al h = settled-on _ (reached-next n files b r e (al .0)) es (al .1) (settled-next b r e h)
+pub settled-on : (n files : ℕ) (b : Box) (r : Reached n files b) (es : List Event) (al : AllAllowed files b es) → Settled (r .model) → Settled (reached-on n files b r es al .model)
+settled-on n files b r [] al h = h
+settled-on n files b r (e ∷ es) al h = settled-on (pagesAfter n b e) files (after b e) (reached-next n files b r e (al .0)) es (al .1) (settled-next n files b r e h)

@@ -14,19 +14,12 @@ use Rattle.recovery.specs.Log.{Image, Entry, torn, opening, image, outcome, und
 use Rattle.recovery.specs.World.{isCarried, fatesOf, undecidedOf}
 use Rattle.recovery.proofs.Spots.{entryIn}
 use Rattle.inspection.specs.Lawful.{versions, current, token}
-use Rattle.promises.specs.Model.{Object, object, Status, pending, Model, actionOf, newest, placed, since, changed, stores, askedBefore, decidedAs, ended, endedBy, modelOpened}
+use Rattle.promises.specs.Model.{Object, object, currentEnd, tokenEnd, Status, pending, Model, actionOf, newest, placed, since, changed, stores, askedBefore, decidedAs, ended, endedBy, modelOpened}
 use Rattle.promises.specs.FromLog.{statusOf, versionOf, versionIn, carriedOf, history}
 use Rattle.promises.proofs.logs.Logs.{ImageFits, Lawful}
 use Rattle.promises.proofs.logs.Appends.{opening-versions, opening-token, image-versions, image-token, owns, longer, outcome-versions, outcome-token}
 use Rattle.promises.proofs.logs.Fates.{opening-undecided, outcome-undecided}
 use Rattle.promises.proofs.logs.Histories.{newest-is}
-
--- an object's ends: where its newest version and its token start, or when they, or a token that it replaced, were asked for last
-abbrev pub currentEnd : Object → ℕ
-currentEnd x = max (since (newest (x .history))) (x .asked)
-
-abbrev pub tokenEnd : Object → ℕ
-tokenEnd x = max (since (x .token)) (x .tokenasked)
 
 abbrev pub withObjects : Model → (ℕ → Object) → Model
 withObjects m h = record { pages = m .pages; files = m .files; used = m .used; floor = m .floor; undecided = m .undecided; status = m .status; carried = m .carried; object = h }

@@ -14,8 +14,8 @@ use Rattle.page.specs.Layout.{valueSize, kindAt, markAt}
 use Rattle.recovery.specs.declared.Answer.{Answer}
 use Rattle.recovery.specs.declared.Answer.the-variants.{Stored, Nothing, Told}
 use Rattle.calls.specs.Calls.{Call, begin, write, read, test, decide, rebuild}
-use Rattle.promises.specs.Model.{Version, object, Status, pending, committed, aborted, Model, Reply, newest, since, latest, shows, hasCarried, refuses, changed, withObject, stores, stored, hasRoom, ofFile, ofPending, isFreeFor, actionOf, askedAt, readVersion, reading, testing, decidedAs, deciding, modelCall, modelCut}
-use Rattle.promises.proofs.worlds.LogSays.{currentEnd, given, left}
+use Rattle.promises.specs.Model.{Version, object, Status, pending, committed, aborted, Model, Reply, newest, since, latest, shows, hasCarried, refuses, changed, withObject, stores, stored, hasRoom, ofFile, ofPending, isFreeFor, actionOf, askedAt, readVersion, reading, testing, decidedAs, deciding, modelCall, modelCut, currentEnd}
+use Rattle.promises.proofs.worlds.LogSays.{given, left}
 
 module _ (P : Reply → Type 0) (m : Model) (no : (n p : ℕ) → P (refuses n p m)) where
   of-file : (f : ℕ) (r : Reply) → P r → P (ofFile m f r)

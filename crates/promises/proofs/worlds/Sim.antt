@@ -25,11 +25,11 @@ use Rattle.calls.specs.Calls as store
 use Rattle.calls.specs.Calls.{Call, begin, write, read, test, decide, rebuild, isKnown, hasAction, append}
 use Rattle.recovery.proofs.Refused.{place-holds, action-holds}
 use Rattle.recovery.proofs.Spots.{entryIn, Spot, spots, entry-down, Lies, current-of-lies, token-of-lies}
-use Rattle.promises.specs.Model.{Object, Status, Model, Reply, stores, refuses, hasRoom}
+use Rattle.promises.specs.Model.{Object, Status, Model, Reply, stores, refuses, hasRoom, currentEnd, tokenEnd}
 use Rattle.promises.proofs.logs.Logs.{Fits, Lawful, known-place}
 use Rattle.promises.proofs.logs.Outcomes.{DecidedAt}
 use Rattle.promises.proofs.logs.Fates.{fates-are, undecided-low, down-put}
-use Rattle.promises.proofs.worlds.LogSays.{currentEnd, tokenEnd, withObjects, Says, written}
+use Rattle.promises.proofs.worlds.LogSays.{withObjects, Says, written}
 
 -- a row as it counts: rebuilt where it is cold
 abbrev pub warmOf : Row → List Entry → ℕ → Row

@@ -14,11 +14,11 @@ use Rattle.recovery.specs.declared.Answer.the-variants.{Stored, Rebuilt, Told}
 use Rattle.inspection.specs.Lawful.{current, token}
 use Rattle.calls.specs.Calls.{Call, begin, write, read, test, decide, rebuild, forFile, forAction, forUndecided, unlessDecided, on, call}
 use Rattle.promises.specs.Model as model
-use Rattle.promises.specs.Model.{Model, Reply, newest, placed, ofFile, ofPending, testing, deciding, modelCall}
+use Rattle.promises.specs.Model.{Model, Reply, newest, placed, ofFile, ofPending, testing, deciding, modelCall, currentEnd, tokenEnd}
 use Rattle.promises.specs.FromLog.{statusOf}
 use Rattle.promises.proofs.logs.Logs.{not-undecided}
 use Rattle.promises.proofs.logs.Outcomes.{nowhere}
-use Rattle.promises.proofs.worlds.LogSays.{currentEnd, tokenEnd, newest-placed, token-placed, token-acted}
+use Rattle.promises.proofs.worlds.LogSays.{newest-placed, token-placed, token-acted}
 use Rattle.promises.proofs.worlds.Sim.{rowFor, Sim, stay, Agrees, agrees-cond, answers, refused, fate-eq, lent-right, has-action, warm-eq, row-holds, sim-warm}
 use Rattle.promises.proofs.worlds.SimWrites.{sim-begin, sim-write}
 use Rattle.promises.proofs.worlds.SimReads.{sim-read}

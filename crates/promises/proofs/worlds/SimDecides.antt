@@ -20,11 +20,11 @@ use Rattle.calls.specs.Calls as store
 use Rattle.calls.specs.Calls.{decide, append, decided, isTokenAt, settled, eachRow, onDecide}
 use Rattle.calls.proofs.DecideRows.{row-each, row-each-long}
 use Rattle.recovery.proofs.Spots.{Lies}
-use Rattle.promises.specs.Model.{Object, Model, changed, stores, stored, refuses, hasRoom, decidedAs}
+use Rattle.promises.specs.Model.{Object, Model, changed, stores, stored, refuses, hasRoom, decidedAs, currentEnd, tokenEnd}
 use Rattle.promises.proofs.logs.Logs.{known-place}
 use Rattle.promises.proofs.logs.Appends.{owns, outcome-current, outcome-token}
 use Rattle.promises.proofs.logs.Fates.{outcome-fates}
-use Rattle.promises.proofs.worlds.LogSays.{currentEnd, tokenEnd, left-current, left-end, left, left-is, outcome-says}
+use Rattle.promises.proofs.worlds.LogSays.{left-current, left-end, left, left-is, outcome-says}
 use Rattle.promises.proofs.worlds.Sim.{warmOf, rowFor, Sim, Agrees, agrees-cond, refused, token-lies, room-eq, blank-ok, lies-at, sim-append, appended}
 
 nth-each : (k : ℕ → Row → Row) (rs : List Row) (f : ℕ) → 1 ≤ f → f ≤ length rs → nth cold (eachRow k 0 rs) f ≡ k f (nth cold rs f)

@@ -19,12 +19,12 @@ use Rattle.calls.specs.Calls.{read, imageOf, isCarriedAt, walkFrom, answerWalk,
 use Rattle.recovery.proofs.Spots.{Spot, Spots, spots, Lies}
 use Rattle.recovery.proofs.Effective.{each-version}
 use Rattle.calls.proofs.LinkByLink.{reached, unlinked, linked}
-use Rattle.promises.specs.Model.{Version, Object, object, Model, newest, since, latest, shows, hasCarried, changed, withObject, readVersion, readHistory, reading}
+use Rattle.promises.specs.Model.{Version, Object, object, Model, newest, since, latest, shows, hasCarried, changed, withObject, readVersion, readHistory, reading, currentEnd, tokenEnd}
 use Rattle.promises.specs.FromLog.{versionOf, versionIn, carriedOf, history}
 use Rattle.promises.proofs.logs.Chains.{Ordered, versions-ordered, chain}
 use Rattle.promises.proofs.logs.Versions.{latestOf, version}
 use Rattle.promises.proofs.logs.Histories.{latest-is}
-use Rattle.promises.proofs.worlds.LogSays.{currentEnd, tokenEnd, changed-not, newest-since, carried-above, carried-entry}
+use Rattle.promises.proofs.worlds.LogSays.{changed-not, newest-since, carried-above, carried-entry}
 use Rattle.promises.proofs.worlds.Sim.{rowWith, rowFor, Sim, Agrees, agrees-cond, answers, entry-eq, refused, current-lies, token-lies, lies-at, row-holds, sim-set}
 
 -- what a walk comes to that finds a version, or none once a carried one was passed or not

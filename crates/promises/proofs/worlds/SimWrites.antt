@@ -21,12 +21,12 @@ use Rattle.calls.specs.Calls as store
 use Rattle.calls.specs.Calls.{begin, write, append, onBegin, onWrite}
 use Rattle.recovery.proofs.Spots.{Lies}
 use Rattle.promises.specs.Model as model
-use Rattle.promises.specs.Model.{Object, pending, Model, newest, since, refuses, changed, stores, stored, hasRoom, askedBefore, writing, modelCall}
+use Rattle.promises.specs.Model.{Object, pending, Model, newest, since, refuses, changed, stores, stored, hasRoom, askedBefore, writing, modelCall, currentEnd}
 use Rattle.promises.specs.FromLog.{versionIn}
 use Rattle.promises.proofs.logs.Logs.{ImageFits}
 use Rattle.promises.proofs.logs.Appends.{opening-versions, opening-token, image-versions, image-token}
 use Rattle.promises.proofs.logs.Fates.{opening-fates}
-use Rattle.promises.proofs.worlds.LogSays.{currentEnd, written, newest-since, token-acted, opening-says, given, image-says}
+use Rattle.promises.proofs.worlds.LogSays.{written, newest-since, token-acted, opening-says, given, image-says}
 use Rattle.promises.proofs.worlds.Sim.{warmOf, rowFor, Sim, Agrees, agrees-cond, refused, token-lies, room-eq, blank-ok, row-holds, sim-append, appended}
 
 max-below : (a b s : ℕ) → ltb (max a b) s ≡ (ltb a s && ltb b s)
