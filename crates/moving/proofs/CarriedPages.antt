@@ -21,7 +21,7 @@ use Rattle.page.specs.Table as table
 use Rattle.page.specs.Table.{valueOf, fieldsOf, packed, lowest, highest, between, meetsRules, isPageOf}
 use Rattle.page.specs.Answers.{inBounds, tested, onImage, valueIn}
 use Rattle.page.proofs.Rules.{between-true}
-use Rattle.page.proofs.Found.{found}
+use Rattle.page.proofs.Found.{found, image-is}
 use Rattle.page.proofs.Obeyed.{image-rules}
 use Rattle.recovery.specs.Sheet.{pageBytes, imageFrom, isOpening, decoded}
 use Rattle.recovery.specs.Log.{image}
@@ -63,6 +63,31 @@ module _ (files : ℕ) (s : List ℕ) (f p : ℕ) (x : Page) where
   unfolding sealedImage
   found-image e = from-test (tested (pageBytes s p) p files) refl e
 
+-- what the rules then say of its start and value
+module _ (b : List ℕ) (files p : ℕ) (x : Page) (e : Image x ≡ tested b p files) where
+  kind-is : x .kind ≡ 2
+  kind-is = image-is b p files x e .kind
+
+  rules-met : meetsRules x (valueOf b) p files ≡ true
+  unfolding isPageOf
+  rules-met =
+      let h = found b p files (Image x) e in
+      subst (λ (y : Page). meetsRules y (valueOf b) p files ≡ true) (sym (h .fields-are)) (and-true (meetsRules (fieldsOf b) (valueOf b) p files) _ (h .fits-is) .0)
+
+  rest-zero : zeros (drop (x .small) (valueOf b)) ≡ true
+  unfolding meetsRules
+  rest-zero =
+      let z = and-true (between x (lowest (x .kind) p) (highest (x .kind) p files)) _ rules-met .1 in
+      rw (eq-eqb (x .kind) 2 kind-is) at z
+
+  pub start-high : x .start < 2 ^ 64
+  unfolding meetsRules lowest highest
+  start-high =
+      let i : x .kind ≡ 2 = kind-is in
+      let z = between-true x _ _ (and-true (between x (lowest (x .kind) p) (highest (x .kind) p files)) _ rules-met .0) .start .1 in
+      let y = simp (ne-eqb (x .kind) 1 (λ q. omega arith), eq-eqb (x .kind) 2 i) at z in
+      omega arith
+
 module _ (files : ℕ) (s : List ℕ) (file place : ℕ) (x : Page) (m : sealedImage files s file place ≡ sought.Sought.Image x) where
   abbrev b : List ℕ
   b = pageBytes s place
@@ -70,32 +95,18 @@ module _ (files : ℕ) (s : List ℕ) (file place : ℕ) (x : Page) (m : sealedI
   k : Met files s file place x
   k = met-at files s file place x m
 
-  rules-met : meetsRules x (valueOf b) place files ≡ true
-  unfolding isPageOf
-  rules-met =
-      let h = found b place files (Image x) (found-image files s file place x m) in
-      subst (λ (p : Page). meetsRules p (valueOf b) place files ≡ true) (sym (h .fields-are)) (and-true (meetsRules (fieldsOf b) (valueOf b) place files) _ (h .fits-is) .0)
+  told : Image x ≡ tested b place files
+  told = found-image files s file place x m
 
-  pub rest-zero : zeros (drop (x .small) (valueOf b)) ≡ true
-  unfolding meetsRules
-  rest-zero =
-      let z = and-true (between x (lowest (x .kind) place) (highest (x .kind) place files)) _ rules-met .1 in
-      rw (eq-eqb (x .kind) 2 (k .rules .kind)) at z
-
-  start-high : x .start < 2 ^ 64
-  unfolding meetsRules lowest highest
-  start-high =
-      let i : x .kind ≡ 2 = k .rules .kind in
-      let z = between-true x _ _ (and-true (between x (lowest (x .kind) place) (highest (x .kind) place files)) _ rules-met .0) .start .1 in
-      let y = simp (ne-eqb (x .kind) 1 (λ q. omega arith), eq-eqb (x .kind) 2 i) at z in
-      omega arith
+  pub value-rest : zeros (drop (x .small) (valueOf b)) ≡ true
+  value-rest = rest-zero b files place x told
 
   -- the page that the move stores for it obeys the rules
   pub carried-rules : (at : ℕ) → 1 ≤ at → meetsRules (table.image (x .small) file 1 0 (x .start)) (valueOf b) (suc at) files ≡ true
   carried-rules at h =
       let f = k .file-is in
       image-rules (x .small) file 1 0 (x .start) (suc at) files (valueOf b) (k .rules .size) (rw f at (k .rules .file .0)) (rw f at (k .rules .file .1)) (omega arith) (omega arith) (omega arith)
-      (k .rules .start) start-high rest-zero
+      (k .rules .start) (start-high b files place x told) value-rest
 
   -- what is left when it was stored
   pub stored-is : (at : ℕ) (fresh left : List ℕ) (p : Page) (v : List ℕ) → (1 ≤ at) × (pageSize * at + pageSize ≤ length fresh) × (inBounds pageSize (suc at) files ≡ true)

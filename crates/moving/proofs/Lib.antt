@@ -12,5 +12,8 @@ pub mod MoveCall
 pub mod ReadAlike
 pub mod Floor
 pub mod FreshCut
+pub mod FittingPages
 pub mod DecodedBytes
 pub mod MoveRefusals
+pub mod CutSheets
+pub mod FreshBytes

@@ -33,7 +33,7 @@ use Rattle.moving.proofs.Went.{Went, went}
 
 -- ---- the image that a place holds
 
-image-is : (g : Entry) (i : Image) → imageOf g ≡ some i → g ≡ image i
+pub image-is : (g : Entry) (i : Image) → imageOf g ≡ some i → g ≡ image i
 image-is blank i e = let z : _≡_ {A = ℕ} 0 1 = cc in absurd (omega arith)
 image-is torn i e = let z : _≡_ {A = ℕ} 0 1 = cc in absurd (omega arith)
 image-is bad i e = let z : _≡_ {A = ℕ} 0 1 = cc in absurd (omega arith)
@@ -69,7 +69,7 @@ warm-mark w f = go (eqb (rowAt w f .mark) 0) refl
     go false e = rw e e
 
 -- line 1 of the files
-files-lent : (w : World) → lentRight w ≡ true → (leb 1 (length (w .rows)) ≡ true) × (leb (length (w .rows)) mostFiles ≡ true)
+pub files-lent : (w : World) → lentRight w ≡ true → (leb 1 (length (w .rows)) ≡ true) × (leb (length (w .rows)) mostFiles ≡ true)
 unfolding lentRight
 files-lent w h =
     let a = length (w .sheet) in

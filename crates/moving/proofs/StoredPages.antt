@@ -38,7 +38,7 @@ use Rattle.calls.proofs.ReadWalks.{met-long}
 use Rattle.moving.specs.Moved.{versionOf, carried, carriedBy, versionsTo}
 use Rattle.moving.specs.MoveLeaves.{laid, onto}
 use Rattle.moving.specs.MoveSteps.{placesTo, storedBy, storesTo, closedBy, storesAll, Roomy}
-use Rattle.moving.proofs.CarriedPages.{padded-back, rest-zero, value-size}
+use Rattle.moving.proofs.CarriedPages.{padded-back, value-rest, value-size}
 
 -- ---- pages one above another
 
@@ -97,7 +97,7 @@ module _ (files : ℕ) (s : List ℕ) (file place : ℕ) where
     value-back : padded (take (x .small) (valueOf b)) ≡ valueOf b
     value-back =
         let k = met-at files s file place x m in
-        padded-back (x .small) (valueOf b) (value-size s place (k .low) (k .room)) (k .rules .size) (rest-zero files s file place x m)
+        padded-back (x .small) (valueOf b) (value-size s place (k .low) (k .room)) (k .rules .size) (value-rest files s file place x m)
 
     -- the page that is stored is that of the carried image
     entry-is : (at : ℕ) → packed (table.image (x .small) file 1 0 (x .start)) (valueOf b) (suc at) ≡ packedEntry (suc at) (image (carried (imageFrom b x)))
