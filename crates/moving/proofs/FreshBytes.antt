@@ -158,21 +158,21 @@ module _ (s fates rows : List ℕ) (state : State) (fresh : List ℕ) (floor : �
   unfolding moveLeaves
   old-left = rw (passed .0, moved-is)
 
-  bytes-are : x .fresh ≡ onto fresh (movePages v)
+  pub bytes-are : x .fresh ≡ onto fresh (movePages v)
   unfolding moveLeaves isRefused
   bytes-are = rw (passed .0, moved-is)
 
   -- ---- the pages
 
-  places : length old ≡ length fresh / pageSize
+  pub places : length old ≡ length fresh / pageSize
   places = pages-long files (length fresh / pageSize) fresh
 
-  few-files : (1 ≤ files) × (files ≤ mostFiles)
+  pub few-files : (1 ≤ files) × (files ≤ mostFiles)
   few-files =
       let q = files-lent w (now-went .lent) in
       (omega (arith, leb-true 1 (length (w .rows)) (q .0), rows-long rows), omega (arith, leb-true (length (w .rows)) mostFiles (q .1), rows-long rows))
 
-  few-pages : (1 ≤ length fresh / pageSize) × (length fresh / pageSize ≤ mostPlaces)
+  pub few-pages : (1 ≤ length fresh / pageSize) × (length fresh / pageSize ≤ mostPlaces)
   few-pages =
       let q = and-true (leb 1 (length old)) (leb (length old) mostPlaces) (now-went .sheet) in
       (omega (arith, leb-true 1 (length old) (q .0), places), omega (arith, leb-true (length old) mostPlaces (q .1), places))

@@ -51,7 +51,7 @@ not-bad (g ∷ l) w = go g (lawful-parts g l w .0) (not-bad l (lawful-parts g l 
     go (image i) h r = r
     go (outcome a c) h r = r
 
-none-undecided : (φ : ℕ → ℕ) (i n : ℕ) → ((a : ℕ) → eqb (φ a) 1 ≡ false) → undecidedOf (tabulate φ i n) ≡ 0
+pub none-undecided : (φ : ℕ → ℕ) (i n : ℕ) → ((a : ℕ) → eqb (φ a) 1 ≡ false) → undecidedOf (tabulate φ i n) ≡ 0
 unfolding undecidedOf tabulate
 none-undecided φ i zero h = refl
 none-undecided φ i (suc n) h = rw (h (suc i), none-undecided φ (suc i) n h)

@@ -17,3 +17,4 @@ pub mod DecodedBytes
 pub mod MoveRefusals
 pub mod CutSheets
 pub mod FreshBytes
+pub mod CutMoves
