@@ -3,7 +3,9 @@ pub mod Heard
 pub mod ModelRuns
 pub mod CutEffects
 pub mod Origins
+pub mod Carried
 pub mod Seen
+pub mod MovedReads
 pub mod Overtaking
 pub mod Reserved
 pub mod Fallen

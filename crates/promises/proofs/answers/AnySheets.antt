@@ -92,7 +92,7 @@ module _ (n files : ℕ) (s : List ℕ) (long : length s ≡ pageSize * n) (sz :
     };
   }
 
-pub any-heard : (n files : ℕ) (s : List ℕ) (es : List Event) → sizes n n files ≡ true → length s ≡ pageSize * n → inspected s files ≡ Lowest 0 → AllAllowed n files es
+pub any-heard : (n files : ℕ) (s : List ℕ) (es : List Event) → sizes n n files ≡ true → length s ≡ pageSize * n → inspected s files ≡ Lowest 0 → AllAllowed files (off s) es
     → heard (off s) es ≡ modelHeard false (modelOf n files (logIn files s)) es
 unfolding reached
 any-heard n files s es sz long h t = heard-alike n files (off s) (reached n files s long sz h) es t

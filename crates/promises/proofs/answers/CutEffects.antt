@@ -19,7 +19,7 @@ use Rattle.calls.specs.Calls.{Call, begin, write, read, test, decide, rebuild}
 use Rattle.calls.specs.Leaves.{withPage}
 use Rattle.calls.proofs.OnePage.{SameBut, only-one-page}
 use Rattle.calls.specs.Cuts.{storedOf}
-use Rattle.promises.specs.Runs.{Ordered, Box, on, off, Event, calls, opens, cuts, callOn, answerTo, after, numbered, heard, Typed, Allowed, AllAllowed}
+use Rattle.promises.specs.Runs.{Ordered, Box, on, off, Event, calls, opens, cuts, callOn, answerTo, after, numbered, heard, Typed, Allowed, AllAllowed, moves, cutsMove}
 use Rattle.promises.specs.Model.{Version, Status, pending, committed, aborted, Model, Reply, Object, latest, hasCarried, readVersion, reading, testing, refuses, ofPending, stores, modelCall, modelOpened, modelAnswer, modelAfter, modelHeard, isLent, isUnfinished, isOpened}
 use Rattle.promises.specs.Promises.{IsPageOf, Looks}
 use Rattle.promises.proofs.worlds.LogSays.{withObjects}
@@ -124,10 +124,12 @@ module _ (u : ℕ) where
   same-looks false m (calls k ∷ es) h = ap (λ ys. none ∷ ys) (same-looks false m es (h .1))
   same-looks b m (opens floor fates rows ∷ es) h = absurd h
   same-looks b m (cuts k kept ∷ es) h = absurd h
+  same-looks b m (moves fresh ∷ es) h = absurd h
+  same-looks b m (cutsMove fresh k ∷ es) h = absurd h
 
-looks-allowed : (n files : ℕ) (es : List Event) → Looks es → AllAllowed n files es
-looks-allowed n files [] h = tt
-looks-allowed n files (calls k ∷ es) h = (typed k (h .0), looks-allowed n files es (h .1))
+looks-allowed : (files : ℕ) (b : Box) (es : List Event) → Looks es → AllAllowed files b es
+looks-allowed files b [] h = tt
+looks-allowed files b (calls k ∷ es) h = (typed k (h .0), looks-allowed files (after b (calls k)) es (h .1))
   where
     typed : (q : Call) → ((g : Entry) → IsPageOf q g → ⊥) → Typed q
     typed begin h = tt
@@ -136,8 +138,10 @@ looks-allowed n files (calls k ∷ es) h = (typed k (h .0), looks-allowed n file
     typed (read f t a) h = tt
     typed (test a) h = tt
     typed (rebuild f) h = tt
-looks-allowed n files (opens floor fates rows ∷ es) h = absurd h
-looks-allowed n files (cuts k kept ∷ es) h = absurd h
+looks-allowed files b (opens floor fates rows ∷ es) h = absurd h
+looks-allowed files b (cuts k kept ∷ es) h = absurd h
+looks-allowed files b (moves fresh ∷ es) h = absurd h
+looks-allowed files b (cutsMove fresh k ∷ es) h = absurd h
 
 -- ---- fewer bytes stored: the model has used one page more, or none
 
@@ -155,13 +159,17 @@ cut-used true m k kept h = go (eqb (modelCall m k .1 .used) (m .used) || not (ke
     go true = record { used = m .used; is = refl; low = omega arith; high = omega arith }
     go false = record { used = suc (m .used); is = rw h; low = omega arith; high = omega arith }
 
-module _ (pages files : ℕ) (b : Box) (m : Reached pages files b) (k : Call) (kept : ℕ → Bool) (t : Allowed pages files (cuts k kept)) (floor : ℕ) (fates rows : List ℕ)
-    (o : Allowed pages files (opens floor fates rows)) (h : kept markAt ≡ false) where
+module _ (pages files : ℕ) (b : Box) (m : Reached pages files b) (k : Call) (kept : ℕ → Bool) (t : Allowed files b (cuts k kept)) (floor : ℕ) (fates rows : List ℕ)
+    (o′ : Allowed files (after b (cuts k kept)) (opens floor fates rows)) (h : kept markAt ≡ false) where
   abbrev cut-box : Reached pages files (after b (cuts k kept))
   cut-box = reached-next pages files b m (cuts k kept) t
 
+  -- the sheet is as long
+  o : Allowed files b (opens floor fates rows)
+  o q = o′ (rw (cut-box .at .long) (rw (m .at .long) at q))
+
   abbrev cut-opened : Reached pages files (after (after b (cuts k kept)) (opens floor fates rows))
-  cut-opened = reached-next pages files (after b (cuts k kept)) cut-box (opens floor fates rows) o
+  cut-opened = reached-next pages files (after b (cuts k kept)) cut-box (opens floor fates rows) o′
 
   abbrev uncut-opened : Reached pages files (after b (opens floor fates rows))
   uncut-opened = reached-next pages files b m (opens floor fates rows) o
@@ -170,18 +178,18 @@ module _ (pages files : ℕ) (b : Box) (m : Reached pages files b) (k : Call) (k
   abbrev openedHeard : Model → List Event → List (Option (List ℕ))
   openedHeard x es = modelHeard (isOpened x fates rows) (cond (isOpened x fates rows) (modelOpened x floor) x) es
 
-  heard-cut : (es : List Event) → AllAllowed pages files es → (u : ℕ) → modelAfter (isOn b) (m .model) (cuts k kept) ≡ usedTo u (m .model)
+  heard-cut : (es : List Event) → AllAllowed files (after (after b (cuts k kept)) (opens floor fates rows)) es → (u : ℕ) → modelAfter (isOn b) (m .model) (cuts k kept) ≡ usedTo u (m .model)
       → heard (after (after b (cuts k kept)) (opens floor fates rows)) es ≡ openedHeard (usedTo u (m .model)) es
   heard-cut es al u e =
       heard-alike pages files (after (after b (cuts k kept)) (opens floor fates rows)) cut-opened es al
-      ∙ ap (λ c. modelHeard c (cut-opened .model) es) (power-is pages files (after b (cuts k kept)) cut-box (opens floor fates rows) o)
+      ∙ ap (λ c. modelHeard c (cut-opened .model) es) (power-is pages files (after b (cuts k kept)) cut-box (opens floor fates rows) o′)
       ∙ ap (λ x. openedHeard x es) e
 
   pub cut-as-unasked : (looks : List Event) → Looks looks → heard (after (after b (cuts k kept)) (opens floor fates rows)) looks ≡ heard (after b (opens floor fates rows)) looks
   cut-as-unasked looks a =
       let u = cut-used (isOn b) (m .model) k kept h in
-      let al = looks-allowed pages files looks a in
-      heard-cut looks al (u .used) (u .is) ∙ go (u .used) (isOpened (m .model) fates rows)
+      let al = looks-allowed files (after b (opens floor fates rows)) looks a in
+      heard-cut looks (looks-allowed files (after (after b (cuts k kept)) (opens floor fates rows)) looks a) (u .used) (u .is) ∙ go (u .used) (isOpened (m .model) fates rows)
       ∙ sym (heard-alike pages files (after b (opens floor fates rows)) uncut-opened looks al ∙ ap (λ c. modelHeard c (uncut-opened .model) looks) (power-is pages files b m (opens floor fates rows) o))
     where
       go : (u : ℕ) (c : Bool) → modelHeard c (cond c (modelOpened (usedTo u (m .model)) floor) (usedTo u (m .model))) looks ≡ modelHeard c (cond c (modelOpened (m .model) floor) (m .model)) looks
@@ -196,7 +204,7 @@ module _ (pages files : ℕ) (b : Box) (m : Reached pages files b) (k : Call) (k
       let before : modelAnswer (isOn b) (m .model) (calls (test action)) ≡ some (Told fate place) = sym (answer-is pages files b m (calls (test action)) tt) ∙ e in
       let later : openedAnswer (usedTo (u .used) (m .model)) ≡ some x = sym (
       answer-is pages files (after (after b (cuts k kept)) (opens floor fates rows)) cut-opened (calls (test action)) tt
-      ∙ ap (λ c. modelAnswer c (cut-opened .model) (calls (test action))) (power-is pages files (after b (cuts k kept)) cut-box (opens floor fates rows) o)
+      ∙ ap (λ c. modelAnswer c (cut-opened .model) (calls (test action))) (power-is pages files (after b (cuts k kept)) cut-box (opens floor fates rows) o′)
       ∙ ap openedAnswer (u .is)) ∙ l in
       go (u .used) (isOn b) (isOpened (m .model) fates rows) before later
     where
@@ -228,5 +236,5 @@ module _ (pages files : ℕ) (b : Box) (m : Reached pages files b) (k : Call) (k
       let u = cut-used (isOn b) (m .model) k kept h in
       let before = opened-is (isLent (m .model) fates rows) (isUnfinished (m .model)) (m .model .used) (m .model .undecided) end w (sym (answer-is pages files b m (opens floor fates rows) o) ∙ p) in
       let later = opened-is (isLent (usedTo (u .used) (m .model)) fates rows) (isUnfinished (m .model)) (u .used) (m .model .undecided) end′ w′
-      (sym (answer-is pages files (after b (cuts k kept)) cut-box (opens floor fates rows) o ∙ ap (λ x. some (cond (isLent x fates rows) (cond (isUnfinished x) (Refused 24 0) (Opened (x .used) (x .undecided))) (Refused 1 0))) (u .is)) ∙ q) in
+      (sym (answer-is pages files (after b (cuts k kept)) cut-box (opens floor fates rows) o′ ∙ ap (λ x. some (cond (isLent x fates rows) (cond (isUnfinished x) (Refused 24 0) (Opened (x .used) (x .undecided))) (Refused 1 0))) (u .is)) ∙ q) in
       (sym (later .1) ∙ before .1, omega (arith, u .low), omega (arith, u .high))

@@ -11,7 +11,7 @@ use Rattle.promises.proofs.logs.Chains.{Ordered, versions-ordered, chai
 use Rattle.promises.proofs.logs.Histories.{newest-is}
 use Rattle.promises.proofs.worlds.LogSays.{since-is}
 use Rattle.promises.proofs.boxes.Boxes.{isOn, Reached}
-use Rattle.promises.proofs.boxes.BoxRuns.{reached-next, reached-blank, power-is}
+use Rattle.promises.proofs.boxes.BoxRuns.{reached-next, reached-blank, power-is, pagesAfter, pagesOn}
 use Rattle.promises.specs.FromLog.{versionOf}
 use Rattle.promises.specs.Promises.{Falls}
 
@@ -19,23 +19,23 @@ falls-in : (vs : List Placed) → Ordered vs → Falls (map versionOf vs)
 falls-in [] o = tt
 falls-in (x ∷ vs) o = (subst (λ n. n < x .image .start) (sym (ap since (newest-is vs) ∙ since-is (head? vs))) (o .0 .later), falls-in vs (o .1))
 
-module _ (n files : ℕ) where
-  -- the model that a run has reached
-  pub record Ends (b : Box) (m : Model) : Type 0 where
-    pub with : Reached n files b
-    pub is : with .model ≡ m
+-- the model that a run has reached
+pub record Ends (n files : ℕ) (b : Box) (m : Model) : Type 0 where
+  pub with : Reached n files b
+  pub is : with .model ≡ m
 
-  pub ends : (b : Box) (k : Reached n files b) (es : List Event) → AllAllowed n files es → Ends (runs b es) (modelRuns (isOn b) (k .model) es)
-  ends b k [] t = record { with = k; is = refl }
-  ends b k (e ∷ es) t =
-      let r = ends (after b e) (reached-next n files b k e (t .0)) es (t .1) in
-      record { with = r .with; is = r .is ∙ ap (λ o. modelRuns o (modelAfter (isOn b) (k .model) e) es) (power-is n files b k e (t .0)) }
+pub ends : (n files : ℕ) (b : Box) (k : Reached n files b) (es : List Event) → AllAllowed files b es → Ends (pagesOn n b es) files (runs b es) (modelRuns (isOn b) (k .model) es)
+ends n files b k [] t = record { with = k; is = refl }
+ends n files b k (e ∷ es) t =
+    let r = ends (pagesAfter n b e) files (after b e) (reached-next n files b k e (t .0)) es (t .1) in
+    record { with = r .with; is = r .is ∙ ap (λ o. modelRuns o (modelAfter (isOn b) (k .model) e) es) (power-is n files b k e (t .0)) }
 
-  falls-at : (b : Box) (k : Reached n files b) (file : ℕ) → Falls (k .model .object file .history)
-  falls-at b k file =
+module _ (files : ℕ) where
+  falls-at : (n : ℕ) (b : Box) (k : Reached n files b) (file : ℕ) → Falls (k .model .object file .history)
+  falls-at n b k file =
       subst Falls (sym (k .at .says .history file)) (falls-in (versions (k .log) file) (versions-ordered (fateOf (k .log)) (effectiveOf (k .log) file) (chain (k .log) file (k .at .holds .lawful))))
 
-  pub fallen : (es : List Event) (file : ℕ) → Run n files es → Falls (modelRuns false (blankModel n files) es .object file .history)
-  fallen es file r =
-      let x = ends (blankBox n) (reached-blank n files (r .sized)) es (r .allowed) in
-      subst (λ m. Falls (m .object file .history)) (x .is) (falls-at (runs (blankBox n) es) (x .with) file)
+pub fallen : (n files : ℕ) (es : List Event) (file : ℕ) → Run n files es → Falls (modelRuns false (blankModel n files) es .object file .history)
+fallen n files es file r =
+      let x = ends n files (blankBox n) (reached-blank n files (r .sized)) es (r .allowed) in
+      subst (λ m. Falls (m .object file .history)) (x .is) (falls-at files (pagesOn n (blankBox n) es) (runs (blankBox n) es) (x .with) file)

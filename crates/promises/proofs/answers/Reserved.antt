@@ -1,29 +1,32 @@
 -- The reserve holds: begin and write leave a page for the outcome of every undecided action, also where they are torn.
-use Prim.Native.Nat.{ℕ, zero, suc, pred, _+_, _-_, _≤_}
+use Rattle.encoding.proofs.Logic.{by-test}
+use Rattle.encoding.specs.Bytes.{zeros}
+use Rattle.moving.specs.Moved.{isSheet}
+use Prim.Native.Nat.{ℕ, zero, suc, pred, _+_, _-_, _≤_, _*_, _/_, _%_}
 use mathlib.Core.Path.{_≡_, refl, sym, ap, _∙_}
 use mathlib.Core.List.{List, [], _∷_, _++_}
-use mathlib.Core.Bool.{Bool, true, false, cond, not, _||_, true≢false}
+use mathlib.Core.Bool.{Bool, true, false, cond, not, _||_, true≢false, _&&_}
 use mathlib.Core.Option.{some, none}
 use mathlib.Core.Logic.{_⊎_, inl, inr}
 use native.Mathlib.Omega.{arith}
 use lib.ListN.{length, getD}
-use lib.Dec.{eqb}
+use lib.Dec.{eqb, leb}
 use borrow.Author.Tests.{leb-true, le-leb, eqb-false, eq-eqb}
-use Rattle.page.specs.Layout.{kindAt, markAt}
+use Rattle.page.specs.Layout.{kindAt, markAt, pageSize}
 use Rattle.recovery.specs.Places.{nth}
 use Rattle.recovery.specs.Log.{undecided, fateOf}
 use Rattle.recovery.specs.World.{fateNumber, fatesOf, undecidedOf}
-use Rattle.recovery.specs.declared.Answer.the-variants.{Stored, Told}
+use Rattle.recovery.specs.declared.Answer.the-variants.{Stored, Told, Moved}
 use Rattle.recovery.proofs.Places.{nth-tabulate}
 use Rattle.recovery.proofs.LogFates.{undecided-known}
 use Rattle.calls.specs.Calls.{Call, begin, write, read, test, decide, rebuild}
-use Rattle.promises.specs.Runs.{Box, Event, calls, opens, cuts, answerTo, after, runs, Allowed, AllAllowed, blankBox, Run}
+use Rattle.promises.specs.Runs.{Box, Event, calls, opens, cuts, answerTo, after, runs, Allowed, AllAllowed, blankBox, Run, moves, cutsMove}
 use Rattle.promises.specs.Promises.{NoTornOutcome}
-use Rattle.promises.specs.Model.{Model, Reply, stores, hasRoom, modelCall, modelOpened, modelCut, modelAfter, isOpened}
+use Rattle.promises.specs.Model.{Model, Reply, stores, hasRoom, modelCall, modelOpened, modelCut, modelAfter, isOpened, refuses, askedTo, movedPages, lowestPending, modelMoved, modelMove}
 use Rattle.promises.proofs.logs.Logs.{known-place}
 use Rattle.promises.proofs.worlds.ModelCalls.{begins, writes, reads, tests, decides, rebuilds}
 use Rattle.promises.proofs.boxes.Boxes.{isOn, Reached}
-use Rattle.promises.proofs.boxes.BoxRuns.{reached-next, reached-blank, answer-is}
+use Rattle.promises.proofs.boxes.BoxRuns.{reached-next, reached-blank, answer-is, pagesAfter, pagesOn}
 use Rattle.promises.proofs.logs.Fates.{same-fate}
 use Rattle.promises.proofs.boxes.Found.{told-fate}
 use Rattle.promises.proofs.answers.Seen.{status-by}
@@ -86,14 +89,23 @@ module _ (m : Model) (h : Left-for m) where
   open-keeps floor true = h
   open-keeps floor false = h
 
+  -- a fresh sheet has room for what is moved onto it
+  move-keeps : (fresh : List ℕ) → Left-for (modelMove m fresh .1)
+  move-keeps fresh =
+      by-test Keeps (eqb (length fresh % pageSize) 0 && isSheet (length fresh / pageSize)) {y = refuses 1 0 m}
+      (λ a. by-test Keeps (eqb (lowestPending m) 0) {y = refuses 23 (lowestPending m) m}
+      (λ b. by-test Keeps (leb (movedPages m) (length fresh / pageSize)) {y = refuses 11 0 m}
+      (λ c. by-test Keeps (zeros fresh) {x = (Moved (askedTo (m .floor) (m .object) (m .files)), modelMoved m (length fresh / pageSize))} {y = refuses 12 0 m}
+      (λ d. omega (arith, leb-true (movedPages m) (length fresh / pageSize) c)) (λ d. h)) (λ c. h)) (λ b. h)) (λ a. h)
+
 -- ---- along a run
 
-module _ (n files : ℕ) where
-  record Spared (b : Box) : Type 0 where
-    pub with : Reached n files b
-    pub left : Left-for (with .model)
+record Spared (n files : ℕ) (b : Box) : Type 0 where
+  pub with : Reached n files b
+  pub left : Left-for (with .model)
 
-  spared-next : (b : Box) → Spared b → (e : Event) → Allowed n files e → NoTornOutcome (e ∷ []) → Spared (after b e)
+module _ (n files : ℕ) where
+  spared-next : (b : Box) → Spared n files b → (e : Event) → Allowed files b e → NoTornOutcome (e ∷ []) → Spared (pagesAfter n b e) files (after b e)
   spared-next b k e t w = record { with = reached-next n files b (k .with) e t; left = go (isOn b) e w }
     where
       go : (o : Bool) (e : Event) → NoTornOutcome (e ∷ []) → Left-for (modelAfter o (k .with .model) e)
@@ -102,6 +114,10 @@ module _ (n files : ℕ) where
       go o (opens floor fates rows) w = open-keeps (k .with .model) (k .left) floor (isOpened (k .with .model) fates rows)
       go true (cuts c kept) w = cut-keeps (k .with .model) (k .left) c kept (λ a d q. w [] [] a d kept (ap (λ x. cuts x kept ∷ []) q))
       go false (cuts c kept) w = k .left
+      go true (moves fresh) w = move-keeps (k .with .model) (k .left) fresh
+      go false (moves fresh) w = k .left
+      go true (cutsMove fresh c) w = by-test Left-for (leb (pageSize * movedPages (k .with .model)) c) (λ e. move-keeps (k .with .model) (k .left) fresh) (λ e. k .left)
+      go false (cutsMove fresh c) w = k .left
 
   -- of a run, its first event and the rest
   first-whole : (e : Event) (es : List Event) → NoTornOutcome (e ∷ es) → NoTornOutcome (e ∷ [])
@@ -116,12 +132,14 @@ module _ (n files : ℕ) where
   rest-whole : (e : Event) (es : List Event) → NoTornOutcome (e ∷ es) → NoTornOutcome es
   rest-whole e es w es₁ es₂ a c kept q = w (e ∷ es₁) es₂ a c kept (ap (λ l. e ∷ l) q)
 
-  spared-on : (b : Box) → Spared b → (es : List Event) → AllAllowed n files es → NoTornOutcome es → Spared (runs b es)
-  spared-on b k [] t w = k
-  spared-on b k (e ∷ es) t w = spared-on (after b e) (spared-next b k e (t .0) (first-whole e es w)) es (t .1) (rest-whole e es w)
+spared-on : (n files : ℕ) (b : Box) → Spared n files b → (es : List Event) → AllAllowed files b es → NoTornOutcome es → Spared (pagesOn n b es) files (runs b es)
+spared-on n files b k [] t w = k
+spared-on n files b k (e ∷ es) t w =
+    spared-on (pagesAfter n b e) files (after b e) (spared-next n files b k e (t .0) (first-whole n files e es w)) es (t .1) (rest-whole n files e es w)
 
-  -- ---- an undecided action is counted
+-- ---- an undecided action is counted
 
+module _ (n files : ℕ) where
   counted : (l : List ℕ) (i : ℕ) → getD l i 0 ≡ 1 → 1 ≤ undecidedOf l
   unfolding undecidedOf
   counted [] i e = absurd (omega arith)
@@ -138,7 +156,7 @@ module _ (n files : ℕ) where
       let c = counted-at (fatesOf (m .model .pages) (m .log)) a (nth-tabulate (λ x. fateNumber (fateOf (m .log) x)) (m .model .pages) a 0 (p .0) (omega (arith, p .1, m .at .holds .room, m .at .pages-are)) ∙ ap fateNumber u) in
       omega (arith, m .at .says .undecided, c)
 
-  can-decide : (b : Box) → Spared b → (action p : ℕ) (c : Bool) → answerTo b (calls (test action)) ≡ some (Told 1 p) → (place : ℕ) × (answerTo b (calls (decide action c)) ≡ some (Stored place))
+  can-decide : (b : Box) → Spared n files b → (action p : ℕ) (c : Bool) → answerTo b (calls (test action)) ≡ some (Told 1 p) → (place : ℕ) × (answerTo b (calls (decide action c)) ≡ some (Stored place))
   can-decide b k action p c e =
       let m = k .with in
       let t = told-fate n files b m action 1 p e in
@@ -146,7 +164,7 @@ module _ (n files : ℕ) where
       let room : 1 ≤ m .model .pages - m .model .used = omega (arith, some-open b m action u, k .left) in
       (suc (m .model .used), answer-is n files b m (calls (decide action c)) tt ∙ rw (t .0, status-by n files b m action undecided u, le-leb 1 (m .model .pages - m .model .used) room))
 
-  pub run-reserved : (es : List Event) → Run n files es → NoTornOutcome es → (action p : ℕ) (c : Bool) → answerTo (runs (blankBox n) es) (calls (test action)) ≡ some (Told 1 p)
+pub run-reserved : (n files : ℕ) (es : List Event) → Run n files es → NoTornOutcome es → (action p : ℕ) (c : Bool) → answerTo (runs (blankBox n) es) (calls (test action)) ≡ some (Told 1 p)
       → (place : ℕ) × (answerTo (runs (blankBox n) es) (calls (decide action c)) ≡ some (Stored place))
-  run-reserved es r w action p c e =
-      can-decide (runs (blankBox n) es) (spared-on (blankBox n) (record { with = reached-blank n files (r .sized); left = omega arith }) es (r .allowed) w) action p c e
+run-reserved n files es r w action p c e =
+    can-decide (pagesOn n (blankBox n) es) files (runs (blankBox n) es) (spared-on n files (blankBox n) (record { with = reached-blank n files (r .sized); left = omega arith }) es (r .allowed) w) action p c e

@@ -1,4 +1,6 @@
 -- What people see, traced to the calls: fates to begins and decisions, values to writes; and whole or not at all.
+use Rattle.moving.specs.Promised.{SameVersion}
+use Rattle.promises.proofs.answers.Carried.{once}
 use Prim.Native.Nat.{ℕ, suc, _-_, _≤_, _<_}
 use mathlib.Core.Path.{_≡_, refl, sym, ap, _∙_, subst}
 use mathlib.Core.List.{List}
@@ -24,24 +26,23 @@ use Rattle.recovery.specs.World.{fateNumber, isBlank, isCarried}
 use Rattle.recovery.specs.declared.Answer.the-variants.{Stored, Value, Told}
 use Rattle.calls.specs.Calls.{Call, begin, write, read, test, decide, rebuild}
 use Rattle.recovery.proofs.Spots.{entryIn}
-use Rattle.promises.specs.Runs.{Box, sheetOf, Event, calls, answerTo, runs, blankBox, Run}
+use Rattle.promises.specs.Runs.{Box, sheetOf, Event, calls, answerTo, runs, blankBox, Run, Hears}
 use Rattle.promises.specs.Model as model
 use Rattle.promises.specs.FromLog.{statusOf, carriedOf}
-use Rattle.promises.specs.Promises.{IsPageOf, Did, AllShow, NoneShows, WasWritten}
+use Rattle.promises.specs.Promises.{IsPageOf, Once, Did, IsCarried, AllShow, NoneShows, WasWritten, IsWhole, Shown}
 use Rattle.promises.proofs.logs.Logs.{Lawful, Known, known-place, opening-at}
 use Rattle.promises.proofs.logs.Outcomes.{Lies, outcome-lies, outcome-only}
 use Rattle.promises.proofs.logs.Fates.{same-fate}
 use Rattle.promises.proofs.worlds.Openings.{top-solid}
 use Rattle.promises.proofs.worlds.LogSays.{carried-entry}
 use Rattle.promises.proofs.bytes.Replaced.{unsealed, bad-image}
-use Rattle.promises.proofs.boxes.Boxes.{isOn, bounds, Reached}
-use Rattle.promises.proofs.boxes.BoxRuns.{reached-blank, reached, answer-is}
-use Rattle.promises.proofs.boxes.Settled.{carried-on}
+use Rattle.promises.proofs.boxes.Boxes.{isOn, bounds, Reached, log-page}
+use Rattle.promises.proofs.boxes.BoxRuns.{pagesOn, reached, answer-is}
 use Rattle.promises.proofs.boxes.Found.{told-fate}
 use Rattle.promises.proofs.boxes.BoxShown.{box-all, box-shows}
 use Rattle.promises.proofs.answers.Heard.{answered, hears}
 use Rattle.promises.proofs.boxes.BoxPages.{Solid, solid-opening, solid-image, solid-outcome, image-same, page-lies-in, lies-page}
-use Rattle.promises.proofs.answers.Origins.{origin, did}
+use Rattle.promises.proofs.answers.Origins.{Added, OfMove, carried-first, origin, did}
 
 -- ---- the page that tells a fate
 
@@ -95,7 +96,7 @@ module _ (n files : ℕ) (b : Box) (m : Reached n files b) where
 -- ---- the bytes of a value
 
 -- the value's bytes in an image's page are the image's value
-value-bytes : (files : ℕ) (s : List ℕ) (p : ℕ) (i : Image) → sealed files s p ≡ image i → take (length (i .value)) (valueIn (pageBytes s p)) ≡ i .value
+pub value-bytes : (files : ℕ) (s : List ℕ) (p : ℕ) (i : Image) → sealed files s p ≡ image i → take (length (i .value)) (valueIn (pageBytes s p)) ≡ i .value
 unfolding sealed decoded valueIn
 value-bytes files s p i e = go (tested (pageBytes s p) p files) refl (unsealed (decoded files s) (decoded files s p) (image i) (bad-image i) e)
   where
@@ -125,31 +126,54 @@ module _ (n files : ℕ) (es : List Event) (r : Run n files es) where
   abbrev box : Box
   box = runs (blankBox n) es
 
-  abbrev m : Reached n files box
+  -- how many pages the sheet in use has
+  abbrev N : ℕ
+  N = pagesOn n (blankBox n) es
+
+  abbrev m : Reached N files box
   m = reached n files es r
 
   lawful : Lawful (m .log)
   lawful = m .at .holds .lawful
 
-  -- nothing was carried over to a sheet that began blank
-  not-carried : (a : ℕ) → carriedOf (m .log) a ≡ false
-  not-carried a = sym (m .at .says .carried a) ∙ ap (λ (c : ℕ → Bool). c a) (carried-on n files (blankBox n) (reached-blank n files (r .sized)) es (r .allowed))
+  -- the page of a call lies in the log: the run did it on this sheet, or a move stored it
+  done : (p : ℕ) (g : Entry) (k : Call) → Solid g → ((c : Call) → IsPageOf c g → c ≡ k) → Lies (m .log) p g → Did n files es k p ⊎ (OfMove g × (sealed files (sheetOf box) 1 ≡ opening true))
+  done p g k s only h = go (origin n files es r p g s (lies-page N files box m p g h))
+    where
+      go : Added (blankBox n) es p g ⊎ (OfMove g × (sealed files (sheetOf box) 1 ≡ opening true)) → Did n files es k p ⊎ (OfMove g × (sealed files (sheetOf box) 1 ≡ opening true))
+      go (inl a) = inl (subst (λ c. Did n files es c p) (only (a .adds .by) (a .adds .page)) (did n files es p g a))
+      go (inr o) = inr o
 
-  -- the run did the call whose page lies in the log
-  done : (p : ℕ) (g : Entry) (k : Call) → Solid g → ((c : Call) → IsPageOf c g → c ≡ k) → Lies (m .log) p g → Did n files es k p
-  done p g k s only h =
-      let a = origin n files es r p g s (lies-page n files box m p g h) in
-      subst (λ c. Did n files es c p) (only (a .adds .by) (a .adds .page)) (did n files es p g a)
+  -- an action's opening is carried, or not
+  pub opening-lies : (a : ℕ) → Known (fateOf (m .log) a) → Lies (m .log) a (opening false) ⊎ IsCarried files box a
+  opening-lies a h = go (carriedOf (m .log) a) refl
+    where
+      go : (c : Bool) → carriedOf (m .log) a ≡ c → Lies (m .log) a (opening false) ⊎ IsCarried files box a
+      go false e = inl (opening-in (m .log) a lawful h e)
+      go true e =
+          let p = known-place (m .log) a lawful h in
+          inr (log-page N files box m a (p .0) (p .1) ∙ carried-first (entryIn (m .log) a) (sym (carried-entry (m .log) a) ∙ e))
 
-  pub run-begun-only : (action fate place : ℕ) → answerTo box (calls (test action)) ≡ some (Told fate place) → Did n files es begin action
-  run-begun-only action fate place e =
-      done action (opening false) begin solid-opening call-opening (opening-in (m .log) action lawful (told-fate n files box m action fate place e .1) (not-carried action))
+  pub run-begun-only : (action fate place : ℕ) → answerTo box (calls (test action)) ≡ some (Told fate place) → Did n files es begin action ⊎ IsCarried files box action
+  run-begun-only action fate place e = go (opening-lies action (told-fate N files box m action fate place e .1))
+    where
+      turn : Did n files es begin action ⊎ (OfMove (opening false) × (sealed files (sheetOf box) 1 ≡ opening true)) → Did n files es begin action ⊎ IsCarried files box action
+      turn (inl d) = inl d
+      turn (inr o) = absurd (false≢true (o .0))
 
-  pub run-decided-only : (action place : ℕ) (c : Bool) → answerTo box (calls (test action)) ≡ some (Told (cond c 2 3) place) → Did n files es (decide action c) place
+      go : Lies (m .log) action (opening false) ⊎ IsCarried files box action → Did n files es begin action ⊎ IsCarried files box action
+      go (inl y) = turn (done action (opening false) begin solid-opening call-opening y)
+      go (inr y) = inr y
+
+  pub run-decided-only : (action place : ℕ) (c : Bool) → answerTo box (calls (test action)) ≡ some (Told (cond c 2 3) place) → Did n files es (decide action c) place ⊎ IsCarried files box action
   run-decided-only action place c e =
-      let t = told-fate n files box m action (cond c 2 3) place e in
+      let t = told-fate N files box m action (cond c 2 3) place e in
       let o = outcome-lies (m .log) action c (same-fate (t .2 ∙ told-number c)) in
-      done place (outcome action c) (decide action c) (solid-outcome action c) (λ k h. call-outcome k action c h) (subst (λ p. Lies (m .log) p (outcome action c)) (t .3) o)
+      go (done place (outcome action c) (decide action c) (solid-outcome action c) (λ k h. call-outcome k action c h) (subst (λ p. Lies (m .log) p (outcome action c)) (t .3) o))
+    where
+      go : Did n files es (decide action c) place ⊎ ((action ≡ 1) × (sealed files (sheetOf box) 1 ≡ opening true)) → Did n files es (decide action c) place ⊎ IsCarried files box action
+      go (inl d) = inl d
+      go (inr y) = inr (subst (IsCarried files box) (sym (y .0)) (y .1))
 
   -- ---- one outcome
 
@@ -157,50 +181,50 @@ module _ (n files : ℕ) (es : List Event) (r : Run n files es) where
   run-one-outcome action place place′ c d e f = sym (here place c e) ∙ here place′ d f
     where
       here : (p : ℕ) (c : Bool) → sealed files (sheetOf box) p ≡ outcome action c → outcomeOf (m .log) action ≡ p
-      here p c e = outcome-only (m .log) action c p lawful (page-lies-in n files box m p (outcome action c) (solid-outcome action c) e)
+      here p c e = outcome-only (m .log) action c p lawful (page-lies-in N files box m p (outcome action c) (solid-outcome action c) e)
 
   -- ---- an undecided action can be decided
 
-  room-left : sealed files (sheetOf box) n ≡ blank → length (m .log) < n
-  room-left e = go (leb n (length (m .log))) refl
+  room-left : sealed files (sheetOf box) N ≡ blank → length (m .log) < N
+  room-left e = go (leb N (length (m .log))) refl
     where
-      o : length (m .log) ≤ n
+      o : length (m .log) ≤ N
       o = omega (arith, m .at .holds .room)
 
-      go : (b : Bool) → leb n (length (m .log)) ≡ b → length (m .log) < n
-      go false q = leb-false n (length (m .log)) q
+      go : (b : Bool) → leb N (length (m .log)) ≡ b → length (m .log) < N
+      go false q = leb-false N (length (m .log)) q
       go true q =
-          let full : length (m .log) ≡ n = omega (arith, leb-true n (length (m .log)) q, o) in
-          let some : 1 ≤ n = bounds n files (r .sized) .some-pages in
-          let here : sealed files (sheetOf box) n ≡ entryIn (m .log) n = lies-page n files box m n (entryIn (m .log) n) (record { low = some; high = omega arith; here = refl }) in
+          let full : length (m .log) ≡ N = omega (arith, leb-true N (length (m .log)) q, o) in
+          let some : 1 ≤ N = bounds N files (m .at .sized) .some-pages in
+          let here : sealed files (sheetOf box) N ≡ entryIn (m .log) N = lies-page N files box m N (entryIn (m .log) N) (record { low = some; high = omega arith; here = refl }) in
           absurd (false≢true (sym (top-solid (m .log) lawful (omega arith)) ∙ ap isBlank (ap (entryIn (m .log)) full ∙ sym here ∙ e)))
 
-  pub run-can-be-decided : (action p : ℕ) (c : Bool) → answerTo box (calls (test action)) ≡ some (Told 1 p) → sealed files (sheetOf box) n ≡ blank
+  pub run-can-be-decided : (action p : ℕ) (c : Bool) → answerTo box (calls (test action)) ≡ some (Told 1 p) → sealed files (sheetOf box) N ≡ blank
       → (place : ℕ) × (answerTo box (calls (decide action c)) ≡ some (Stored place))
   run-can-be-decided action p c e q =
-      let t = told-fate n files box m action 1 p e in
-      let u = status-by n files box m action undecided (same-fate (t .2)) in
+      let t = told-fate N files box m action 1 p e in
+      let u = status-by N files box m action undecided (same-fate (t .2)) in
       let room : 1 ≤ m .model .pages - m .model .used = omega (arith, room-left q, m .at .pages-are, m .at .says .used) in
-      (suc (m .model .used), answer-is n files box m (calls (decide action c)) tt ∙ rw (t .0, u, le-leb 1 (m .model .pages - m .model .used) room))
+      (suc (m .model .used), answer-is N files box m (calls (decide action c)) tt ∙ rw (t .0, u, le-leb 1 (m .model .pages - m .model .used) room))
 
   -- ---- whole or not at all
 
   told-two : isOn box ≡ true → (action p : ℕ) → m .model .status action ≡ some (model.committed p) → answerTo box (calls (test action)) ≡ some (Told 2 p)
-  told-two o action p e = answer-is n files box m (calls (test action)) tt ∙ rw (o, e)
+  told-two o action p e = answer-is N files box m (calls (test action)) tt ∙ rw (o, e)
 
   all-show : (action p : ℕ) → answerTo box (calls (test action)) ≡ some (Told 2 p) → AllShow files box action
   all-show action p h place i here mine = hears box (calls (read (i .file) (i .start) 0)) (Value place (i .start) (length (i .value)))
-      (box-all n files box m place i here p (subst (λ x. answerTo box (calls (test x)) ≡ some (Told 2 p)) (sym mine) h))
+      (box-all N files box m place i here p (subst (λ x. answerTo box (calls (test x)) ≡ some (Told 2 p)) (sym mine) h))
 
   none-shows : (action : ℕ) → ((p : ℕ) → answerTo box (calls (test action)) ≡ some (Told 2 p) → ⊥) → NoneShows files box action
   none-shows action h file time reader place start size i other here mine e =
-      let v = box-shows n files box m file time reader place start size (answered box (calls (read file time reader)) (Value place start size) e) in
+      let v = box-shows N files box m file time reader place start size (answered box (calls (read file time reader)) (Value place start size) e) in
       let a : v .seen .action ≡ action = ap (λ (x : Image). x .action) (image-same (sym (v .effective .here) ∙ here)) ∙ mine in
       let w = v .whose (λ q. other (sym q ∙ a)) in
       h (w .0) (subst (λ x. answerTo box (calls (test x)) ≡ some (Told 2 (w .0))) a (answered box (calls (test (v .seen .action))) (Told 2 (w .0)) (w .1)))
 
   not-two : (action : ℕ) (x : Fate) → fateOf (m .log) action ≡ x → (fateNumber x ≡ 2 → ⊥) → NoneShows files box action
-  not-two action x e h = none-shows action (λ p q. h (ap fateNumber (sym e) ∙ told-fate n files box m action 2 p q .2))
+  not-two action x e h = none-shows action (λ p q. h (ap fateNumber (sym e) ∙ told-fate N files box m action 2 p q .2))
 
   pub run-whole-or-none : (action : ℕ) → AllShow files box action ⊎ NoneShows files box action
   run-whole-or-none action = go (isOn box) refl (fateOf (m .log) action) refl
@@ -209,23 +233,48 @@ module _ (n files : ℕ) (es : List Event) (r : Run n files es) where
       go c o unknown e = inr (not-two action unknown e (λ q. omega arith))
       go c o undecided e = inr (not-two action undecided e (λ q. omega arith))
       go c o aborted e = inr (not-two action aborted e (λ q. omega arith))
-      go true o committed e = inl (all-show action _ (told-two o action _ (status-by n files box m action committed e)))
-      go false o committed e = inr (none-shows action (λ p q. false≢true (sym o ∙ told-fate n files box m action 2 p q .0)))
+      go true o committed e = inl (all-show action _ (told-two o action _ (status-by N files box m action committed e)))
+      go false o committed e = inr (none-shows action (λ p q. false≢true (sym o ∙ told-fate N files box m action 2 p q .0)))
 
   -- ---- what is read was written
 
   pub run-was-written : (file time reader place start size : ℕ) → answerTo box (calls (read file time reader)) ≡ some (Value place start size) → WasWritten n files es file reader place start size
-  run-was-written file time reader place start size e =
-      let v = box-shows n files box m file time reader place start size e in
-      let i = v .seen in
-      let a = origin n files es r place (image i) (solid-image i) (v .effective .here) in
-      let d : Did n files es (write (i .file) (i .start) (i .action) (i .value)) place =
-      subst (λ c. Did n files es c place) (call-image (a .adds .by) i (a .adds .page)) (did n files es place (image i) a) in
-      record {
-        writer = i .action;
-        value = i .value;
-        wrote = subst (λ x. Did n files es (write x start (i .action) (i .value)) place) (v .is .0) (subst (λ x. Did n files es (write (i .file) x (i .action) (i .value)) place) (v .is .1) d);
-        bytes = ap (λ x. take x (valueIn (pageBytes (sheetOf box) place))) (sym (v .is .2)) ∙ value-bytes files (sheetOf box) place i (v .effective .here);
-        long = sym (v .is .2);
-        whose = v .whose;
-      }
+  run-was-written file time reader place start size e = go (origin n files es r place (image i) (solid-image i) (v .effective .here))
+    where
+      v : Shown files box file time reader place start size
+      v = box-shows N files box m file time reader place start size e
+
+      i : Image
+      i = v .seen
+
+      bytes : take size (valueIn (pageBytes (sheetOf box) place)) ≡ i .value
+      bytes = ap (λ x. take x (valueIn (pageBytes (sheetOf box) place))) (sym (v .is .2)) ∙ value-bytes files (sheetOf box) place i (v .effective .here)
+
+      -- the write of an image like it
+      as-asked : (j : Image) → SameVersion j i → write (j .file) (j .start) (j .action) (j .value) ≡ write file start (j .action) (i .value)
+      as-asked j s = λ t. write ((s .file ∙ v .is .0) t) ((s .start ∙ v .is .1) t) (j .action) (s .value t)
+
+      go : Added (blankBox n) es place (image i) ⊎ ((i .action ≡ 1) × (sealed files (sheetOf box) 1 ≡ opening true)) → WasWritten n files es file reader place start size
+      go (inl a) =
+          let d : Did n files es (write file start (i .action) (i .value)) place =
+          subst (λ c. Did n files es c place) (call-image (a .adds .by) i (a .adds .page) ∙ as-asked i (record { file = refl; start = refl; value = refl })) (did n files es place (image i) a) in
+          record { writer = i .action; value = i .value; at = place; wrote = d .once; bytes = bytes; long = sym (v .is .2); whose = inl (d, v .whose) }
+      go (inr o) =
+          let k = once n files es r place i (v .effective .here) in
+          record {
+            writer = k .first .action;
+            value = i .value;
+            at = k .place;
+            wrote = record {
+              before = k .before;
+              event = k .event;
+              rest = k .rest;
+              parts = k .parts;
+              whole = subst (λ c. IsWhole c (k .event)) (call-image (k .adds .by) (k .first) (k .adds .page) ∙ as-asked (k .first) (k .same)) (k .adds .whole);
+              stored = subst (λ c. Hears (runs (blankBox n) (k .before)) (calls c) (Stored (k .place))) (call-image (k .adds .by) (k .first) (k .adds .page) ∙ as-asked (k .first) (k .same))
+                  (hears (runs (blankBox n) (k .before)) (calls (k .adds .by)) (Stored (k .place)) (k .adds .stored));
+            };
+            bytes = bytes;
+            long = sym (v .is .2);
+            whose = inr (i, v .effective .here, subst (IsCarried files box) (sym (o .0)) (o .1));
+          }

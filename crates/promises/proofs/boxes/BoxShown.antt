@@ -61,7 +61,7 @@ module _ (n files : ℕ) (b : Box) (r : Reached n files b) where
   -- ---- what a read shows
 
   -- a box that answers is on, and answers as the model
-  heard-on : (k : Call) → Typed k → (x : Answer) → answerTo b (calls k) ≡ some x → (isOn b ≡ true) × (modelCall (r .model) k .0 ≡ x)
+  pub heard-on : (k : Call) → Typed k → (x : Answer) → answerTo b (calls k) ≡ some x → (isOn b ≡ true) × (modelCall (r .model) k .0 ≡ x)
   heard-on k t x e = go (isOn b) refl (sym (answer-is n files b r (calls k) t) ∙ e)
     where
       go : (c : Bool) → isOn b ≡ c → modelAnswer c (r .model) (calls k) ≡ some x → (isOn b ≡ true) × (modelCall (r .model) k .0 ≡ x)
@@ -69,7 +69,7 @@ module _ (n files : ℕ) (b : Box) (r : Reached n files b) where
       go false o q = not-heard q
 
   module _ (f t a : ℕ) where
-    committed-told : (i : Image) → isOn b ≡ true → Whose (r .log) a i → (i .action ≡ a → ⊥) → TellsFate files b (i .action) 2
+    pub committed-told : (i : Image) → isOn b ≡ true → Whose (r .log) a i → (i .action ≡ a → ⊥) → TellsFate files b (i .action) 2
     committed-told i on (shared c) o =
         let e = tells n files b r (i .action) (rw c (omega arith)) ∙ ap (λ x. Told (fateNumber x) (outcomeOf (r .log) (i .action))) c in
         (outcomeOf (r .log) (i .action), hears b (calls (test (i .action))) (Told 2 (outcomeOf (r .log) (i .action))) (answer-is n files b r (calls (test (i .action))) tt ∙ rw on (ap some e)))
@@ -89,10 +89,10 @@ module _ (n files : ℕ) (b : Box) (r : Reached n files b) where
 
     -- the highest start that is not above the time
     module _ (q : ℕ) (i : Image) (v : IsVersion files b f q i) where
-      effective-of : Among (record { place = q; image = i }) (effectiveOf (r .log) f)
+      pub effective-of : Among (record { place = q; image = i }) (effectiveOf (r .log) f)
       effective-of = subst (λ g. Among (record { place = q; image = i }) (effectiveOf (r .log) g)) (v .1) (effective-in n files b r q i (v .0))
 
-      fate : fateOf (r .log) (i .action) ≡ committed
+      pub fate : fateOf (r .log) (i .action) ≡ committed
       fate = same-fate (told-fate n files b r (i .action) 2 (v .2 .0) (answered b (calls (test (i .action))) (Told 2 (v .2 .0)) (v .2 .1)) .2)
 
     pub box-highest : (p s l : ℕ) → answerTo b (calls (read f t a)) ≡ some (Value p s l) → (q : ℕ) (i : Image) → IsVersion files b f q i → i .start ≤ t → i .start ≤ s
