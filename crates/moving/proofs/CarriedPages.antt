@@ -2,7 +2,7 @@
 use Prim.Native.Nat.{ℕ, zero, suc, _+_, _*_, _/_, _-_, _^_, _≤_, _<_}
 use mathlib.Core.Path.{_≡_, refl, sym, ap, subst, _∙_}
 use mathlib.Core.Bool.{Bool, true, false, cond, _&&_}
-use mathlib.Core.List.{List, [], _∷_, _++_}
+use mathlib.Core.List.{List}
 use native.Mathlib.Omega.{arith}
 use native.Mathlib.Numerals.{add-one}
 use lib.ListN.{length, take, drop, replicate, take-append-drop, length-take, length-drop}
@@ -23,14 +23,12 @@ use Rattle.page.specs.Answers.{inBounds, tested, onImage, valueIn}
 use Rattle.page.proofs.Rules.{between-true}
 use Rattle.page.proofs.Found.{found, image-is}
 use Rattle.page.proofs.Obeyed.{image-rules}
-use Rattle.recovery.specs.Sheet.{pageBytes, imageFrom, isOpening, decoded}
+use Rattle.recovery.specs.Sheet.{pageBytes, isOpening, decoded}
 use Rattle.recovery.specs.Log.{image}
 use Rattle.recovery.specs.Steps.{partAt, sealedImage}
-use Rattle.recovery.proofs.Pages.{part-is}
 use Rattle.calls.specs.Leaves.{padded, withPage, appended}
 use Rattle.calls.proofs.Appends.{appended-is}
 use Rattle.calls.proofs.ReadImages.{Met, met-at}
-use Rattle.calls.proofs.ReadWalks.{met-long}
 use Rattle.moving.specs.Moved.{carried}
 use Rattle.moving.specs.MoveSteps.{storedBy}
 

@@ -2,11 +2,11 @@
 -- page; from then on until its outcome is stored, an opening of it is refused 24. Assumes nothing.
 use Prim.Native.Nat.{ℕ, zero, suc, _+_, _-_, _*_, _/_, _%_, _≤_, _<_}
 use mathlib.Core.Path.{_≡_, refl, sym, ap, _∙_}
-use mathlib.Core.Bool.{Bool, true, false, cond, _&&_}
-use mathlib.Core.List.{List, [], _∷_, _++_, append-nil}
+use mathlib.Core.Bool.{Bool, true, false}
+use mathlib.Core.List.{List, [], _∷_, _++_}
 use mathlib.Core.Option.{Option, some, none}
 use native.Mathlib.Omega.{arith}
-use lib.ListN.{length, getD, take, drop, length-append}
+use lib.ListN.{length, take, drop, length-append}
 use lib.Seq.{take-all, take-append-le}
 use lib.Dec.{eqb, leb}
 use borrow.Author.Tests.{eqb-true, eqb-false, eq-eqb, le-leb, leb-true, leb-false}
@@ -23,13 +23,13 @@ use Rattle.recovery.proofs.Places.{length-tabulate}
 use Rattle.recovery.proofs.Pages.{pages-long}
 use Rattle.recovery.proofs.FlatRows.{rows-long}
 use Rattle.moving.specs.Moved.{warmRows, versionOf, carriedBy, versionsTo, movePages}
-use Rattle.moving.specs.MoveLeaves.{onto, moveLeaves}
+use Rattle.moving.specs.MoveLeaves.{moveLeaves}
 use Rattle.moving.proofs.FreshLog.{countTo, Carries}
 use Rattle.moving.proofs.FreshOpened.{AllBlank, end-at, none-undecided}
 use Rattle.moving.proofs.FreshCut.{cutSheet, whole-cut, torn-cut}
 use Rattle.moving.proofs.ReadAlike.{carries}
 use Rattle.moving.proofs.DecodedBytes.{decoded-lent}
-use Rattle.moving.proofs.CutSheets.{Ready, upTo, cutBytes, cut-long, cutPages, whole-pages, torn-pages}
+use Rattle.moving.proofs.CutSheets.{Ready, cutBytes, cut-long, cutPages, whole-pages, torn-pages}
 use Rattle.moving.proofs.FreshBytes.{ready, moved-is, bytes-are, fresh-size, fresh-whole, few-files, few-pages}
 
 -- ---- openings of an empty sheet, and of one torn page
@@ -129,8 +129,16 @@ module _ (s fates rows : List ℕ) (state : State) (fresh : List ℕ) (floor : �
       let a = few-pages s fates rows state fresh floor e in
       let b = few-files s fates rows state fresh floor e in
       let r : length (rowsOf rs) ≡ files = rows-long rs ∙ rw hr in
-      rw (places, hf, r, le-leb 1 (length fresh / pageSize) (a .0), le-leb (length fresh / pageSize) mostPlaces (a .1), eq-eqb (length fresh / pageSize) (length fresh / pageSize) refl,
-      le-leb 1 files (b .0), le-leb files mostFiles (b .1))
+      rw (
+        places,
+        hf,
+        r,
+        le-leb 1 (length fresh / pageSize) (a .0),
+        le-leb (length fresh / pageSize) mostPlaces (a .1),
+        eq-eqb (length fresh / pageSize) (length fresh / pageSize) refl,
+        le-leb 1 files (b .0),
+        le-leb files mostFiles (b .1),
+      )
 
   sized-as : (l : List Entry) → pages ≡ l → sizes (length l) (length fs) (length (rowsOf rs)) ≡ true
   sized-as l h = ap (λ (m : List Entry). sizes (length m) (length fs) (length (rowsOf rs))) (sym h) ∙ sized

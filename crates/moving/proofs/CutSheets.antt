@@ -5,15 +5,14 @@ use mathlib.Core.Path.{_≡_, refl, sym, ap, _∙_}
 use mathlib.Core.Bool.{Bool, true, false, cond}
 use mathlib.Core.List.{List, [], _∷_, _++_, append-assoc, append-nil}
 use native.Mathlib.Omega.{arith}
-use lib.ListN.{length, getD, take, drop, replicate, length-append, length-take, length-drop, length-replicate, take-append-drop, getD-replicate, List·getD-append, List·getD-eq-default}
+use lib.ListN.{length, getD, take, drop, replicate, length-append, length-take, length-drop, length-replicate, take-append-drop, List·getD-append, List·getD-eq-default}
 use lib.Seq.{take-at, take-all, drop-append-add, drop-drop, drop-cons, getD-take, getD-drop, getD-append-add, ext-getD, length-take-le}
 use lib.Dec.{eqb, ltb}
 use borrow.Author.Tests.{lt-ltb, le-ltb, ltb-true, ltb-false, eq-eqb, ne-eqb}
-use Rattle.encoding.proofs.Logic.{bool-ext, by-test}
-use Rattle.page.specs.Layout.{pageSize, valueSize, mostPlaces, mostFiles}
+use Rattle.encoding.proofs.Logic.{bool-ext}
+use Rattle.page.specs.Layout.{pageSize, mostPlaces, mostFiles}
 use Rattle.page.specs.Answers.{tested, cut}
 use Rattle.page.proofs.Rules.{InBounds}
-use Rattle.page.proofs.RoundTrip.{cut-whole}
 use Rattle.recovery.specs.Log.{Entry, blank, torn}
 use Rattle.recovery.specs.Sheet.{pageBytes, entryOf, isOpening, decoded, seal, sealed}
 use Rattle.recovery.specs.Lent.{pagesOf}
@@ -64,11 +63,11 @@ upTo-page n new old same q h =
     let ab : length (pageBytes new (suc q)) ≡ length (pageBytes old (suc q)) = a ∙ sym b in
     ext-getD 0 (pageBytes (upTo n new old) (suc q)) (upTo m (pageBytes new (suc q)) (pageBytes old (suc q))) (c ∙ sym (upTo-long m (pageBytes new (suc q)) (pageBytes old (suc q)) ab ∙ b))
     (λ i k.
-      let l : i < pageSize = omega (arith, c) in
-      let t : ltb i m ≡ ltb (pageSize * q + i) n =
-      bool-ext (ltb i m) (ltb (pageSize * q + i) n) (λ u. lt-ltb (pageSize * q + i) n (omega (arith, ltb-true i m u))) (λ u. lt-ltb i m (omega (arith, ltb-true (pageSize * q + i) n u))) in
-      page-byte (upTo n new old) q i l ∙ upTo-at n new old same (pageSize * q + i) (omega arith)
-      ∙ sym (upTo-at m (pageBytes new (suc q)) (pageBytes old (suc q)) ab i (omega (arith, b)) ∙ rw (t, page-byte new q i l, page-byte old q i l)))
+    let l : i < pageSize = omega (arith, c) in
+    let t : ltb i m ≡ ltb (pageSize * q + i) n =
+    bool-ext (ltb i m) (ltb (pageSize * q + i) n) (λ u. lt-ltb (pageSize * q + i) n (omega (arith, ltb-true i m u))) (λ u. lt-ltb i m (omega (arith, ltb-true (pageSize * q + i) n u))) in
+    page-byte (upTo n new old) q i l ∙ upTo-at n new old same (pageSize * q + i) (omega arith)
+    ∙ sym (upTo-at m (pageBytes new (suc q)) (pageBytes old (suc q)) ab i (omega (arith, b)) ∙ rw (t, page-byte new q i l, page-byte old q i l)))
 
 -- over zeros
 drop-zeros : (m n : ℕ) → m ≤ n → drop m (replicate {A = ℕ} n 0) ≡ replicate (n - m) 0
@@ -263,8 +262,8 @@ module _ (files : ℕ) (fresh : List ℕ) (gs : List Entry) (k : Ready files fre
           let a : length (take q cutPages) ≡ q = length-take-le q cutPages (omega (arith, pages-size, k .room)) in
           let b : length (take q gs) ≡ q = length-take-le q gs h in
           ext-getD blank (take q cutPages) (take q gs) (a ∙ sym b) (λ i l.
-            let j : i < q = omega (arith, a) in
-            getD-take q cutPages i blank j ∙ whole-page i (omega arith) (omega arith) ∙ sym (getD-take q gs i blank j))
+          let j : i < q = omega (arith, a) in
+          getD-take q cutPages i blank j ∙ whole-page i (omega arith) (omega arith) ∙ sym (getD-take q gs i blank j))
 
       parts : cutPages ≡ take q gs ++ drop q cutPages
       parts = sym (take-append-drop q cutPages) ∙ ap (λ (l : List Entry). l ++ drop q cutPages) front

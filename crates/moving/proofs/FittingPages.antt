@@ -1,26 +1,26 @@
 -- The pages of a move as bytes: each obeys the rules at its place, and the page test on its bytes, or on the first of them over zeros, says
 -- what was stored. Assumes nothing.
-use Prim.Native.Nat.{ℕ, suc, _-_, _^_, _≤_, _<_}
+use Prim.Native.Nat.{ℕ, _-_, _^_, _≤_, _<_}
 use mathlib.Core.Path.{_≡_, refl, sym, ap, _∙_}
 use mathlib.Core.Bool.{Bool, true, false, cond}
-use mathlib.Core.List.{List}
 use native.Mathlib.Omega.{arith}
 use lib.ListN.{length, take, replicate, length-append, length-replicate}
 use lib.Seq.{take-at}
 use lib.Dec.{eqb, ltb}
-use borrow.Author.Tests.{ltb-true, ltb-false}
+use borrow.Author.Tests.{ltb-false}
 use Rattle.page.specs.declared.Unpacked.the-variants.{Blank, Torn}
 use Rattle.page.specs.Layout.{pageSize, valueSize}
 use Rattle.page.specs.Table.{meetsRules, valueOf}
 use Rattle.page.specs.Answers.{tested, byKind, cut}
 use Rattle.page.proofs.Rules.{InBounds, are-in-bounds}
-use Rattle.page.proofs.RoundTrip.{length-packed, value-back, cut-tested, cut-whole}
+use Rattle.page.proofs.RoundTrip.{value-back, cut-tested, cut-whole}
 use Rattle.page.proofs.Obeyed.{opening-rules, image-rules, outcome-rules}
 use Rattle.recovery.specs.Log.{Image, Entry, blank, torn, opening, image, outcome}
 use Rattle.recovery.specs.Sheet.{entryOf, isOpening, seal}
 use Rattle.calls.specs.Leaves.{padded, fieldsAt, valueAt, packedEntry}
 use Rattle.calls.proofs.WritePads.{pad-zeros}
 use Rattle.moving.specs.Moved.{carried}
+use Rattle.moving.proofs.StoredPages.{entry-long}
 
 -- the ranges of an image that the page test lets through
 pub record ImageFine (files : ℕ) (i : Image) : Type 0 where
@@ -90,8 +90,7 @@ zero-read files p b = rw (length-replicate {A = ℕ} pageSize 0, are-in-bounds b
 
 module _ (files p : ℕ) (g : Entry) (k : PageFits files p g) where
   pub entry-size : length (packedEntry p g) ≡ pageSize
-  unfolding packedEntry
-  entry-size = length-packed (fieldsAt p g) (valueAt g) p (k .long)
+  entry-size = entry-long p g (k .long)
 
   pub partly-read : InBounds pageSize p files → (m : ℕ) → m ≤ pageSize
       → entryOf (cut m (packedEntry p g)) (tested (cut m (packedEntry p g)) p files) ≡ partial m g

@@ -1,12 +1,12 @@
 -- A move that was made, over bytes: the fresh sheet's bytes decode to the pages of `moved`, are lawful, and are opened with no open action.
 -- For everything that is lent. Assumes nothing.
-use Prim.Native.Nat.{ℕ, zero, suc, _+_, _*_, _/_, _%_, _≤_, _<_}
+use Prim.Native.Nat.{ℕ, zero, suc, _*_, _/_, _%_, _≤_, _<_}
 use mathlib.Core.Path.{_≡_, refl, sym, ap, _∙_}
-use mathlib.Core.Bool.{Bool, true, false, cond, _&&_}
+use mathlib.Core.Bool.{Bool, true, false, _&&_}
 use mathlib.Core.List.{List, [], _∷_, _++_}
 use mathlib.Core.Option.{Option, some, none}
 use native.Mathlib.Omega.{arith}
-use lib.ListN.{length, getD, drop, replicate, length-append}
+use lib.ListN.{length, getD, drop, replicate}
 use lib.Dec.{eqb, leb}
 use borrow.Author.Tests.{eqb-true, eq-eqb, le-leb, leb-true}
 use Rattle.encoding.proofs.Logic.{and-true}
@@ -17,7 +17,7 @@ use Rattle.page.specs.Layout.{pageSize, mostPlaces, mostFiles}
 use Rattle.page.specs.Answers.{tested, isBlankPage}
 use Rattle.page.proofs.Found.{found}
 use Rattle.recovery.specs.Log as log
-use Rattle.recovery.specs.Log.{Entry, blank, opening, outcome}
+use Rattle.recovery.specs.Log.{Entry, blank, outcome}
 use Rattle.recovery.specs.declared.State.{State}
 use Rattle.recovery.specs.declared.Answer.{Answer}
 use Rattle.recovery.specs.declared.Answer.the-variants.{Opened, Moved}
@@ -25,7 +25,7 @@ use Rattle.recovery.specs.Numbers.{isRefused}
 use Rattle.recovery.specs.Sheet.{pageBytes}
 use Rattle.recovery.specs.Places.{nth}
 use Rattle.recovery.specs.World.{World, Result, rowAt, isBlank, down, endOf, started, opened}
-use Rattle.recovery.specs.Lent.{rowLength, rowsOf, pagesOf, lent, whole, Left, leaves, openLeaves}
+use Rattle.recovery.specs.Lent.{rowLength, rowsOf, pagesOf, lent, whole, leaves, openLeaves}
 use Rattle.recovery.proofs.Pages.{pages-long, page-here}
 use Rattle.recovery.proofs.FlatRows.{rows-long}
 use Rattle.inspection.specs.Lawful.{lowestUnlawful}
@@ -34,7 +34,6 @@ use Rattle.inspection.specs.declared.Inspected.the-variants.{Lowest}
 use Rattle.calls.proofs.Appends.{blank-is}
 use Rattle.moving.specs.Moved.{warmRows, versionOf, carriedBy, versionsTo, movePages, Move, moved}
 use Rattle.moving.specs.MoveLeaves.{onto, MoveLeft, moveLeaves}
-use Rattle.moving.proofs.FreshOpened.{AllBlank}
 use Rattle.moving.proofs.Went.{Went, went}
 use Rattle.moving.proofs.ReadAlike.{image-is, files-lent, fresh-lawful, fresh-opens}
 use Rattle.moving.proofs.FittingPages.{ImageFine, PageFits, Seals, opening-fits, outcome-fits, image-fits, opening-seals, outcome-seals, image-seals}

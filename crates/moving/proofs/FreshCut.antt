@@ -1,7 +1,7 @@
 -- A fresh sheet whose move was cut: from its sealed opening until its outcome is stored, an opening of it is refused 24. Assumes nothing.
 use Prim.Native.Nat.{ℕ, zero, suc, _+_, _-_, _≤_, _<_}
-use mathlib.Core.Path.{_≡_, refl, sym, _∙_}
-use mathlib.Core.Bool.{Bool, true, false, false≢true}
+use mathlib.Core.Path.{_≡_, refl, _∙_}
+use mathlib.Core.Bool.{true, false, false≢true}
 use mathlib.Core.List.{List, [], _∷_, _++_, append-assoc}
 use native.Mathlib.Omega.{arith}
 use lib.ListN.{length, getD, length-append}
@@ -11,7 +11,7 @@ use Rattle.recovery.specs.Log.{Entry, blank, torn, bad, opening, image, outcome
 use Rattle.inspection.specs.Lawful.{fitsBelow, lawful}
 use Rattle.recovery.specs.declared.Row.{Row}
 use Rattle.recovery.specs.declared.Answer.the-variants.{Refused}
-use Rattle.recovery.specs.World.{World, down, sizes, isBlank, isCarried, endOf, highestBad, unfinished, unopened, opened}
+use Rattle.recovery.specs.World.{World, down, sizes, isBlank, isCarried, endOf, unfinished, unopened, opened}
 use Rattle.inspection.proofs.LowestUnlawful.{lawful-parts, lawful-more}
 use Rattle.moving.specs.Moved.{versionsTo}
 use Rattle.moving.proofs.FreshLog.{logTo, countTo, down-log, log-fate, Carries, log-lawful}

@@ -1,19 +1,19 @@
 -- The log of a fresh sheet, newest first: its fates, each file's one image, and that it is lawful. Assumes nothing.
 use Prim.Native.Nat.{ℕ, zero, suc, _+_, _≤_, _<_}
-use mathlib.Core.Path.{_≡_, refl, sym, ap, _∙_}
+use mathlib.Core.Path.{_≡_, refl, _∙_}
 use mathlib.Core.Bool.{Bool, true, false, cond}
 use mathlib.Core.List.{List, [], _∷_, _++_, append-assoc, append-nil}
 use mathlib.Core.Option.{Option, some, none}
 use native.Mathlib.Omega.{arith}
 use lib.ListN.{length, getD, length-append}
 use lib.Seq.{getD-append-seam}
-use lib.Dec.{eqb, ltb}
+use lib.Dec.{eqb}
 use borrow.Author.Tests.{eq-eqb, ne-eqb, eqb-true, eqb-false, lt-ltb}
-use Rattle.recovery.specs.Log.{Image, Entry, blank, opening, image, outcome, Fate, unknown, undecided, committed, Placed, fateOf, imagesOf, effective, tokenOf, versionsOf}
+use Rattle.recovery.specs.Log.{Image, Entry, blank, opening, image, outcome, unknown, undecided, committed, Placed, fateOf, imagesOf, effective, tokenOf, versionsOf}
 use Rattle.inspection.specs.Lawful.{lawful}
 use Rattle.recovery.specs.World.{World, down}
 use Rattle.inspection.proofs.LowestUnlawful.{lawful-more, lawful-none}
-use Rattle.moving.specs.Moved.{versionOf, carried, carriedBy, versionsTo, movePages}
+use Rattle.moving.specs.Moved.{versionOf, carried, carriedBy, versionsTo}
 
 -- ---- the log by files
 

@@ -8,21 +8,20 @@ use mathlib.Core.Option.{Option, some, none}
 use native.Mathlib.Omega.{arith}
 use lib.ListN.{length, getD, length-append}
 use lib.Seq.{getD-append-seam, getD-append-add}
-use lib.Dec.{eqb, leb}
+use lib.Dec.{eqb}
 use borrow.Author.Tests.{eq-eqb, ne-eqb, eqb-true, eqb-false, le-leb}
-use Rattle.encoding.proofs.Logic.{and-true}
 use Rattle.recovery.specs.Places.{nth, tabulate}
 use Rattle.recovery.specs.Log.{Image, Entry, blank, torn, bad, opening, image, outcome, Fate, unknown, committed, fateOf, imagesOf, notBy, effective, versionsOf, tokenOf}
 use Rattle.inspection.specs.Lawful.{lawful}
 use Rattle.recovery.specs.declared.Row.{Row}
 use Rattle.recovery.specs.declared.Answer.the-variants.{Opened, Value, Nothing}
-use Rattle.recovery.specs.World.{World, Result, down, sizes, cold, isBlank, endOf, isBad, highestBad, fateNumber, fateFrom, fateIn, fatesOf, undecidedOf, coldRows, started, unfinished, opened, rebuiltRow, warmRow, withRow, rowHolds, lentRight, isFile}
+use Rattle.recovery.specs.World.{World, Result, down, sizes, cold, isBlank, endOf, isBad, highestBad, fateNumber, fateFrom, fateIn, fatesOf, undecidedOf, coldRows, started, unfinished, opened, rebuiltRow, warmRow, withRow, rowHolds, lentRight}
 use Rattle.recovery.proofs.Places.{length-tabulate, nth-tabulate}
 use Rattle.inspection.proofs.LowestUnlawful.{lawful-parts}
 use Rattle.calls.proofs.LinkByLink.{reached}
 use Rattle.calls.specs.Calls.{read, call, imageOf, isCarriedAt, onToken}
-use Rattle.moving.specs.Moved.{versionOf, carried, carriedBy, versionsTo, movePages}
-use Rattle.moving.proofs.FreshLog.{logTo, moveLog, countTo, count-le, down-move, page-of-file, move-fate, Carries, placedBy, one-image, move-lawful}
+use Rattle.moving.specs.Moved.{versionOf, carried, versionsTo}
+use Rattle.moving.proofs.FreshLog.{moveLog, countTo, count-le, down-move, page-of-file, move-fate, Carries, placedBy, one-image, move-lawful}
 
 -- ---- laws of openings
 

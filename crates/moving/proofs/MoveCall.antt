@@ -1,29 +1,27 @@
 -- How the move ends: 1, 23, or what it does on rebuilt rows. Every law ends in `moveLeaves`, the contract. Assumes nothing.
 use Prim.Native.Nat.{ℕ, _/_, _%_}
 use mathlib.Core.Path.{_≡_, refl, sym, ap, _∙_}
-use mathlib.Core.Bool.{Bool, true, false, cond, _&&_}
+use mathlib.Core.Bool.{Bool, true, false, _&&_}
 use mathlib.Core.List.{List}
 use native.Mathlib.Omega.{arith}
 use lib.ListN.{length}
 use lib.Dec.{eqb}
-use borrow.Author.Tests.{eqb-true, eq-eqb, ne-eqb}
+use borrow.Author.Tests.{eq-eqb, ne-eqb}
 use Rattle.encoding.proofs.Logic.{and-true}
 use Rattle.page.specs.Layout.{pageSize}
 use Rattle.recovery.specs.Log.{Entry}
 use Rattle.recovery.specs.declared.State.{State}
 use Rattle.recovery.specs.declared.Done.{Done}
-use Rattle.recovery.specs.declared.Answer.the-variants.{Refused}
-use Rattle.recovery.specs.Numbers.{isRefused}
 use Rattle.recovery.specs.World.{World, refuse, lentRight}
-use Rattle.recovery.specs.Lent.{rowLength, rowsOf, flat, pagesOf, lent, whole, refused}
+use Rattle.recovery.specs.Lent.{rowLength, rowsOf, pagesOf, lent, whole}
 use Rattle.recovery.specs.Steps.{lineOne}
 use Rattle.recovery.proofs.Pages.{pages-long}
 use Rattle.recovery.proofs.FlatRows.{flat-rows}
-use Rattle.recovery.proofs.Leaves.{rows-back, whole-is, lent-right}
-use Rattle.moving.specs.Moved.{isSheet, lowestUndecided, warmRows, Move, onRows, moved}
+use Rattle.recovery.proofs.Leaves.{whole-is, lent-right}
+use Rattle.moving.specs.Moved.{isSheet, lowestUndecided, warmRows, onRows, moved}
 use Rattle.moving.specs.MoveLeaves.{MoveLeft, moveBy, lowerMove, warmMove, moveLeaves}
 use Rattle.moving.specs.MoveSteps.{moveLineOne, warmRun, refusalAt}
-use Rattle.moving.proofs.Rows.{warm-end, warm-long, warmTo}
+use Rattle.moving.proofs.Rows.{warm-end, warm-long}
 use Rattle.moving.proofs.MoveEnds.{line-one, refused-as}
 
 drop-true : (a b : Bool) → (a && true && b) ≡ false → (a && b) ≡ false
@@ -49,10 +47,6 @@ module _ (s fs rs : List ℕ) (st : State) (fresh : List ℕ) where
   long : length sheet ≡ length fresh / pageSize
   long = pages-long files (length fresh / pageSize) fresh
 
-  refused-here : whole (length s) (length rs) ≡ true → (n p : ℕ) (r : Done) → r ≡ refusalAt n p st → moveBy r s fs rs fresh ≡ lowerMove s fresh (refuse n p w, sheet)
-  unfolding isRefused
-  refused-here h n p r e = ap (λ (x : Done). moveBy x s fs rs fresh) e ∙ ap (λ (l : List ℕ). moveBy (refusalAt n p st) s fs l fresh) (sym (rows-back s fs rs st h))
-
   -- line 1
   pub move-refused : line ≡ false → (r : Done) → r ≡ refusalAt 1 0 st → moveBy r s fs rs fresh ≡ moveLeaves s fs rs st fresh
   unfolding moveLeaves moved moveLineOne
@@ -68,7 +62,7 @@ module _ (s fs rs : List ℕ) (st : State) (fresh : List ℕ) where
       go true x false y = ap (λ (q : Done). moveBy q s fs rs fresh) e ∙ rw (x, y)
       go true x true y =
           let m : moved w sheet ≡ (refuse 1 0 w, sheet) = rw (none x y) in
-          refused-here x 1 0 r e ∙ ap (lowerMove s fresh) (sym m) ∙ rw (x, y)
+          refused-as s fs rs st fresh x 1 0 r e ∙ ap (lowerMove s fresh) (sym m) ∙ rw (x, y)
 
   module _ (ok : line ≡ true) where
     lines : (lineOne (length s) (length fs) (length rs) (st .end) (st .undecided) ≡ true) × (isSheet (length fresh / pageSize) ≡ true)
@@ -95,7 +89,7 @@ module _ (s fs rs : List ℕ) (st : State) (fresh : List ℕ) where
     unfolding moved
     move-busy p hp z r e =
         let m : moved w sheet ≡ (refuse 23 p w, sheet) = rw (lent-ok, long, lines .1, ← hp, ne-eqb p 0 z) in
-        refused-here wholes 23 p r e ∙ ap (lowerMove s fresh) (sym m) ∙ leaves-moved
+        refused-as s fs rs st fresh wholes 23 p r e ∙ ap (lowerMove s fresh) (sym m) ∙ leaves-moved
 
     -- on rebuilt rows
     module _ (xs : List ℕ) (hx : xs ≡ warmRun s fs rs st) where

@@ -1,33 +1,40 @@
 -- How a move on rebuilt rows ends, from what its steps found. Every law ends in `warmMove`. Assumes nothing.
-use Prim.Native.Nat.{ℕ, zero, suc, _+_, _*_, _/_, _%_, _≤_, _<_}
-use mathlib.Core.Path.{_≡_, refl, sym, ap, _∙_}
-use mathlib.Core.Bool.{Bool, true, false, not, cond, _&&_}
+use Prim.Native.Nat.{ℕ, _+_, _/_, _%_, _≤_, _<_}
+use mathlib.Core.Path.{_≡_, sym, ap, _∙_}
+use mathlib.Core.Bool.{Bool, true, false, _&&_}
 use mathlib.Core.List.{List, [], _∷_, _++_}
 use native.Mathlib.Omega.{arith}
 use lib.ListN.{length, drop, length-append}
 use lib.Dec.{eqb, leb}
-use borrow.Author.Tests.{eqb-true, eq-eqb, ne-eqb, le-leb, lt-leb, leb-true}
+use borrow.Author.Tests.{ne-eqb, le-leb, lt-leb, leb-true}
 use Rattle.encoding.proofs.Logic.{and-true}
 use Rattle.page.specs.Layout.{pageSize, mostPlaces}
 use Rattle.recovery.specs.Log.{Entry, outcome}
 use Rattle.recovery.specs.declared.State.{State}
 use Rattle.recovery.specs.declared.Done.{Done}
-use Rattle.recovery.specs.declared.Answer.the-variants.{Refused, Moved}
+use Rattle.recovery.specs.declared.Answer.the-variants.{Moved}
 use Rattle.recovery.specs.Numbers.{isRefused}
-use Rattle.recovery.specs.World.{World, refuse, rowAt, rowHolds, lentRight}
+use Rattle.recovery.specs.World.{World, refuse, rowAt, rowHolds}
 use Rattle.recovery.specs.Lent.{rowLength, rowsOf, flat, pagesOf, lent, whole}
 use Rattle.recovery.specs.Steps.{lineOne, rowOf, rowHoldsIn}
 use Rattle.recovery.proofs.Pages.{pages-long}
 use Rattle.recovery.proofs.FlatRows.{rows-long}
 use Rattle.recovery.proofs.Leaves.{rows-back, whole-is}
 use Rattle.calls.proofs.Ends.{lent-is}
-use Rattle.moving.specs.Moved.{isSheet, isUnused, lowest, lowestDamaged, versionsTo, movePages, highestEnd, Move, onRows}
-use Rattle.moving.specs.MoveLeaves.{onto, moveBy, lowerMove, warmMove}
+use Rattle.moving.specs.Moved.{isSheet, isUnused, lowest, lowestDamaged, versionsTo, movePages, highestEnd, onRows}
+use Rattle.moving.specs.MoveLeaves.{moveBy, lowerMove, warmMove}
 use Rattle.moving.specs.MoveSteps.{moveLineOne, isDamaged, placesTo, surveyTo, storesAll, Roomy, refusalAt}
 use Rattle.moving.specs.declared.checking.Survey.{Survey}
 use Rattle.moving.proofs.Rows.{places-few}
 use Rattle.moving.proofs.Went.{none-damaged}
 use Rattle.moving.proofs.MoveLaws.{places-are, stored-pages}
+
+-- a refusal leaves everything
+pub refused-as : (s fs rs : List ℕ) (st : State) (fresh : List ℕ) → whole (length s) (length rs) ≡ true → (n p : ℕ) (r : Done) → r ≡ refusalAt n p st
+    → moveBy r s fs rs fresh ≡ lowerMove s fresh (refuse n p (lent s fs rs st), pagesOf fresh (length rs / rowLength))
+unfolding isRefused
+refused-as s fs rs st fresh h n p r e =
+    ap (λ (x : Done). moveBy x s fs rs fresh) e ∙ ap (λ (l : List ℕ). moveBy (refusalAt n p st) s fs l fresh) (sym (rows-back s fs rs st h))
 
 module _ (s fs rs : List ℕ) (st : State) (fresh : List ℕ)
     (ok : moveLineOne (length s) (length fs) (length rs) (st .end) (st .undecided) (length fresh) ≡ true) where
@@ -52,10 +59,8 @@ module _ (s fs rs : List ℕ) (st : State) (fresh : List ℕ)
   back : flat (rowsOf rs) ≡ rs
   back = rows-back s fs rs st (whole-is s fs rs st (line-one .0))
 
-  -- a refusal leaves everything
-  pub refused-as : (n p : ℕ) (r : Done) → r ≡ refusalAt n p st → moveBy r s fs rs fresh ≡ lowerMove s fresh (refuse n p w, sheet)
-  unfolding isRefused
-  refused-as n p r e = ap (λ (x : Done). moveBy x s fs rs fresh) e ∙ ap (λ (l : List ℕ). moveBy (refusalAt n p st) s fs l fresh) (sym back)
+  refused-here : (n p : ℕ) (r : Done) → r ≡ refusalAt n p st → moveBy r s fs rs fresh ≡ lowerMove s fresh (refuse n p w, sheet)
+  refused-here = refused-as s fs rs st fresh (whole-is s fs rs st (line-one .0))
 
   damaged-is : lowest (isDamaged s files (st .end) rs) files ≡ lowestDamaged w (length (w .rows))
   unfolding rowHoldsIn rowHolds rowOf
@@ -82,7 +87,7 @@ module _ (s fs rs : List ℕ) (st : State) (fresh : List ℕ)
     warm-damaged z r h =
         let k : lowestDamaged w (length (w .rows)) ≡ v .damaged = sym damaged-here in
         let m : onRows w sheet ≡ (refuse 7 (v .damaged) w, sheet) = rw (k, ne-eqb (v .damaged) 0 z) in
-        refused-as 7 (v .damaged) r h ∙ ap (lowerMove s fresh) (sym m)
+        refused-here 7 (v .damaged) r h ∙ ap (lowerMove s fresh) (sym m)
 
     module _ (z : v .damaged ≡ 0) where
       none : lowestDamaged w (length (w .rows)) ≡ 0
@@ -102,7 +107,7 @@ module _ (s fs rs : List ℕ) (st : State) (fresh : List ℕ)
       unfolding warmMove
       warm-full l r h =
           let m : onRows w sheet ≡ (refuse 11 0 w, sheet) = rw (none, pages-are, long, lt-leb (placesTo rs files + 2) (length fresh / pageSize) (omega (arith, versions-here))) in
-          refused-as 11 0 r h ∙ ap (lowerMove s fresh) (sym m)
+          refused-here 11 0 r h ∙ ap (lowerMove s fresh) (sym m)
 
       module _ (l : v .versions + 2 ≤ length fresh / pageSize) where
         fits : leb (length (movePages w)) (length sheet) ≡ true
@@ -113,7 +118,7 @@ module _ (s fs rs : List ℕ) (st : State) (fresh : List ℕ)
         warm-used b hb e r h =
             let u : isUnused sheet ≡ false = sym hb ∙ e in
             let m : onRows w sheet ≡ (refuse 12 0 w, sheet) = rw (none, fits, u) in
-            refused-as 12 0 r h ∙ ap (lowerMove s fresh) (sym m)
+            refused-here 12 0 r h ∙ ap (lowerMove s fresh) (sym m)
 
         pub roomy : Roomy files rs (length fresh)
         roomy =

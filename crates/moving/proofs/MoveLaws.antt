@@ -1,47 +1,36 @@
 -- The move over decoded pages, from what its steps on bytes and numbers found and left. Assumes nothing.
-use Prim.Native.Nat.{ℕ, zero, suc, _+_, _*_, _/_, _%_, _≤_, _<_}
+use Prim.Native.Nat.{ℕ, zero, suc, _/_, _≤_}
 use mathlib.Core.Path.{_≡_, refl, sym, ap, _∙_}
-use mathlib.Core.Bool.{Bool, true, false, not, cond, _&&_, _||_, true≢false, false≢true}
+use mathlib.Core.Bool.{true, not, cond, _&&_, true≢false}
 use mathlib.Core.List.{List, [], _∷_, _++_}
-use mathlib.Core.Option.{Option, some, none}
+use mathlib.Core.Option.{Option}
 use native.Mathlib.Omega.{arith}
-use lib.ListN.{length, drop, length-append, length-replicate}
+use lib.ListN.{length, length-append, length-replicate}
 use lib.Dec.{eqb, leb}
-use borrow.Author.Tests.{eqb-true, eqb-false, eq-eqb, ne-eqb, le-leb, lt-leb, leb-true, not-true, not-false}
+use borrow.Author.Tests.{ne-eqb}
 use Rattle.encoding.proofs.Logic.{and-true}
-use Rattle.page.specs.declared.Page.{Page}
 use Rattle.page.specs.declared.Sought as sought
 use Rattle.page.specs.declared.Sought.{Sought}
-use Rattle.page.specs.Layout.{pageSize, mostPlaces, valueSize}
+use Rattle.page.specs.Layout.{valueSize}
 use Rattle.page.specs.Table as table
 use Rattle.page.specs.Table.{packed}
-use Rattle.recovery.specs.Places.{nth}
 use Rattle.recovery.specs.Sheet.{pageBytes}
-use Rattle.recovery.specs.Log.{Image, Entry, blank, torn, bad, opening, image, outcome}
-use Rattle.recovery.specs.declared.Row.{Row}
+use Rattle.recovery.specs.Log.{Image, Entry, opening, outcome}
 use Rattle.recovery.specs.declared.State.{State}
 use Rattle.recovery.specs.World.{World, entryAt, rowAt, isImageOf, placeHolds, tokenHolds, rowHolds}
-use Rattle.recovery.specs.Lent.{rowLength, rowsOf, pagesOf, lent}
+use Rattle.recovery.specs.Lent.{rowLength, lent}
 use Rattle.recovery.specs.Steps.{sealedImage, rowOf}
 use Rattle.recovery.proofs.FlatRows.{rows-long}
 use Rattle.calls.specs.Calls.{imageOf}
 use Rattle.calls.specs.Leaves.{packedEntry, withPage}
 use Rattle.calls.specs.ReadSteps.{imageBy}
 use Rattle.calls.proofs.ReadImages.{met-at, none-at}
-use Rattle.moving.specs.Moved.{versionOf, carried, carriedBy, versionsTo, movePages}
-use Rattle.moving.specs.MoveLeaves.{laid, onto}
-use Rattle.moving.specs.MoveSteps.{placesTo, storedBy, storesTo, closedBy, storesAll}
+use Rattle.moving.specs.Moved.{versionOf, carriedBy, versionsTo, movePages}
+use Rattle.moving.specs.MoveLeaves.{onto}
+use Rattle.moving.specs.MoveSteps.{placesTo, storesTo, closedBy, storesAll}
 use Rattle.moving.proofs.StoredPages.{Long, long-none, long-more, onto-none, onto-more, stored-more, long-stored}
 
 -- ---- a row that holds
-
-no-image : (g : Entry) (f : ℕ) (i : Image) → isImageOf f g ≡ true → imageOf g ≡ none → ⊥
-no-image blank f i h e = false≢true h
-no-image torn f i h e = false≢true h
-no-image bad f i h e = false≢true h
-no-image (opening k) f i h e = false≢true h
-no-image (image j) f i h e = let z : _≡_ {A = ℕ} 0 1 = cc in omega arith
-no-image (outcome a c) f i h e = false≢true h
 
 module _ (s fs rs : List ℕ) (st : State) where
   abbrev w : World

@@ -17,7 +17,7 @@ use Rattle.recovery.specs.World.{World, refuse, lentRight}
 use Rattle.recovery.specs.Lent.{rowLength, flat, pagesOf, stateOf, lent, whole, refused}
 use Rattle.recovery.proofs.Leaves.{rows-back}
 use Rattle.moving.specs.Moved.{isSheet, isUnused, lowestUndecided, lowestDamaged, warmRows, movePages, highestEnd, Move, onRows, moved}
-use Rattle.moving.specs.MoveLeaves.{MoveLeft, lowerMove, moveLeaves}
+use Rattle.moving.specs.MoveLeaves.{MoveLeft, moveLeaves}
 use Rattle.moving.specs.MoveSteps.{warmRun}
 
 -- the refusals before the rows are looked at

@@ -1,32 +1,32 @@
 -- After a move, a read outside any action at or above a carried start that the old sheet answers is answered alike by the fresh one;
 -- the fresh sheet is lawful, and is opened with no open action. For every world that is lent. Assumes nothing.
 use Prim.Native.Nat.{ℕ, zero, suc, _+_, _≤_, _<_}
-use mathlib.Core.Path.{_≡_, refl, sym, ap, subst, _∙_}
-use mathlib.Core.Bool.{Bool, true, false, cond, _&&_, _||_, true≢false, false≢true}
-use mathlib.Core.List.{List, [], _∷_, _++_}
+use mathlib.Core.Path.{_≡_, refl, sym, ap, _∙_}
+use mathlib.Core.Bool.{Bool, true, false, _&&_, _||_, true≢false}
+use mathlib.Core.List.{List, [], _∷_}
 use mathlib.Core.Option.{Option, some, none}
 use native.Mathlib.Omega.{arith}
-use lib.ListN.{length, getD, drop, length-append, length-drop}
+use lib.ListN.{length, drop, length-append, length-drop}
 use lib.Seq.{getD-drop}
 use lib.Dec.{eqb, leb}
-use borrow.Author.Tests.{eqb-true, eqb-false, eq-eqb, ne-eqb, leb-true, leb-false, le-leb}
-use Rattle.encoding.proofs.Logic.{and-true, and-both}
+use borrow.Author.Tests.{eqb-true, eq-eqb, ne-eqb, le-leb}
+use Rattle.encoding.proofs.Logic.{and-true}
 use Rattle.page.specs.Layout.{mostPlaces, mostFiles}
-use Rattle.recovery.specs.Places.{nth, tabulate}
-use Rattle.recovery.specs.Log.{Image, Entry, blank, torn, bad, opening, image, outcome, Placed}
+use Rattle.recovery.specs.Places.{nth}
+use Rattle.recovery.specs.Log.{Image, Entry, blank, torn, bad, opening, image, outcome}
 use Rattle.inspection.specs.Lawful.{lowestUnlawful}
 use Rattle.recovery.specs.declared.Row.{Row}
 use Rattle.recovery.specs.declared.Answer.{Answer}
-use Rattle.recovery.specs.declared.Answer.the-variants.{Refused, Opened, Value, Nothing, Moved}
+use Rattle.recovery.specs.declared.Answer.the-variants.{Opened, Value, Nothing, Moved}
 use Rattle.recovery.specs.Numbers.{isRefused}
-use Rattle.recovery.specs.World.{World, Result, sizes, entryAt, rowAt, cold, down, endOf, isImageOf, placeHolds, tokenHolds, warmRow, rowHolds, lentRight, isFile, withRow, started, opened}
+use Rattle.recovery.specs.World.{World, sizes, entryAt, rowAt, cold, down, endOf, isImageOf, placeHolds, tokenHolds, warmRow, rowHolds, lentRight, isFile, withRow, started, opened}
 use Rattle.recovery.proofs.Places.{length-tabulate, nth-tabulate}
 use Rattle.recovery.proofs.Lookups.{is-file}
 use Rattle.inspection.proofs.LowestUnlawful.{lowest-none}
 use Rattle.calls.specs.Calls.{read, call, imageOf, isCarriedAt, onToken, onVersions}
 use Rattle.calls.proofs.LinkByLink.{reached}
-use Rattle.moving.specs.Moved.{warmRows, versionOf, carried, versionsTo, movePages, moved}
-use Rattle.moving.specs.Promised.{Decoded, SameVersion, Alike, none-both, value-both, FromStart}
+use Rattle.moving.specs.Moved.{versionOf, carried, versionsTo, movePages, moved}
+use Rattle.moving.specs.Promised.{Decoded, Alike, none-both, value-both, FromStart}
 use Rattle.moving.proofs.FreshLog.{moveLog, countTo, Carries, move-lawful}
 use Rattle.moving.proofs.FreshOpened.{AllBlank, freshSheet, pagesTo, above, fresh-end, fresh-log, fresh-opened, fresh-page, fresh-read, fresh-none}
 use Rattle.moving.proofs.Went.{Went, went}
@@ -82,9 +82,9 @@ files-lent w h =
     (s4 .1, s3 .1)
 
 -- what a version answers at or above its start, and no version
-abbrev versionAnswer : ℕ → Option Image → Answer
-versionAnswer p none = Nothing
-versionAnswer p (some i) = Value p (i .start) (length (i .value))
+abbrev currentAnswer : ℕ → Option Image → Answer
+currentAnswer p none = Nothing
+currentAnswer p (some i) = Value p (i .start) (length (i .value))
 
 module _ (w v : World) (fresh f : List Entry) (floor : ℕ) (d : Decoded w) (e : moved w fresh ≡ ((Moved floor, v), f)) where
   g : Went w fresh floor v f
@@ -127,21 +127,21 @@ module _ (w v : World) (fresh f : List Entry) (floor : ℕ) (d : Decoded w) (e :
     unfolding call
     reads-as = rw (lent-still, long, le-leb 1 n h, le-leb n files l, warm-still, held-still)
 
-    reads-versions : FromStart v n time → onVersions (withRow v n (rowAt v n)) n time (rowAt v n) .0 ≡ versionAnswer (rowAt v n .current) (versionOf v n)
+    reads-versions : FromStart v n time → onVersions (withRow v n (rowAt v n)) n time (rowAt v n) .0 ≡ currentAnswer (rowAt v n .current) (versionOf v n)
     reads-versions late = go (versionOf v n) refl
       where
-        go : (z : Option Image) → versionOf v n ≡ z → onVersions (withRow v n (rowAt v n)) n time (rowAt v n) .0 ≡ versionAnswer (rowAt v n .current) z
+        go : (z : Option Image) → versionOf v n ≡ z → onVersions (withRow v n (rowAt v n)) n time (rowAt v n) .0 ≡ currentAnswer (rowAt v n .current) z
         go none q = rw q
         go (some i) q = rw (q, le-leb (i .start) time (late i q), reached (isCarriedAt v) (v .sheet) n time false (record { place = rowAt v n .current; image = i }) (late i q))
 
     -- if it is answered, it shows the current version, if there is one
-    old-read : FromStart v n time → isRefused (call v (read n time 0) .0) ≡ false → call v (read n time 0) .0 ≡ versionAnswer (rowAt v n .current) (versionOf v n)
+    old-read : FromStart v n time → isRefused (call v (read n time 0) .0) ≡ false → call v (read n time 0) .0 ≡ currentAnswer (rowAt v n .current) (versionOf v n)
     unfolding isRefused
     old-read late a = rw reads-as (go (imageOf (entryAt v (rowAt v n .token))) refl (rw reads-as at a))
       where
         by-start : (i : Image) → entryAt v (rowAt v n .token) ≡ image i → (b : Bool) → leb (i .start) time ≡ b
             → isRefused (onToken (withRow v n (rowAt v n)) n time 0 (rowAt v n) (some i) .0) ≡ false
-            → onToken (withRow v n (rowAt v n)) n time 0 (rowAt v n) (some i) .0 ≡ versionAnswer (rowAt v n .current) (versionOf v n)
+            → onToken (withRow v n (rowAt v n)) n time 0 (rowAt v n) (some i) .0 ≡ currentAnswer (rowAt v n .current) (versionOf v n)
         by-start i q true z a =
             let own : eqb (i .action) 0 ≡ false = ne-eqb (i .action) 0 (λ y. omega (arith, d (rowAt v n .token) i (sym (page-still (rowAt v n .token)) ∙ q) .1)) in
             absurd (true≢false (rw (z, own) at a))
@@ -149,7 +149,7 @@ module _ (w v : World) (fresh f : List Entry) (floor : ℕ) (d : Decoded w) (e :
 
         go : (x : Option Image) → imageOf (entryAt v (rowAt v n .token)) ≡ x
             → isRefused (onToken (withRow v n (rowAt v n)) n time 0 (rowAt v n) x .0) ≡ false
-            → onToken (withRow v n (rowAt v n)) n time 0 (rowAt v n) x .0 ≡ versionAnswer (rowAt v n .current) (versionOf v n)
+            → onToken (withRow v n (rowAt v n)) n time 0 (rowAt v n) x .0 ≡ currentAnswer (rowAt v n .current) (versionOf v n)
         go none q a = reads-versions late
         go (some i) q a = by-start i (image-is (entryAt v (rowAt v n .token)) i q) (leb (i .start) time) refl a
 

@@ -1,13 +1,13 @@
 -- What the move reads off the rows, file by file; and every row rebuilt, one by one. Assumes nothing.
-use Prim.Native.Nat.{ℕ, zero, suc, pred, max, _+_, _*_, _/_, _%_, _≤_, _<_}
+use Prim.Native.Nat.{ℕ, zero, suc, pred, max, _+_, _/_, _≤_, _<_}
 use mathlib.Core.Path.{_≡_, refl, sym, ap, _∙_}
 use mathlib.Core.Bool.{Bool, true, false, not, cond}
 use mathlib.Core.List.{List}
 use native.Mathlib.Omega.{arith}
 use native.Mathlib.Numerals.{add-one}
-use lib.ListN.{length, getD, set}
+use lib.ListN.{length, getD}
 use lib.Dec.{eqb, leb}
-use borrow.Author.Tests.{eqb-true, eqb-false, eq-eqb, ne-eqb, le-leb, lt-leb, leb-true, leb-false}
+use borrow.Author.Tests.{eqb-true, eqb-false, eq-eqb, ne-eqb, le-leb, lt-leb, leb-true}
 use Rattle.encoding.proofs.Logic.{bool-ext}
 use Rattle.page.specs.Layout.{pageSize}
 use Rattle.page.specs.Answers.{tested, isBlankPage}
@@ -17,7 +17,7 @@ use Rattle.recovery.specs.Places.{nth, put, tabulate}
 use Rattle.recovery.specs.declared.Row.{Row}
 use Rattle.recovery.specs.declared.State.{State}
 use Rattle.recovery.specs.World.{World, cold, rowAt, warmRow, isFile, isBlank, endOf}
-use Rattle.recovery.specs.Lent.{rowLength, rowFrom, rowsOf, flat, putRow, pagesOf, lent, whole}
+use Rattle.recovery.specs.Lent.{rowLength, rowFrom, rowsOf, flat, putRow, pagesOf, lent}
 use Rattle.recovery.specs.Steps.{lineOne, rowOf, rowHoldsIn, withRowOf, rowFromPages, warmRowOf, Warmed}
 use Rattle.recovery.proofs.Places.{length-tabulate, nth-tabulate, tabulate-cong, put-tabulate}
 use Rattle.recovery.proofs.FlatRows.{rows-long, row-at, flat-long, flat-rows, put-flat}
@@ -25,7 +25,7 @@ use Rattle.recovery.proofs.Leaves.{rows-back, whole-is}
 use Rattle.recovery.proofs.Pages.{pages-long, page-here}
 use Rattle.calls.proofs.Ends.{lent-is}
 use Rattle.calls.proofs.Appends.{blank-is}
-use Rattle.moving.specs.Moved.{isUnused, lowest, warmRows, highestEnd}
+use Rattle.moving.specs.Moved.{isUnused, lowest, highestEnd}
 use Rattle.moving.specs.MoveSteps.{placesTo, surveyTo, surveyWith, warmRun}
 use Rattle.moving.specs.declared.checking.Survey.{Survey}
 

@@ -1,41 +1,35 @@
 -- The pages of a move, stored one above another: what the fresh sheet then holds. Assumes nothing.
-use Prim.Native.Nat.{ℕ, zero, suc, _+_, _*_, _/_, _-_, _≤_, _<_}
+use Prim.Native.Nat.{ℕ, zero, suc, _+_, _*_, _≤_}
 use mathlib.Core.Path.{_≡_, refl, sym, ap, _∙_}
-use mathlib.Core.Bool.{Bool, true, false, not, cond, _&&_, _||_, true≢false}
+use mathlib.Core.Bool.{Bool, true, false, cond}
 use mathlib.Core.List.{List, [], _∷_, _++_, append-assoc, append-nil}
-use mathlib.Core.Option.{Option, some, none}
+use mathlib.Core.Option.{none}
 use native.Mathlib.Omega.{arith}
 use native.Mathlib.Numerals.{add-one}
-use lib.ListN.{length, take, drop, replicate, length-append, length-replicate, length-take}
-use lib.Seq.{take-at, drop-at, drop-append-add, drop-drop, length-take-le}
-use lib.Dec.{eqb, leb}
-use borrow.Author.Tests.{eqb-true, eqb-false, eq-eqb, ne-eqb}
-use Rattle.encoding.proofs.Logic.{and-true}
+use lib.ListN.{length, take, drop, replicate, length-append}
+use lib.Seq.{take-at, drop-append-add, drop-drop}
+use lib.Dec.{eqb}
+use borrow.Author.Tests.{eqb-true, eqb-false, ne-eqb}
 use Rattle.page.specs.declared.Page.{Page}
 use Rattle.page.specs.declared.Sought as sought
 use Rattle.page.specs.declared.Sought.{Sought}
 use Rattle.page.specs.Layout.{pageSize, valueSize}
 use Rattle.page.specs.Table as table
-use Rattle.page.specs.Table.{packed, valueOf}
+use Rattle.page.specs.Table.{packed, valueOf, meetsRules}
 use Rattle.page.specs.Answers.{inBounds}
-use Rattle.page.specs.Table.{meetsRules}
 use Rattle.page.proofs.Obeyed.{opening-rules, outcome-rules}
 use Rattle.page.proofs.Rules.{are-in-bounds}
 use Rattle.page.proofs.RoundTrip.{length-packed}
-use Rattle.recovery.specs.Places.{nth}
 use Rattle.recovery.specs.Sheet.{pageBytes, imageFrom}
-use Rattle.recovery.specs.Log.{Image, Entry, blank, torn, bad, opening, image, outcome}
+use Rattle.recovery.specs.Log.{Image, Entry, image, outcome}
 use Rattle.recovery.specs.declared.Row.{Row}
-use Rattle.recovery.specs.World.{World, entryAt, rowAt, isImageOf, placeHolds, rowHolds}
-use Rattle.recovery.specs.Lent.{pagesOf}
 use Rattle.recovery.specs.Steps.{sealedImage, rowOf}
-use Rattle.calls.specs.Calls.{imageOf}
 use Rattle.calls.specs.Leaves.{padded, fieldsAt, valueAt, packedEntry, withPage, appended}
 use Rattle.calls.proofs.Appends.{appended-is}
 use Rattle.calls.specs.ReadSteps.{imageBy}
-use Rattle.calls.proofs.ReadImages.{Met, met-at, none-at}
+use Rattle.calls.proofs.ReadImages.{met-at}
 use Rattle.calls.proofs.ReadWalks.{met-long}
-use Rattle.moving.specs.Moved.{versionOf, carried, carriedBy, versionsTo}
+use Rattle.moving.specs.Moved.{carried, carriedBy}
 use Rattle.moving.specs.MoveLeaves.{laid, onto}
 use Rattle.moving.specs.MoveSteps.{placesTo, storedBy, storesTo, closedBy, storesAll, Roomy}
 use Rattle.moving.proofs.CarriedPages.{padded-back, value-rest, value-size}
@@ -53,7 +47,7 @@ laid-join p (h ∷ gs) g =
     let z : p + suc (length gs) ≡ suc p + length gs = omega arith in
     rw (z, laid-join (suc p) gs g) (sym (append-assoc (packedEntry p h) (laid (suc p) gs) (packedEntry (suc p + length gs) g)))
 
-entry-long : (p : ℕ) (g : Entry) → length (valueAt g) ≡ valueSize → length (packedEntry p g) ≡ pageSize
+pub entry-long : (p : ℕ) (g : Entry) → length (valueAt g) ≡ valueSize → length (packedEntry p g) ≡ pageSize
 unfolding packedEntry
 entry-long p g h = length-packed (fieldsAt p g) (valueAt g) p h
 

@@ -1,6 +1,6 @@
 -- What the move leaves of what is lent, bytes and numbers: the form of its contract.
 use mathlib.Core.List.{List, [], _∷_, _++_}
-use mathlib.Core.Bool.{Bool, cond, _&&_}
+use mathlib.Core.Bool.{cond, _&&_}
 use Prim.Native.Nat.{ℕ, suc, _*_, _/_, _%_}
 use lib.ListN.{length, drop}
 use lib.Dec.{eqb}

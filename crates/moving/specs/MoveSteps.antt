@@ -1,17 +1,16 @@
--- What smaller functions of the move answer. A reader of ask 10 can pass this file over: the laws join it to `moved`.
+-- What smaller functions of the move answer. A reader of what the move is can pass this file over: the laws join it to `moved`.
 use mathlib.Core.List.{List}
 use mathlib.Core.Bool.{Bool, not, cond, _&&_}
 use Prim.Native.Nat.{ℕ, zero, suc, max, _+_, _*_, _/_, _%_, _≤_}
-use lib.ListN.{length, replicate}
+use lib.ListN.{replicate}
 use lib.Dec.{eqb}
 use Rattle.page.specs.Layout.{pageSize, mostPlaces, mostFiles, valueSize}
 use Rattle.recovery.specs.declared.Row.{Row}
 use Rattle.recovery.specs.declared.State.{State}
 use Rattle.recovery.specs.declared.Done.{Done}
 use Rattle.recovery.specs.declared.Answer.the-variants.{Refused}
-use Rattle.recovery.specs.Lent.{rowLength, rowsOf, flat, lent}
+use Rattle.recovery.specs.Lent.{rowsOf, flat, lent}
 use Rattle.recovery.specs.Steps.{lineOne, sealedImage, rowOf, rowHoldsIn}
-use Rattle.page.specs.declared.Page.{Page}
 use Rattle.page.specs.declared.Sought as sought
 use Rattle.page.specs.declared.Sought.{Sought}
 use Rattle.page.specs.Table as table

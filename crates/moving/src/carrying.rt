@@ -15,14 +15,7 @@ ghost use Rattle.recovery.specs.Steps.{sealedImage};
 ghost use Rattle.moving.specs.MoveSteps.{storedBy, storesTo, storesAll, Roomy};
 
 // Stores the image of a file at a place above the last stored place, and answers where it then is; nothing where there is no image.
-fn store_version(
-    sheet: &[u8],
-    files: u64,
-    file: u64,
-    place: u64,
-    fresh: &mut [u8],
-    at: u64,
-) -> u64
+fn store_version(sheet: &[u8], files: u64, file: u64, place: u64, fresh: &mut [u8], at: u64) -> u64
     requires { ⌜ (1 ≤ at) × (pageSize * at + pageSize ≤ length (now fresh)) × (inBounds pageSize (suc at) files ≡ true) ⌝ }
     ensures { λ r. ⌜ (r, now (fresh .exit)) ≡ storedBy (now (sheet .entry)) file place at (now (fresh .entry)) (sealedImage files (now (sheet .entry)) file place) ⌝ }
 {

@@ -10,7 +10,7 @@ use recovery::row_holds_in;
 use recovery::row_of;
 ghost use mathlib.Core.Bool.{cond, not};
 ghost use mathlib.Core.Path.{_≡_};
-ghost use Prim.Native.Nat.{_+_, _^_, _≤_, _<_};
+ghost use Prim.Native.Nat.{_+_, _≤_, _<_};
 ghost use lib.Dec.{eqb};
 ghost use Rattle.page.specs.Layout.{mostFiles};
 ghost use Rattle.recovery.specs.Lent.{pagesOf};
@@ -18,7 +18,13 @@ ghost use Rattle.moving.specs.Moved.{isUnused, lowestUndecided};
 ghost use Rattle.moving.specs.MoveSteps.{moveLineOne, surveyWith, surveyTo};
 
 // Line 1, with the fresh sheet's length.
-pub(crate) fn is_movable(size: usize, fates: usize, numbers: usize, state: State, fresh: usize) -> bool
+pub(crate) fn is_movable(
+    size: usize,
+    fates: usize,
+    numbers: usize,
+    state: State,
+    fresh: usize,
+) -> bool
     ensures { λ r. ⌜ r ≡ moveLineOne size fates numbers (state .end) (state .undecided) fresh ⌝ }
 {
     let pages = fresh / Page::SIZE;
@@ -65,7 +71,7 @@ fn damaged_with(damaged: u64, file: u64, holds: bool) -> u64
 
 // How many versions so far, once the current place of one more row is known.
 fn versions_with(versions: u64, place: u64) -> u64
-    requires { ⌜ versions < 2 ^ 63 ⌝ }
+    requires { ⌜ versions < mostFiles ⌝ }
     ensures { λ r. ⌜ r ≡ versions + cond (eqb place 0) 0 1 ⌝ }
 {
     if place == 0 {
@@ -76,7 +82,7 @@ fn versions_with(versions: u64, place: u64) -> u64
 
 // The survey with one more row.
 fn survey_with(survey: Survey, file: u64, row: Row, holds: bool) -> Survey
-    requires { ⌜ survey .versions < 2 ^ 63 ⌝ }
+    requires { ⌜ survey .versions < mostFiles ⌝ }
     ensures { λ r. ⌜ r ≡ surveyWith survey file row holds ⌝ }
 {
     let damaged = damaged_with(survey.damaged, file, holds);
@@ -89,7 +95,7 @@ fn survey_with(survey: Survey, file: u64, row: Row, holds: bool) -> Survey
     }
 }
 
-// The survey of all rows. A damaged one does not end it: the rows are short, and most are not damaged.
+// The survey of all rows. A damaged row does not end it: damage is rare, and so one loop tells all three.
 pub(crate) fn survey_rows(sheet: &[u8], rows: &[u64], end: u64, files: u64, floor: u64) -> Survey
     requires { ⌜ files ≤ mostFiles ⌝ }
     ensures { λ r. ⌜ r ≡ surveyTo (now (sheet .entry)) files end (now (rows .entry)) floor files ⌝ }

@@ -5,7 +5,7 @@ use Rattle.calls.proofs.ReadImages.{met-at}
 use Rattle.page.proofs.Rules.{in-bounds}
 use denote.Ref.{now}
 use native.Mathlib.Omega.{arith}
-use mathlib.Core.Path.{_≡_, sym, ap, _∙_}
+use mathlib.Core.Path.{sym, ap, _∙_}
 use borrow.Author.Needs.{needs}
 use Rattle.moving.proofs.carrying.store_version.Statement.{statement}
 use Rattle.moving.proofs.carrying.store_version.Tie as tie

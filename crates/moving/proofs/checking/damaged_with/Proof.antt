@@ -1,5 +1,5 @@
 -- `moving::checking::damaged_with`: one found before, a row that holds, and one that does not. Assumes nothing.
-use borrow.Author.Tests.{eq-eqb, ne-eqb}
+use borrow.Author.Tests.{ne-eqb}
 use Rattle.moving.proofs.checking.damaged_with.Statement.{statement}
 use Rattle.moving.proofs.checking.damaged_with.Tie as tie
 

@@ -41,9 +41,11 @@ loop-less c = search needs
 
 loop-again : tie.Need-loop-again Inv-loop μ-loop
 loop-again c =
-    let a = c .before .before .before .before .before .before .before .args in
-    (omega arith, survey-turn (now (a .sheet)) (a .files) (a .end) (now (a .rows)) (a .floor) (c .before .before .before .before .loop .n) (c .before .before .before .before .loop .survey) (c .survey-with .result) (c .before .before .row-of .result) (c .before .row-holds-in .result)
-    (c .before .before .before .before .loop .inv .1) (c .before .before .row-of .ensures) (c .before .row-holds-in .ensures) (c .survey-with .ensures))
+    let a = c .before .before .before .before .before .before .before .args in (
+      omega arith,
+      survey-turn (now (a .sheet)) (a .files) (a .end) (now (a .rows)) (a .floor) (c .before .before .before .before .loop .n) (c .before .before .before .before .loop .survey) (c .survey-with .result) (c .before .before .row-of .result) (c .before .row-holds-in .result)
+          (c .before .before .before .before .loop .inv .1) (c .before .before .row-of .ensures) (c .before .row-holds-in .ensures) (c .survey-with .ensures),
+    )
 
 returns : tie.Need-returns Inv-loop μ-loop
 returns c =

@@ -3,8 +3,8 @@ use Rattle.moving.proofs.Rows.{warmTo, warm-long, warm-start, warm-turn
 use Rattle.recovery.specs.Lent.{flat, lent}
 use denote.Ref.{now}
 use native.Mathlib.Omega.{arith}
-use mathlib.Core.Path.{_≡_, refl, sym, ap, _∙_}
-use Prim.Native.Nat.{ℕ, _≤_, _-_}
+use mathlib.Core.Path.{_≡_, refl, _∙_}
+use Prim.Native.Nat.{_≤_, _-_}
 use lib.ListN.{length}
 use borrow.Author.Needs.{needs}
 use Rattle.moving.proofs.warming.warm_rows.Statement.{statement}
