@@ -130,7 +130,7 @@ module _ (s fates rows : List ℕ) (state : State) (fresh : List ℕ) (floor : �
   abbrev isWhole : Bool
   isWhole = whole (length s) (length rows) && eqb (length fresh % pageSize) 0
 
-  passed : (isWhole ≡ true) × (moved w old .0 .0 ≡ Moved floor)
+  pub passed : (isWhole ≡ true) × (moved w old .0 .0 ≡ Moved floor)
   unfolding moveLeaves
   passed = go isWhole refl e
     where

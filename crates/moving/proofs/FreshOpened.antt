@@ -65,7 +65,7 @@ nth-cold : (n f : ℕ) → nth cold (coldRows n) f ≡ cold
 nth-cold n zero = refl
 nth-cold n (suc i) = getD-cold n i
 
-length-cold : (n : ℕ) → length (coldRows n) ≡ n
+pub length-cold : (n : ℕ) → length (coldRows n) ≡ n
 unfolding coldRows
 length-cold zero = refl
 length-cold (suc n) = ap suc (length-cold n)

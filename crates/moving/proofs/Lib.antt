@@ -18,3 +18,4 @@ pub mod MoveRefusals
 pub mod CutSheets
 pub mod FreshBytes
 pub mod CutMoves
+pub mod BytesAlike

@@ -1,4 +1,4 @@
--- What smaller functions of the move answer. A reader of what the move is can pass this file over: the laws join it to `moved`.
+-- What smaller functions of the move answer. Whoever reads what the move is can pass this file over: the laws join it to `moved`.
 use mathlib.Core.List.{List}
 use mathlib.Core.Bool.{Bool, not, cond, _&&_}
 use Prim.Native.Nat.{ℕ, zero, suc, max, _+_, _*_, _/_, _%_, _≤_}
@@ -25,7 +25,7 @@ unfoldable pub moveLineOne : ℕ → ℕ → ℕ → ℕ → ℕ → ℕ → Boo
 moveLineOne size fates numbers end undecided fresh =
     lineOne size fates numbers end undecided && eqb (fresh % pageSize) 0 && isSheet (fresh / pageSize)
 
--- the lowest file whose row is damaged, by what is lent
+-- whether a file's row is damaged, by what is lent
 abbrev pub isDamaged : List ℕ → ℕ → ℕ → List ℕ → ℕ → Bool
 isDamaged s files end rows f = not (rowHoldsIn s files end f (rowOf rows f))
 
@@ -34,7 +34,7 @@ unfoldable pub placesTo : List ℕ → ℕ → ℕ
 placesTo rows zero = 0
 placesTo rows (suc k) = placesTo rows k + cond (eqb (rowOf rows (suc k) .current) 0) 0 1
 
--- what one pass over the rows of files 1 to k finds: 7's file, the number of versions, the floor that is answered
+-- what one pass over the rows of files 1 to k finds: the lowest damaged one, the number of versions, and the floor that is answered
 unfoldable pub surveyTo : List ℕ → ℕ → ℕ → List ℕ → ℕ → ℕ → Survey
 surveyTo s files end rows floor k = record { damaged = lowest (isDamaged s files end rows) k; versions = placesTo rows k; highest = highestEnd floor (rowsOf rows) k }
 
