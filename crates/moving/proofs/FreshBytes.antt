@@ -51,7 +51,7 @@ blank-page (Image x) e = let z : _≡_ {A = ℕ} 0 1 = cc in absurd (omega arith
 blank-page (Outcome x) e = let z : _≡_ {A = ℕ} 0 1 = cc in absurd (omega arith)
 blank-page Unfit e = let z : _≡_ {A = ℕ} 0 1 = cc in absurd (omega arith)
 
-zero-page : (s : List ℕ) (files i : ℕ) → i < length s / pageSize → getD (pagesOf s files) i blank ≡ blank → pageBytes s (suc i) ≡ replicate pageSize 0
+pub zero-page : (s : List ℕ) (files i : ℕ) → i < length s / pageSize → getD (pagesOf s files) i blank ≡ blank → pageBytes s (suc i) ≡ replicate pageSize 0
 zero-page s files i h e =
     let b : List ℕ = pageBytes s (suc i) in
     let t : isBlankPage (tested b (suc i) files) ≡ true = blank-is s (suc i) files ∙ ap isBlank (sym (page-here files (length s / pageSize) s i h) ∙ e) in

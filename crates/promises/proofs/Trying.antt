@@ -9,7 +9,7 @@ use lib.ListN.{length, replicate, length-replicate}
 use lib.Dec.{leb, ltb}
 use borrow.Author.Tests.{leb-true, ltb-true}
 use Rattle.encoding.proofs.Logic.{and-true, clash}
-use Rattle.page.specs.Layout.{kindAt, markAt}
+use Rattle.page.specs.Layout.{kindAt, markAt, pageSize}
 use Rattle.recovery.specs.declared.Answer.{Answer}
 use Rattle.recovery.specs.Numbers.{numbersOf}
 use Rattle.recovery.specs.Log.{blank}
@@ -18,28 +18,35 @@ use Rattle.recovery.specs.World.{sizes}
 use Rattle.recovery.specs.Lent.{rowLength}
 use Rattle.calls.specs.Calls.{Call, begin, write, read, test, decide, rebuild}
 use Rattle.calls.specs.Cuts.{firstBytes}
-use Rattle.promises.specs.Runs.{Box, sheetOf, Event, calls, opens, cuts, answerTo, after, runs, numbered, Hears, heard, Typed, AllAllowed, Run, blankBox, Floors}
+use Rattle.promises.specs.Runs.{Box, sheetOf, Event, calls, opens, cuts, answerTo, after, runs, numbered, Hears, heard, Typed, AllAllowed, Run, blankBox, Floors, moves, cutsMove}
 use Rattle.promises.specs.Model.{Model, blankModel, modelAnswer, modelAfter, modelOn, modelHeard, modelRuns}
 use Rattle.promises.specs.Promises.{boxAfter, NoTornOutcome}
 use Rattle.promises.proofs.bytes.Mixed.{first-ordered}
 use Rattle.promises.proofs.boxes.Boxes.{page-above}
-use Rattle.promises.proofs.boxes.BoxRuns.{reached-blank}
+use Rattle.promises.proofs.boxes.BoxRuns.{reached-blank, pagesOn}
 use Rattle.promises.proofs.boxes.Lasting.{head-is, tail-is}
 use Rattle.promises.proofs.answers.Fallen.{ends}
 use Rattle.promises.proofs.Proved.{promised}
 
--- ---- the steps of a run: a call; an opening with a floor, lent zeros; a call cut after so many bytes
+-- ---- the steps of a run: a call; an opening with a floor, lent zeros, of a sheet of so many pages or of the first one; a call cut after so many
+-- bytes; a move onto a blank sheet of so many pages, whole and cut after so many bytes
 
 pub data Step : Type 0 where
   does : Call → Step
   opened : ℕ → Step
   cut : Call → ℕ → Step
+  openedAs : ℕ → ℕ → Step
+  moved : ℕ → Step
+  cutMove : ℕ → ℕ → Step
 
 module _ (pages files : ℕ) where
   abbrev pub eventOf : Step → Event
   eventOf (does k) = calls k
   eventOf (opened floor) = opens floor (replicate pages 0) (replicate (rowLength * files) 0)
   eventOf (cut k n) = cuts k (firstBytes n)
+  eventOf (openedAs n floor) = opens floor (replicate n 0) (replicate (rowLength * files) 0)
+  eventOf (moved n) = moves (replicate (pageSize * n) 0)
+  eventOf (cutMove n k) = cutsMove (replicate (pageSize * n) 0) k
 
   abbrev pub events : List Step → List Event
   events [] = []
@@ -60,6 +67,9 @@ module _ (pages files : ℕ) where
   typedIn (does k ∷ xs) = isTyped k && typedIn xs
   typedIn (opened floor ∷ xs) = typedIn xs
   typedIn (cut k n ∷ xs) = isTyped k && typedIn xs
+  typedIn (openedAs n floor ∷ xs) = typedIn xs
+  typedIn (moved n ∷ xs) = typedIn xs
+  typedIn (cutMove n k ∷ xs) = typedIn xs
 
   typed : (k : Call) → isTyped k ≡ true → Typed k
   typed begin h = tt
@@ -69,14 +79,17 @@ module _ (pages files : ℕ) where
   typed (decide a c) h = tt
   typed (rebuild f) h = tt
 
-  allowed : (xs : List Step) → typedIn xs ≡ true → AllAllowed pages files (events xs)
-  allowed [] h = tt
-  allowed (does k ∷ xs) h = let p = and-true (isTyped k) (typedIn xs) h in (typed k (p .0), allowed xs (p .1))
-  allowed (opened floor ∷ xs) h = (λ e. length-replicate {A = ℕ} (rowLength * files) 0, allowed xs h)
-  allowed (cut k n ∷ xs) h = let p = and-true (isTyped k) (typedIn xs) h in ((typed k (p .0), first-ordered n), allowed xs (p .1))
+  pub allowed : (b : Box) (xs : List Step) → typedIn xs ≡ true → AllAllowed files b (events xs)
+  allowed b [] h = tt
+  allowed b (does k ∷ xs) h = let p = and-true (isTyped k) (typedIn xs) h in (typed k (p .0), allowed (after b (calls k)) xs (p .1))
+  allowed b (opened floor ∷ xs) h = (λ e. length-replicate {A = ℕ} (rowLength * files) 0, allowed (after b (eventOf (opened floor))) xs h)
+  allowed b (cut k n ∷ xs) h = let p = and-true (isTyped k) (typedIn xs) h in ((typed k (p .0), first-ordered n), allowed (after b (cuts k (firstBytes n))) xs (p .1))
+  allowed b (openedAs n floor ∷ xs) h = (λ e. length-replicate {A = ℕ} (rowLength * files) 0, allowed (after b (eventOf (openedAs n floor))) xs h)
+  allowed b (moved n ∷ xs) h = (tt, allowed (after b (eventOf (moved n))) xs h)
+  allowed b (cutMove n k ∷ xs) h = (tt, allowed (after b (eventOf (cutMove n k))) xs h)
 
   pub is-run : (xs : List Step) → (sizes pages pages files && typedIn xs) ≡ true → Run pages files (events xs)
-  is-run xs h = let p = and-true (sizes pages pages files) (typedIn xs) h in record { sized = p .0; allowed = allowed xs (p .1) }
+  is-run xs h = let p = and-true (sizes pages pages files) (typedIn xs) h in record { sized = p .0; allowed = allowed (blankBox pages) xs (p .1) }
 
   -- ---- floors: every opening's is at least every time read before it
 
@@ -93,6 +106,9 @@ module _ (pages files : ℕ) where
   floored t (does k ∷ xs) = floored (max t (timeOf k)) xs
   floored t (opened floor ∷ xs) = leb t floor && floored t xs
   floored t (cut k n ∷ xs) = floored t xs
+  floored t (openedAs n floor ∷ xs) = leb t floor && floored t xs
+  floored t (moved n ∷ xs) = floored t xs
+  floored t (cutMove n k ∷ xs) = floored t xs
 
   same-floor : {f g : ℕ} {a b c d : List ℕ} → opens f a b ≡ opens g c d → f ≡ g
   same-floor e = cc
@@ -112,6 +128,13 @@ module _ (pages files : ℕ) where
   floor-then u t (opened f ∷ xs) h c (x ∷ es₂) es₃ floor fates rows q = floor-then u t xs h (and-true (leb t f) (floored t xs) c .1) es₂ es₃ floor fates rows (tail-is q)
   floor-then u t (cut k n ∷ xs) h c [] es₃ floor fates rows q = let z = head-is q in clash cc
   floor-then u t (cut k n ∷ xs) h c (x ∷ es₂) es₃ floor fates rows q = floor-then u t xs h c es₂ es₃ floor fates rows (tail-is q)
+  floor-then u t (openedAs n f ∷ xs) h c [] es₃ floor fates rows q =
+      omega (arith, leb-true t f (and-true (leb t f) (floored t xs) c .0), same-floor (head-is q))
+  floor-then u t (openedAs n f ∷ xs) h c (x ∷ es₂) es₃ floor fates rows q = floor-then u t xs h (and-true (leb t f) (floored t xs) c .1) es₂ es₃ floor fates rows (tail-is q)
+  floor-then u t (moved n ∷ xs) h c [] es₃ floor fates rows q = let z = head-is q in clash cc
+  floor-then u t (moved n ∷ xs) h c (x ∷ es₂) es₃ floor fates rows q = floor-then u t xs h c es₂ es₃ floor fates rows (tail-is q)
+  floor-then u t (cutMove n k ∷ xs) h c [] es₃ floor fates rows q = let z = head-is q in clash cc
+  floor-then u t (cutMove n k ∷ xs) h c (x ∷ es₂) es₃ floor fates rows q = floor-then u t xs h c es₂ es₃ floor fates rows (tail-is q)
 
   floor-from : (t : ℕ) (xs : List Step) → floored t xs ≡ true → (es₁ es₂ es₃ : List Event) (file time floor : ℕ) (fates rows : List ℕ)
       → events xs ≡ es₁ ++ calls (read file time 0) ∷ (es₂ ++ opens floor fates rows ∷ es₃) → time ≤ floor
@@ -125,6 +148,12 @@ module _ (pages files : ℕ) where
   floor-from t (opened f ∷ xs) c (x ∷ es₁) es₂ es₃ file time floor fates rows q = floor-from t xs (and-true (leb t f) (floored t xs) c .1) es₁ es₂ es₃ file time floor fates rows (tail-is q)
   floor-from t (cut k n ∷ xs) c [] es₂ es₃ file time floor fates rows q = let z = head-is q in clash cc
   floor-from t (cut k n ∷ xs) c (x ∷ es₁) es₂ es₃ file time floor fates rows q = floor-from t xs c es₁ es₂ es₃ file time floor fates rows (tail-is q)
+  floor-from t (openedAs n f ∷ xs) c [] es₂ es₃ file time floor fates rows q = let z = head-is q in clash cc
+  floor-from t (openedAs n f ∷ xs) c (x ∷ es₁) es₂ es₃ file time floor fates rows q = floor-from t xs (and-true (leb t f) (floored t xs) c .1) es₁ es₂ es₃ file time floor fates rows (tail-is q)
+  floor-from t (moved n ∷ xs) c [] es₂ es₃ file time floor fates rows q = let z = head-is q in clash cc
+  floor-from t (moved n ∷ xs) c (x ∷ es₁) es₂ es₃ file time floor fates rows q = floor-from t xs c es₁ es₂ es₃ file time floor fates rows (tail-is q)
+  floor-from t (cutMove n k ∷ xs) c [] es₂ es₃ file time floor fates rows q = let z = head-is q in clash cc
+  floor-from t (cutMove n k ∷ xs) c (x ∷ es₁) es₂ es₃ file time floor fates rows q = floor-from t xs c es₁ es₂ es₃ file time floor fates rows (tail-is q)
 
   pub has-floors : (xs : List Step) → floored 0 xs ≡ true → Floors (blankBox pages) (events xs)
   has-floors xs c es₁ es₂ es₃ file time floor fates rows x e h ok = floor-from 0 xs c es₁ es₂ es₃ file time floor fates rows e
@@ -136,6 +165,9 @@ module _ (pages files : ℕ) where
   uncut (does k ∷ xs) = uncut xs
   uncut (opened floor ∷ xs) = uncut xs
   uncut (cut k n ∷ xs) = false
+  uncut (openedAs n floor ∷ xs) = uncut xs
+  uncut (moved n ∷ xs) = uncut xs
+  uncut (cutMove n k ∷ xs) = uncut xs
 
   pub none-torn : (xs : List Step) → uncut xs ≡ true → NoTornOutcome (events xs)
   none-torn [] h [] es₂ a c kept q = clash cc
@@ -145,6 +177,12 @@ module _ (pages files : ℕ) where
   none-torn (opened floor ∷ xs) h [] es₂ a c kept q = let z = head-is q in clash cc
   none-torn (opened floor ∷ xs) h (x ∷ es₁) es₂ a c kept q = none-torn xs h es₁ es₂ a c kept (tail-is q)
   none-torn (cut k n ∷ xs) h es₁ es₂ a c kept q = absurd (false≢true h)
+  none-torn (openedAs n floor ∷ xs) h [] es₂ a c kept q = let z = head-is q in clash cc
+  none-torn (openedAs n floor ∷ xs) h (x ∷ es₁) es₂ a c kept q = none-torn xs h es₁ es₂ a c kept (tail-is q)
+  none-torn (moved n ∷ xs) h [] es₂ a c kept q = let z = head-is q in clash cc
+  none-torn (moved n ∷ xs) h (x ∷ es₁) es₂ a c kept q = none-torn xs h es₁ es₂ a c kept (tail-is q)
+  none-torn (cutMove n k ∷ xs) h [] es₂ a c kept q = let z = head-is q in clash cc
+  none-torn (cutMove n k ∷ xs) h (x ∷ es₁) es₂ a c kept q = none-torn xs h es₁ es₂ a c kept (tail-is q)
 
   -- ---- what is heard, by the object model
 
@@ -173,12 +211,12 @@ module _ (pages files : ℕ) where
 
   -- ---- above the pages that the model has used all are blank
 
-  pub blank-above : (es : List Event) → Run pages files es → (p : ℕ) → modelRuns false (blankModel pages files) es .used < p → p ≤ pages → sealed files (sheetOf (boxAfter pages files es)) p ≡ blank
+  pub blank-above : (es : List Event) → Run pages files es → (p : ℕ) → modelRuns false (blankModel pages files) es .used < p → p ≤ pagesOn pages (blankBox pages) es → sealed files (sheetOf (boxAfter pages files es)) p ≡ blank
   blank-above es r p low high =
       let x = ends pages files (blankBox pages) (reached-blank pages files (r .sized)) es (r .allowed) in
       let m = x .with in
       let used : length (m .log) ≡ modelRuns false (blankModel pages files) es .used = sym (m .at .says .used) ∙ ap (λ (y : Model). y .used) (x .is) in
-      page-above pages files (boxAfter pages files es) m p (omega arith) high
+      page-above (pagesOn pages (blankBox pages) es) files (boxAfter pages files es) m p (omega arith) high
 
 -- answers in numbers
 abbrev pub inNumbers : List (Option Answer) → List (Option (List ℕ))

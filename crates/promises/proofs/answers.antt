@@ -6,6 +6,8 @@ pub mod Origins
 pub mod Carried
 pub mod Seen
 pub mod MovedReads
+pub mod Unwritten
+pub mod MoveCuts
 pub mod Overtaking
 pub mod Reserved
 pub mod Fallen

@@ -4,6 +4,7 @@ pub mod Boxes
 pub mod BoxPages
 pub mod BoxCalls
 pub mod BoxOpens
+pub mod Blanks
 pub mod BoxMoves
 pub mod BoxRuns
 pub mod Extends

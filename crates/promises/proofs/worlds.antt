@@ -6,6 +6,7 @@ pub mod SimWrites
 pub mod SimReads
 pub mod SimDecides
 pub mod SimCalls
+pub mod SimMoves
 pub mod Openings
 pub mod Shown
 pub mod Visible

@@ -149,7 +149,7 @@ module _ (n files : ℕ) (b : Box) (r : Reached n files b) (file time action : �
 -- ---- alike
 
 module _ (n files : ℕ) (b : Box) (r : Reached n files b) (file time : ℕ) where
-  alike-by : {d : ℕ} (g : Bool) (b′ : Box) (q : Reached d files b′) → isOn b′ ≡ true → {z : Option Version} → latest time (r .model .object file .history) ≡ z
+  pub alike-by : {d : ℕ} (g : Bool) (b′ : Box) (q : Reached d files b′) → isOn b′ ≡ true → {z : Option Version} → latest time (r .model .object file .history) ≡ z
       → Shows g (q .model .carried) (q .model .object file .history) time z → (x y : Answer) → x ≡ told-as z → y ≡ readVersion (q .model) file time (q .model .object file) (latest time (q .model .object file .history)) .0
       → AnsweredAlike files g b b′ file time x y
   alike-by false b′ q o l (not-yet e c) x y hx hy = let z : y ≡ Nothing = rw (e, c) at hy in z ∙ sym hx

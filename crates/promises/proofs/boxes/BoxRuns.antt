@@ -34,6 +34,7 @@ use Rattle.promises.proofs.bytes.Cuts.{cutLog}
 use Rattle.promises.proofs.bytes.ByteCalls.{drop-zeros}
 use Rattle.promises.proofs.boxes.Boxes.{Bounds, bounds, isOn, At, Reached, agrees, model-says}
 use Rattle.promises.proofs.boxes.BoxCalls.{called, was-cut}
+use Rattle.promises.proofs.boxes.Blanks.{zero-clean}
 use Rattle.promises.proofs.boxes.BoxMoves.{freshLog, move-says, moved-at, refused-at, bytes-are}
 use Rattle.promises.proofs.boxes.BoxOpens.{opened-at, opened-answer, opened-power}
 
@@ -191,36 +192,8 @@ allowed-split files b (e ∷ es) es′ h = let r = allowed-split files (after b 
 
 -- ---- a blank sheet
 
-take-zeros : (i n : ℕ) → i ≤ n → take {A = ℕ} i (replicate n 0) ≡ replicate i 0
-take-zeros zero n h = refl
-take-zeros (suc i) zero h = absurd (omega arith)
-take-zeros (suc i) (suc n) h = ap (λ l. 0 ∷ l) (take-zeros i n (omega arith))
-
 module _ (n files : ℕ) where
   module _ (sz : sizes n n files ≡ true) where
-    zs : Bounds n files
-    zs = bounds n files sz
-
-    zero-page : (q : ℕ) → q < n → pageBytes (replicate (pageSize * n) 0) (suc q) ≡ replicate pageSize 0
-    zero-page q h = ap (take pageSize) (drop-zeros (pageSize * q) (pageSize * n)) ∙ take-zeros pageSize (pageSize * n - pageSize * q) (omega arith)
-
-    zero-test : (q : ℕ) → q < n → tested (replicate pageSize 0) (suc q) files ≡ Blank
-    unfolding tested
-    zero-test q h = simp (are-in-bounds {size = pageSize} {place = suc q} {files = files} (record { size-is = refl; place-is = (omega arith, omega (arith, zs .most-pages)); files-are = (zs .some-files, zs .most-files) }))
-
-    zero-decoded : (q : ℕ) → q < n → decoded files (replicate (pageSize * n) 0) (suc q) ≡ blank
-    unfolding decoded
-    zero-decoded q h = ap (λ b. entryOf b (tested b (suc q) files)) (zero-page q h) ∙ ap (entryOf (replicate pageSize 0)) (zero-test q h)
-
-    zero-clean : (p : ℕ) → 0 < p → (b : Bool) → leb p n ≡ b → nth blank (pages files n (replicate (pageSize * n) 0)) p ≡ blank
-    unfolding sealed
-    zero-clean zero h b e = refl
-    zero-clean (suc q) h true e =
-        let k : q < n = leb-true (suc q) n e in
-        page-at-place files n (replicate (pageSize * n) 0) (suc q) (omega arith) k ∙ ap (seal (decoded files (replicate (pageSize * n) 0))) (zero-decoded q k)
-    zero-clean (suc q) h false e =
-        List·getD-eq-default (pages files n (replicate (pageSize * n) 0)) blank (omega (arith, pages-long files n (replicate (pageSize * n) 0), leb-false (suc q) n e))
-
     pub blank-at : At n files (blankBox n) [] (blankModel n files)
     unfolding down fateOf imagesOf effective versionsOf tokenOf carriedOf
     blank-at = record {
@@ -228,7 +201,7 @@ module _ (n files : ℕ) where
       long = length-replicate (pageSize * n) 0;
       pages-are = refl;
       files-are = refl;
-      holds = record { long = pages-long files n (replicate (pageSize * n) 0); lawful = tt; room = omega arith; log = refl; clean = λ p h. zero-clean p h (leb p n) refl };
+      holds = record { long = pages-long files n (replicate (pageSize * n) 0); lawful = tt; room = omega arith; log = refl; clean = λ p h. zero-clean n files (bounds n files sz) p h };
       says = record { used = refl; undecided = omega (arith, undecided-low n [] tt (omega arith)); status = λ a. refl; carried = λ a. refl; history = λ f. refl; token = λ f. refl };
       stands = tt;
     }

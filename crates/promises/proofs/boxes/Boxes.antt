@@ -90,7 +90,7 @@ module _ (n files : ℕ) where
     pub sim : Sim (worldIn m) (r .log) (r .model)
     sim = r .at .stands .0
 
-    whole-is : whole (length (m .sheet)) (length (m .rows)) ≡ true
+    pub whole-is : whole (length (m .sheet)) (length (m .rows)) ≡ true
     whole-is =
         let x : length (m .sheet) % pageSize ≡ 0 = omega (arith, r .at .long) in
         let y : length (m .rows) % rowLength ≡ 0 = omega (arith, r .at .stands .1) in

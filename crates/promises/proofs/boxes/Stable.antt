@@ -82,7 +82,7 @@ module _ (l : List Entry) (m : Model) (w : Lawful l) (s : Says l m) (f t : ℕ) 
       same : {u v : Version} → some u ≡ some v → u ≡ v
       same e = cc
 
-  told : isRefused (modelCall m (read f t 0) .0) ≡ false → ToldAt m f t
+  pub told : isRefused (modelCall m (read f t 0) .0) ≡ false → ToldAt m f t
   unfolding isRefused
   told h = by-file (leb 1 f && leb f (m .files)) refl
     where
