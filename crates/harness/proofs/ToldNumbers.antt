@@ -12,7 +12,8 @@ use Rattle.recovery.specs.declared.State.{State}
 use Rattle.recovery.specs.declared.Done.{Done}
 use Rattle.recovery.specs.Lent.{Left, leftBy}
 use Rattle.recovery.specs.Numbers.{answerLength, numbersOf}
-use Rattle.harness.specs.Door.{numberCount, toldNumbers, left, given}
+use Rattle.moving.specs.MoveLeaves.{MoveLeft, moveBy}
+use Rattle.harness.specs.Door.{Given, numberCount, toldNumbers, left, given, leftWith, givenMove}
 
 pub numbers-long : (a : Answer) → length (numbersOf a) ≡ answerLength
 numbers-long (Refused n p) = refl
@@ -44,3 +45,16 @@ module _ (s fates rows out : List ℕ) (x : Left) where
   unfolding given
   given-numbers done s′ fates′ rows′ out′ l h q =
       rw (eq-eqb (length out) numberCount l, q) (ap (λ (y : Left). left (y .sheet) (y .fates) (y .rows) (toldNumbers (y .answer) (y .state))) h)
+
+module _ (s fates rows fresh out : List ℕ) (x : MoveLeft) where
+  pub given-move-none : (length out ≡ numberCount → ⊥) → leftWith (left s fates rows out) fresh ≡ givenMove s fates rows fresh out x
+  unfolding givenMove
+  given-move-none h = rw (ne-eqb (length out) numberCount h) (ap (λ (g : Given). leftWith g fresh) (given-none s fates rows out (x .left) h))
+
+  pub given-move : (done : Done) (s′ fates′ rows′ fresh′ out′ : List ℕ) → length out ≡ numberCount → moveBy done s′ fates′ rows′ fresh′ ≡ x
+      → out′ ≡ toldNumbers (done .answer) (done .state) → leftWith (left s′ fates′ rows′ out′) fresh′ ≡ givenMove s fates rows fresh out x
+  unfolding givenMove
+  given-move done s′ fates′ rows′ fresh′ out′ l h q =
+      rw (eq-eqb (length out) numberCount l)
+      (ap (λ (g : Given). leftWith g fresh′) (given-numbers s fates rows out (x .left) done s′ fates′ rows′ out′ l (ap (λ (y : MoveLeft). y .left) h) q)
+      ∙ ap (λ (f : List ℕ). leftWith (given s fates rows out (x .left)) f) (ap (λ (y : MoveLeft). y .fresh) h))

@@ -12,6 +12,7 @@ use Rattle.calls.specs.declared.making.Call.{Call}
 use Rattle.calls.specs.declared.making.Call.the-variants.{Begin, Write, Read, Test, Commit, Abort}
 use Rattle.calls.specs.Asked.{asked}
 use Rattle.calls.specs.Leaves.{callLeaves}
+use Rattle.moving.specs.MoveLeaves.{MoveLeft}
 
 -- ---- what is asked
 
@@ -52,3 +53,14 @@ toldNumbers a state = numbersOf a ++ (state .end ∷ state .floor ∷ state .und
 unfoldable pub given : List ℕ → List ℕ → List ℕ → List ℕ → Left → Given
 given s fates rows out x =
     cond (eqb (length out) numberCount) (left (x .sheet) (x .fates) (x .rows) (toldNumbers (x .answer) (x .state))) (left s fates rows out)
+
+-- a move leaves the fresh sheet too
+pub record MoveGiven : Type 0 where
+  pub given : Given
+  pub fresh : List ℕ
+
+abbrev pub leftWith : Given → List ℕ → MoveGiven
+leftWith g fresh = record { given = g; fresh = fresh }
+
+unfoldable pub givenMove : List ℕ → List ℕ → List ℕ → List ℕ → List ℕ → MoveLeft → MoveGiven
+givenMove s fates rows fresh out x = leftWith (given s fates rows out (x .left)) (cond (eqb (length out) numberCount) (x .fresh) fresh)

@@ -1,6 +1,5 @@
-// The door of the tests and timings outside Rattle: a call, an opening or a rebuild as numbers, and the highest start. What a call, an
-// opening or a rebuild answers is given as numbers, the answer's and then the state's, in a lent run; with a run of another length nothing is
-// done.
+// The door of the tests and timings outside Rattle: a call, an opening, a rebuild or a move as numbers, and the highest start. What it
+// answers is given as numbers, the answer's and then the state's, in a lent run; with a run of another length nothing is done.
 use calls::Call;
 use calls::make;
 use recovery::ANSWER_LENGTH;
@@ -11,7 +10,8 @@ use recovery::refuse;
 ghost use mathlib.Core.Path.{_≡_};
 ghost use lib.ListN.{length};
 ghost use Rattle.recovery.specs.Lent.{highestStartOf, leftBy, openLeaves, rebuildLeaves};
-ghost use Rattle.harness.specs.Door.{numberCount, toldNumbers, callOf, made, stateWith, left, given};
+ghost use Rattle.moving.specs.MoveLeaves.{moveLeaves};
+ghost use Rattle.harness.specs.Door.{numberCount, toldNumbers, callOf, made, stateWith, left, given, leftWith, givenMove};
 
 // Where the state's numbers lie, after the answer's, and how many are given.
 const END: usize = ANSWER_LENGTH;
@@ -154,6 +154,28 @@ pub extern "C" fn door_rebuild(
     }
     let state = state_with(end, floor, undecided);
     let done = recovery::rebuild(sheet, fates, rows, state, file);
+    tell(out, done);
+}
+
+// A move to a fresh sheet.
+#[no_mangle]
+pub extern "C" fn door_move(
+    sheet: &[u8],
+    fates: &[u8],
+    rows: &mut [u64],
+    end: u64,
+    floor: u64,
+    undecided: u64,
+    fresh: &mut [u8],
+    out: &mut [u64],
+)
+    ensures { λ _. ⌜ leftWith (left (now (sheet .entry)) (now (fates .entry)) (now (rows .exit)) (now (out .exit))) (now (fresh .exit)) ≡ givenMove (now (sheet .entry)) (now (fates .entry)) (now (rows .entry)) (now (fresh .entry)) (now (out .entry)) (moveLeaves (now (sheet .entry)) (now (fates .entry)) (now (rows .entry)) (stateWith end floor undecided) (now (fresh .entry))) ⌝ }
+{
+    if out.len() != NUMBERS {
+        return;
+    }
+    let state = state_with(end, floor, undecided);
+    let done = moving::move_to(sheet, fates, rows, state, fresh);
     tell(out, done);
 }
 
