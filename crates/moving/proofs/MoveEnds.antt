@@ -9,6 +9,8 @@ use lib.Dec.{eqb, leb}
 use borrow.Author.Tests.{ne-eqb, le-leb, lt-leb, leb-true}
 use Rattle.encoding.proofs.Logic.{and-true}
 use Rattle.page.specs.Layout.{pageSize, mostPlaces}
+use Rattle.page.specs.Answers.{tested, isBlankPage}
+use Rattle.recovery.specs.Sheet.{pageBytes}
 use Rattle.recovery.specs.Log.{Entry, outcome}
 use Rattle.recovery.specs.declared.State.{State}
 use Rattle.recovery.specs.declared.Done.{Done}
@@ -25,7 +27,7 @@ use Rattle.moving.specs.Moved.{isSheet, isUnused, lowest, lowestDamaged,
 use Rattle.moving.specs.MoveLeaves.{moveBy, lowerMove, warmMove}
 use Rattle.moving.specs.MoveSteps.{moveLineOne, isDamaged, placesTo, surveyTo, storesAll, Roomy, refusalAt}
 use Rattle.moving.specs.declared.checking.Survey.{Survey}
-use Rattle.moving.proofs.Rows.{places-few}
+use Rattle.moving.proofs.Rows.{places-few, unused-first}
 use Rattle.moving.proofs.Went.{none-damaged}
 use Rattle.moving.proofs.MoveLaws.{places-are, stored-pages}
 
@@ -125,6 +127,9 @@ module _ (s fs rs : List ℕ) (st : State) (fresh : List ℕ)
             let k = lent-is (length s) (length fs) (length rs) (st .end) (st .undecided) (line-one .0) .sizes in
             let q = and-true (leb 1 (length fresh / pageSize)) (leb (length fresh / pageSize) mostPlaces) (line-one .1) in
             record { some-files = k .some-files; most-files = k .most-files; few = omega (arith, versions-here, leb-true (length fresh / pageSize) mostPlaces (q .1)); room = omega (arith, versions-here) }
+
+        pub blank-first : (b : Bool) → b ≡ isUnused sheet → b ≡ true → isBlankPage (tested (pageBytes fresh 1) 1 files) ≡ true
+        blank-first b hb e = unused-first fresh files (sym hb ∙ e) (omega (arith, l))
 
         pub warm-done : (b : Bool) → b ≡ isUnused sheet → b ≡ true → (xs : List ℕ) → xs ≡ storesAll s files rs fresh
             → moveBy (record { answer = Moved (v .highest); state = st }) s fs rs xs ≡ warmMove s fs rs st fresh

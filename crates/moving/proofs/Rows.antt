@@ -1,7 +1,7 @@
 -- What the move reads off the rows, file by file; and every row rebuilt, one by one. Assumes nothing.
 use Prim.Native.Nat.{ℕ, zero, suc, pred, max, _+_, _/_, _≤_, _<_}
 use mathlib.Core.Path.{_≡_, refl, sym, ap, _∙_}
-use mathlib.Core.Bool.{Bool, true, false, not, cond}
+use mathlib.Core.Bool.{Bool, true, false, not, cond, false≢true}
 use mathlib.Core.List.{List}
 use native.Mathlib.Omega.{arith}
 use native.Mathlib.Numerals.{add-one}
@@ -181,6 +181,13 @@ module _ (fresh : List ℕ) (files : ℕ) where
       let long : length sheet ≡ length fresh / pageSize = pages-long files (length fresh / pageSize) fresh in
       let some = end-rises (suc n) (length sheet) (omega arith) one in
       sym (ne-eqb (endOf sheet (length sheet)) 0 (λ q. omega arith))
+
+  pub unused-first : isUnused sheet ≡ true → 0 < length fresh / pageSize → isBlankPage (tested (pageBytes fresh 1) 1 files) ≡ true
+  unused-first u h = go (isBlankPage (tested (pageBytes fresh 1) 1 files)) refl
+    where
+      go : (r : Bool) → r ≡ isBlankPage (tested (pageBytes fresh 1) 1 files) → r ≡ true
+      go true e = refl
+      go false e = absurd (false≢true (used-here 0 false e h refl ∙ u))
 
   pub unused-end : (n : ℕ) → endOf sheet n ≡ 0 → n ≤ length fresh / pageSize → length fresh / pageSize ≤ n → true ≡ isUnused sheet
   unused-end n e h l =

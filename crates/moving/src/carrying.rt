@@ -3,14 +3,16 @@ use calls::append;
 use page::Page;
 use page::Sought;
 use recovery::image_at;
+use recovery::is_blank_at;
 use recovery::part_at;
 use recovery::row_of;
-ghost use mathlib.Core.Bool.{true};
+ghost use mathlib.Core.Bool.{true, cond};
 ghost use mathlib.Core.Path.{_≡_};
 ghost use Prim.Native.Nat.{_+_, _*_, _≤_, suc};
 ghost use lib.ListN.{length};
 ghost use Rattle.page.specs.Layout.{pageSize};
-ghost use Rattle.page.specs.Answers.{inBounds};
+ghost use Rattle.page.specs.Answers.{inBounds, isBlankPage, tested};
+ghost use Rattle.recovery.specs.Sheet.{pageBytes};
 ghost use Rattle.recovery.specs.Steps.{sealedImage};
 ghost use Rattle.moving.specs.MoveSteps.{storedBy, storesTo, storesAll, Roomy};
 
@@ -45,14 +47,25 @@ fn store_versions(sheet: &[u8], rows: &[u64], files: u64, fresh: &mut [u8]) -> u
     at
 }
 
-// Stores the pages of the move: the carried opening, the versions, and the outcome last.
+fn one_if(yes: bool) -> u64
+    ensures { λ r. ⌜ r ≡ cond yes 1 0 ⌝ }
+{
+    if yes {
+        return 1;
+    }
+    0
+}
+
+// Stores the pages of the move: the carried opening, the versions, and the outcome last. The small byte of the opening and of the outcome
+// is 1, as page 1 is blank. It is looked up, since a compiler that knows it stores it in one step with byte 0, which is to come first.
 pub(crate) fn store_pages(sheet: &[u8], rows: &[u64], files: u64, fresh: &mut [u8])
-    requires { ⌜ Roomy files (now rows) (length (now fresh)) ⌝ }
+    requires { ⌜ Roomy files (now rows) (length (now fresh)) × (isBlankPage (tested (pageBytes (now fresh) 1) 1 files) ≡ true) ⌝ }
     ensures { λ _. ⌜ now (fresh .exit) ≡ storesAll (now (sheet .entry)) files (now (rows .entry)) (now (fresh .entry)) ⌝ }
 {
-    let opening = Page::opening_as(1, 1);
+    let small = one_if(is_blank_at(&fresh[..], 1, files));
+    let opening = Page::opening_as(small, 1);
     append(fresh, 0, files, opening, &[0u8; Page::VALUE_SIZE]);
     let at = store_versions(sheet, rows, files, fresh);
-    let outcome = Page::outcome(1, 1);
+    let outcome = Page::outcome(1, small);
     append(fresh, at, files, outcome, &[0u8; Page::VALUE_SIZE]);
 }

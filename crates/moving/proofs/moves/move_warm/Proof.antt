@@ -1,5 +1,5 @@
 -- `moving::moves::move_warm`: 7, 11, 12, and the move. Assumes nothing.
-use Rattle.moving.proofs.MoveEnds.{line-one, versions-few, warm-damaged, warm-full, warm-used, roomy, warm-done}
+use Rattle.moving.proofs.MoveEnds.{line-one, versions-few, warm-damaged, warm-full, warm-used, roomy, blank-first, warm-done}
 use Rattle.calls.proofs.Ends.{lent-is}
 use borrow.Author.Tests.{not-true, not-false}
 use denote.Ref.{now}
@@ -63,7 +63,11 @@ store-pages-requires : tie.Need-store-pages-requires
 store-pages-requires c κs =
     let b = c .before .before .before .before .before .before .before .before .before .before .before .before .before .before in
     let a = b .args in
-    rw (c .before .before .before .before .before .before .before .before .before .file-count .ensures) (roomy (now (a .sheet)) (now (a .fates)) (now (a .rows)) (a .state) (now (a .fresh)) (b .pre) _ (rw (c .before .before .before .before .before .before .before .before .before .file-count .ensures) at (c .before .before .before .before .before .before .before .before .survey-rows .ensures)) (c .before .before .before .before .before .before .if1 .left) (c .before .before .before .before .if2 .left))
+    let k = c .before .before .before .before .before .before .before .before .before .file-count .ensures in
+    let v = rw k at (c .before .before .before .before .before .before .before .before .survey-rows .ensures) in (
+      rw k (roomy (now (a .sheet)) (now (a .fates)) (now (a .rows)) (a .state) (now (a .fresh)) (b .pre) _ v (c .before .before .before .before .before .before .if1 .left) (c .before .before .before .before .if2 .left)),
+      rw k (blank-first (now (a .sheet)) (now (a .fates)) (now (a .rows)) (a .state) (now (a .fresh)) (b .pre) _ v (c .before .before .before .before .before .before .if1 .left) (c .before .before .before .before .if2 .left) _ (rw k at (c .before .before .is-unused .ensures)) (not-false _ (c .before .if3 .left))),
+    )
 
 same-length-2 : tie.Need-same-length-2
 same-length-2 c = search needs
