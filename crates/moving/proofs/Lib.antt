@@ -19,3 +19,4 @@ pub mod CutSheets
 pub mod FreshBytes
 pub mod CutMoves
 pub mod BytesAlike
+pub mod MoveExample
