@@ -2,14 +2,15 @@
 -- of its bytes stored, a commit whose reply is lost, a time that is mended inside its action, rows that name the actions of their tokens,
 -- one life of a box with each promise asked of it, rows rebuilt in two orders, the reserve kept and used up, a floor that is too low, and
 -- a lawful sheet that no run of this store makes. Each premise is proved, so no promise is empty.
-use Prim.Native.Nat.{ℕ, suc, _*_, _≤_, _<_}
-use mathlib.Core.Path.{_≡_, refl, sym, _∙_, subst}
+use Rattle.page.specs.Layout.{pageSize}
+use Prim.Native.Nat.{ℕ, suc, _*_, _≤_, _<_, _/_}
+use mathlib.Core.Path.{_≡_, refl, sym, _∙_, subst, ap}
 use mathlib.Core.List.{List, [], _∷_, _++_}
 use mathlib.Core.Bool.{Bool, true, false, cond, true≢false}
 use mathlib.Core.Option.{Option, some, none}
 use mathlib.Core.Logic.{_⊎_}
 use native.Mathlib.Omega.{arith}
-use lib.ListN.{replicate}
+use lib.ListN.{length, replicate}
 use Rattle.encoding.proofs.Logic.{clash}
 use Rattle.page.specs.Table as table
 use Rattle.page.specs.Table.{head, front, packed, fieldsOf, lowest, highest, within, between, meetsRules, isPageOf}
@@ -30,10 +31,10 @@ use Rattle.calls.specs.Cuts.{firstBytes}
 use Rattle.promises.specs.Runs.{Ordered, Box, off, sheetOf, Event, calls, opens, cuts, after, heard, Hears, Run, blankBox}
 use Rattle.promises.specs.FromLog.{carriedOf}
 use Rattle.promises.specs.Model.{latest, hasCarried, blankModel, modelHeard, modelRuns}
-use Rattle.promises.specs.Promises.{boxAfter, pageIn, IsPageOf, IsEffective, IsVersion, Shown, ShowsAt, Did, WasWritten, AllShow, NoneShows, Falls, othersHeard}
+use Rattle.promises.specs.Promises.{boxAfter, pageIn, IsPageOf, IsEffective, IsVersion, Shown, ShowsAt, Did, WasWritten, AllShow, NoneShows, Falls, othersHeard, IsCarried}
 use Rattle.promises.proofs.boxes.BoxPages.{image-same}
 use Rattle.promises.proofs.Proved.{promised}
-use Rattle.promises.proofs.Trying.{Step, does, opened, cut, events, eventOf, is-run, has-floors, none-torn, hears-by, same-cut, blank-above, inNumbers}
+use Rattle.promises.proofs.Trying.{Step, does, opened, cut, events, eventOf, is-run, has-floors, none-torn, hears-by, same-cut, blank-above, inNumbers, sheet-long}
 
 -- ---- document 01's listing, with "AB" and "CD"
 
@@ -403,7 +404,7 @@ late-writes = hears-by 12 2 (at late) (calls (write 1 13 7 [])) (Stored 10) (is-
 
 -- the page of the older version, found at the end; it is committed
 pub found-met : IsPageOf older (pageIn 2 (boxAt late) 2)
-found-met = promised 12 2 .found (at begun) (at (does (decide 1 true) ∷ does (read 1 6 0) ∷ newer ++ does token ∷ tail)) older 2 late-run writes
+found-met = promised 12 2 .found (at begun) (at (does (decide 1 true) ∷ does (read 1 6 0) ∷ newer ++ does token ∷ tail)) older 2 late-run refl writes
 
 abbrev seen : Image
 seen = record { file = 1; action = 1; link = found-met .0; start = 5; value = 7 ∷ [] }
@@ -434,23 +435,23 @@ pub lawful-met : inspected (sheetOf (boxAt late)) 2 ≡ Lowest 0
 lawful-met = promised 12 2 .lawful (at late) late-run
 
 pub opened-met : isRefused (openLeaves (sheetOf (boxAt late)) fates rows 0 .answer) ≡ false
-opened-met = promised 12 2 .opened (at late) 0 fates rows late-run refl refl
+opened-met = promised 12 2 .opened (at late) 0 fates rows late-run (sym (sheet-long 12 2 (at late) late-run)) refl
 
 -- the commit cut after all 64 bytes, after 20, after none
 pub found-cut-met : IsPageOf (decide 7 true) (pageIn 2 (boxAt (life ++ cut (decide 7 true) 64 ∷ [])) 9)
-found-cut-met = promised 12 2 .found-cut (at life) [] (decide 7 true) 9 (firstBytes 64) (is-run 12 2 (life ++ cut (decide 7 true) 64 ∷ []) refl) refl would-commit
+found-cut-met = promised 12 2 .found-cut (at life) [] (decide 7 true) 9 (firstBytes 64) (is-run 12 2 (life ++ cut (decide 7 true) 64 ∷ []) refl) refl refl would-commit
 
 pub torn-cut-met : pageIn 2 (boxAt late) 9 ≡ torn
 unfolding latest hasCarried
-torn-cut-met = promised 12 2 .torn-cut (at life) (at (opened 6 ∷ [])) (decide 7 true) 9 (firstBytes 20) late-run refl refl would-commit
+torn-cut-met = promised 12 2 .torn-cut (at life) (at (opened 6 ∷ [])) (decide 7 true) 9 (firstBytes 20) late-run refl refl refl would-commit
     (λ e. let z : blank ≡ outcome 7 true = sym (blank-above 12 2 (at life) (is-run 12 2 life refl) 9 (omega arith) (omega arith)) ∙ e in clash cc)
 
 pub lost-cut-met : sheetOf (boxAt (life ++ cut (decide 7 true) 0 ∷ [])) ≡ sheetOf (boxAt life)
 lost-cut-met = promised 12 2 .lost-cut (at life) (decide 7 true) (firstBytes 0) (is-run 12 2 (life ++ cut (decide 7 true) 0 ∷ []) refl) refl
 
 pub kept-met : pageBytes (sheetOf (boxAt late)) 2 ≡ pageBytes (sheetOf (boxAt first)) 2
-kept-met = promised 12 2 .kept (at first) (at (does (read 1 6 0) ∷ newer ++ does token ∷ tail)) 2 late-run
-    (λ e. let p = promised 12 2 .found (at begun) (at (does (decide 1 true) ∷ [])) older 2 (is-run 12 2 first refl) writes in let z : image _ ≡ blank = sym (p .1) ∙ e in clash cc)
+kept-met = promised 12 2 .kept (at first) (at (does (read 1 6 0) ∷ newer ++ does token ∷ tail)) 2 late-run refl
+    (λ e. let p = promised 12 2 .found (at begun) (at (does (decide 1 true) ∷ [])) older 2 (is-run 12 2 first refl) refl writes in let z : image _ ≡ blank = sym (p .1) ∙ e in clash cc)
 
 pub as-answered-met : boxAt (life ++ cut (decide 7 true) 64 ∷ opened 6 ∷ []) ≡ boxAt (life ++ does (decide 7 true) ∷ opened 6 ∷ [])
 as-answered-met = promised 12 2 .as-answered (at life) (decide 7 true) (firstBytes 64) 6 fates rows (is-run 12 2 (life ++ cut (decide 7 true) 64 ∷ []) refl) refl
@@ -468,35 +469,43 @@ pub same-fate-met : (x : Answer) → Hears (boxAt late) (calls (test 7)) x → x
 same-fate-met x h = promised 12 2 .same-fate (at life) (decide 7 true) (firstBytes 20) 6 fates rows 7 1 0 x late-run refl tells-open h
 
 pub begun-met : (fate : ℕ) × (at : ℕ) × (1 ≤ fate) × (fate ≤ 3) × (Told 2 3 ≡ Told fate at) × (fate ≡ 1 → at ≡ 0)
-begun-met = promised 12 2 .begun (at (opened 0 ∷ [])) (at (does older ∷ does (decide 1 true) ∷ does (read 1 6 0) ∷ newer ++ does token ∷ tail)) 1 (Told 2 3) late-run begins late-committed
+begun-met = promised 12 2 .begun (at (opened 0 ∷ [])) (at (does older ∷ does (decide 1 true) ∷ does (read 1 6 0) ∷ newer ++ does token ∷ tail)) 1 (Told 2 3) late-run refl begins late-committed
 
 pub decided-met : Told 2 3 ≡ Told 2 3
-decided-met = promised 12 2 .decided (at (begun ++ does older ∷ [])) (at (does (read 1 6 0) ∷ newer ++ does token ∷ tail)) 1 3 true (Told 2 3) late-run commits late-committed
+decided-met = promised 12 2 .decided (at (begun ++ does older ∷ [])) (at (does (read 1 6 0) ∷ newer ++ does token ∷ tail)) 1 3 true (Told 2 3) late-run refl commits late-committed
 
-pub begun-only-met : Did 12 2 (at late) begin 7
+pub begun-only-met : Did 12 2 (at late) begin 7 ⊎ IsCarried 2 (boxAt late) 7
 begun-only-met = promised 12 2 .begun-only (at late) 7 1 0 late-run late-open
 
-pub decided-only-met : Did 12 2 (at late) (decide 1 true) 3
+pub decided-only-met : Did 12 2 (at late) (decide 1 true) 3 ⊎ IsCarried 2 (boxAt late) 1
 decided-only-met = promised 12 2 .decided-only (at late) 1 3 true late-run late-committed
+
+did-commit : Did 12 2 (at late) (decide 1 true) 3
+did-commit = record {
+  once = record { before = at (begun ++ does older ∷ []); event = calls (decide 1 true); rest = at (does (read 1 6 0) ∷ newer ++ does token ∷ tail); parts = refl; whole = refl; stored = commits };
+  since = refl;
+}
 
 -- the first commit asked again, past the cut and the opening; and its opposite
 pub asked-again-met : (Stored 3 ≡ Stored 3) × (sheetOf (after (boxAt late) (calls (decide 1 true))) ≡ sheetOf (boxAt late))
-asked-again-met = promised 12 2 .asked-again (at late) 1 3 true (Stored 3) late-run decided-only-met late-again
+asked-again-met = promised 12 2 .asked-again (at late) 1 3 true (Stored 3) late-run did-commit late-again
 
 pub again-unseen-met : heard (after (boxAt late) (calls (decide 1 true))) (at looks) ≡ heard (boxAt late) (at looks)
-again-unseen-met = promised 12 2 .again-unseen (at late) (at looks) 1 3 true (is-run 12 2 (late ++ looks) refl) decided-only-met
+again-unseen-met = promised 12 2 .again-unseen (at late) (at looks) 1 3 true (is-run 12 2 (late ++ looks) refl) did-commit
 
 pub opposite-refused-met : Refused 6 0 ≡ Refused 6 0
-opposite-refused-met = promised 12 2 .opposite-refused (at late) 1 3 true (Refused 6 0) late-run decided-only-met late-opposite
+opposite-refused-met = promised 12 2 .opposite-refused (at late) 1 3 true (Refused 6 0) late-run did-commit late-opposite
 
 pub one-outcome-met : _≡_ {A = ℕ} 3 3
 one-outcome-met =
-    let p = promised 12 2 .found (at (begun ++ does older ∷ [])) (at (does (read 1 6 0) ∷ newer ++ does token ∷ tail)) (decide 1 true) 3 late-run commits in
+    let p = promised 12 2 .found (at (begun ++ does older ∷ [])) (at (does (read 1 6 0) ∷ newer ++ does token ∷ tail)) (decide 1 true) 3 late-run refl commits in
     promised 12 2 .one-outcome (at late) 1 3 3 true true late-run p p
 
 pub can-be-decided-met : (place : ℕ) × Hears (boxAt late) (calls (decide 7 true)) (Stored place)
 unfolding latest hasCarried
-can-be-decided-met = promised 12 2 .can-be-decided (at late) 7 true late-run (0, late-open) (blank-above 12 2 (at late) late-run 12 (omega arith) (omega arith))
+can-be-decided-met = promised 12 2 .can-be-decided (at late) 7 true late-run (0, late-open)
+    (let z : length (sheetOf (boxAt late)) / pageSize ≡ 12 = omega (arith, sheet-long 12 2 (at late) late-run) in
+    ap (pageIn 2 (boxAt late)) z ∙ blank-above 12 2 (at late) late-run 12 (omega arith) (omega arith))
 
 pub whole-or-none-met : AllShow 2 (boxAt late) 7 ⊎ NoneShows 2 (boxAt late) 7
 whole-or-none-met = promised 12 2 .whole-or-none (at late) 7 late-run
@@ -538,8 +547,8 @@ own-shown-met = promised 12 2 .own-shown (at twice) 9 8 _ (is-run 12 2 twice ref
 pub overtaken-met : (c : Bool) (file time reader start size : ℕ) → Hears (boxAt (twice ++ does (decide 7 c) ∷ [])) (calls (read file time reader)) (Value 8 start size) → ⊥
 overtaken-met c file time reader start size h =
     let r = is-run 12 2 (twice ++ does (decide 7 c) ∷ []) refl in
-    let p = promised 12 2 .found (at before) (at (does again ∷ does (decide 7 c) ∷ [])) token 8 r writes-token in
-    let q = promised 12 2 .found (at life) (at (does (decide 7 c) ∷ [])) again 9 r writes-again in
+    let p = promised 12 2 .found (at before) (at (does again ∷ does (decide 7 c) ∷ [])) token 8 r refl writes-token in
+    let q = promised 12 2 .found (at life) (at (does (decide 7 c) ∷ [])) again 9 r refl writes-again in
     promised 12 2 .overtaken (at (twice ++ does (decide 7 c) ∷ [])) 8 9 file time reader start size _ _ r (p .1) (q .1) refl refl (omega arith) h
 
 pub torn-overtakes-none-met : IsEffective 2 (boxAt pulled) 8 (record { file = 2; action = 7; link = token-met .0; start = 9; value = 9 ∷ [] })

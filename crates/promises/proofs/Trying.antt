@@ -1,4 +1,8 @@
 -- How a run is tried on the promises: its steps as a list, the premises by a test that computes, what is heard by the object model.
+use Rattle.promises.proofs.answers.Heard.{answered}
+use Rattle.promises.proofs.boxes.Found.{not-heard}
+use Rattle.promises.proofs.boxes.BoxMoves.{bytes-are}
+use Rattle.recovery.specs.declared.Answer.the-variants.{Moved}
 use Prim.Native.Nat.{ℕ, max, _*_, _^_, _≤_, _<_}
 use mathlib.Core.Path.{_≡_, refl, sym, ap, _∙_}
 use mathlib.Core.List.{List, [], _∷_, _++_}
@@ -18,11 +22,11 @@ use Rattle.recovery.specs.World.{sizes}
 use Rattle.recovery.specs.Lent.{rowLength}
 use Rattle.calls.specs.Calls.{Call, begin, write, read, test, decide, rebuild}
 use Rattle.calls.specs.Cuts.{firstBytes}
-use Rattle.promises.specs.Runs.{Box, sheetOf, Event, calls, opens, cuts, answerTo, after, runs, numbered, Hears, heard, Typed, AllAllowed, Run, blankBox, Floors, moves, cutsMove}
-use Rattle.promises.specs.Model.{Model, blankModel, modelAnswer, modelAfter, modelOn, modelHeard, modelRuns}
-use Rattle.promises.specs.Promises.{boxAfter, NoTornOutcome}
+use Rattle.promises.specs.Runs.{Box, sheetOf, Event, calls, opens, cuts, answerTo, after, runs, numbered, Hears, heard, Typed, AllAllowed, Run, blankBox, Floors, moves, cutsMove, on, off}
+use Rattle.promises.specs.Model.{Model, blankModel, modelAnswer, modelAfter, modelOn, modelHeard, modelRuns, movedPages}
+use Rattle.promises.specs.Promises.{boxAfter, NoTornOutcome, sizeOfMove}
 use Rattle.promises.proofs.bytes.Mixed.{first-ordered}
-use Rattle.promises.proofs.boxes.Boxes.{page-above}
+use Rattle.promises.proofs.boxes.Boxes.{page-above, Reached}
 use Rattle.promises.proofs.boxes.BoxRuns.{reached-blank, pagesOn}
 use Rattle.promises.proofs.boxes.Lasting.{head-is, tail-is}
 use Rattle.promises.proofs.answers.Fallen.{ends}
@@ -217,6 +221,21 @@ module _ (pages files : ℕ) where
       let m = x .with in
       let used : length (m .log) ≡ modelRuns false (blankModel pages files) es .used = sym (m .at .says .used) ∙ ap (λ (y : Model). y .used) (x .is) in
       page-above (pagesOn pages (blankBox pages) es) files (boxAfter pages files es) m p (omega arith) high
+
+  -- the sheet in use has as many bytes as its pages
+  pub sheet-long : (es : List Event) → Run pages files es → length (sheetOf (boxAfter pages files es)) ≡ pageSize * pagesOn pages (blankBox pages) es
+  sheet-long es r = ends pages files (blankBox pages) (reached-blank pages files (r .sized)) es (r .allowed) .with .at .long
+
+  -- how many bytes a move stores, by the model
+  pub move-size : (es : List Event) → Run pages files es → (fresh : List ℕ) (floor : ℕ) → Hears (boxAfter pages files es) (moves fresh) (Moved floor)
+      → sizeOfMove (boxAfter pages files es) ≡ pageSize * movedPages (modelRuns false (blankModel pages files) es)
+  move-size es r fresh floor h =
+      let x = ends pages files (blankBox pages) (reached-blank pages files (r .sized)) es (r .allowed) in
+      go (boxAfter pages files es) (x .with) (answered (boxAfter pages files es) (moves fresh) (Moved floor) h) ∙ ap (λ (m : Model). pageSize * movedPages m) (x .is)
+    where
+      go : {k : ℕ} (b : Box) (q : Reached k files b) → answerTo b (moves fresh) ≡ some (Moved floor) → sizeOfMove b ≡ pageSize * movedPages (q .model)
+      go {k} (on m) q e = bytes-are k files m q fresh
+      go (off s) q e = not-heard e
 
 -- answers in numbers
 abbrev pub inNumbers : List (Option Answer) → List (Option (List ℕ))

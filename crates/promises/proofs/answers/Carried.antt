@@ -86,12 +86,16 @@ module _ (n files : ℕ) (m : Left) (r : Reached n files (on m)) where
 
   was-there : (i : Image) → Carries (warmRows w) i → (q : ℕ) × (j : Image) × Lies (r .log) q (image j) × SameVersion j i
   was-there i c =
-      let q : ℕ = rowAt (warmRows w) (c .file) .current in
-      (q, c .old, lies-below q (c .old) (is-image (entryAt w q) (c .old) (c .was)), record {
-        file = sym (ap (λ (x : Image). x .file) (c .is));
-        start = sym (ap (λ (x : Image). x .start) (c .is));
-        value = sym (ap (λ (x : Image). x .value) (c .is));
-      })
+      let q : ℕ = rowAt (warmRows w) (c .file) .current in (
+        q,
+        c .old,
+        lies-below q (c .old) (is-image (entryAt w q) (c .old) (c .was)),
+        record {
+          file = sym (ap (λ (x : Image). x .file) (c .is));
+          start = sym (ap (λ (x : Image). x .start) (c .is));
+          value = sym (ap (λ (x : Image). x .value) (c .is));
+        },
+      )
 
 -- ---- along a run
 

@@ -37,5 +37,5 @@ module _ (files : ℕ) where
 
 pub fallen : (n files : ℕ) (es : List Event) (file : ℕ) → Run n files es → Falls (modelRuns false (blankModel n files) es .object file .history)
 fallen n files es file r =
-      let x = ends n files (blankBox n) (reached-blank n files (r .sized)) es (r .allowed) in
-      subst (λ m. Falls (m .object file .history)) (x .is) (falls-at files (pagesOn n (blankBox n) es) (runs (blankBox n) es) (x .with) file)
+    let x = ends n files (blankBox n) (reached-blank n files (r .sized)) es (r .allowed) in
+    subst (λ m. Falls (m .object file .history)) (x .is) (falls-at files (pagesOn n (blankBox n) es) (runs (blankBox n) es) (x .with) file)

@@ -41,9 +41,11 @@ module _ (n n′ files : ℕ) (b b′ : Box) (r : Reached n files b) (r′ : Rea
 allowed-alike : (n n′ files : ℕ) (b b′ : Box) (r : Reached n files b) (r′ : Reached n′ files b′) → r′ .model ≡ r .model → isOn b′ ≡ isOn b → (es : List Event) → AllAllowed files b es → AllAllowed files b′ es
 allowed-alike n n′ files b b′ r r′ x o [] t = tt
 allowed-alike n n′ files b b′ r r′ x o (e ∷ es) t =
-    let u = allowed-too n n′ files b b′ r r′ x e (t .0) in
-    (u, allowed-alike (pagesAfter n b e) (pagesAfter n′ b′ e) files (after b e) (after b′ e) (reached-next n files b r e (t .0)) (reached-next n′ files b′ r′ e u)
-    (rw (x, o)) (power-is n′ files b′ r′ e u ∙ rw (x, o) (sym (power-is n files b r e (t .0)))) es (t .1))
+    let u = allowed-too n n′ files b b′ r r′ x e (t .0) in (
+      u,
+      allowed-alike (pagesAfter n b e) (pagesAfter n′ b′ e) files (after b e) (after b′ e) (reached-next n files b r e (t .0)) (reached-next n′ files b′ r′ e u)
+          (rw (x, o)) (power-is n′ files b′ r′ e u ∙ rw (x, o) (sym (power-is n files b r e (t .0)))) es (t .1),
+    )
 
 -- a call that leaves the model as it is, is not seen
 pub idle-unseen : (n files : ℕ) (b : Box) (r : Reached n files b) (k : Call) → Typed k → modelCall (r .model) k .1 ≡ r .model → (es : List Event) → AllAllowed files b es → heard (after b (calls k)) es ≡ heard b es

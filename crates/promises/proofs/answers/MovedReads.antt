@@ -142,9 +142,11 @@ module _ (n files : ℕ) (b : Box) (r : Reached n files b) (file time action : �
   early-only e =
       let k = heard-on n files b r (read file time action) tt (Refused 25 0) e in
       let h = model-early (r .model) file time action (k .1) in
-      let c = carried-here n files b r file time (k .0) (h .0) (h .1) in
-      ((c .place, c .seen, c .version-is, c .carried-is), λ p i w. all-later time (record { place = p; image = i }) (versions (r .log) file)
-      (among-versions (fateOf (r .log)) (record { place = p; image = i }) (effectiveOf (r .log) file) (effective-of n files b r file time action p i w) (fate n files b r file time action p i w)) (none-by n files b r file time (h .0)))
+      let c = carried-here n files b r file time (k .0) (h .0) (h .1) in (
+        (c .place, c .seen, c .version-is, c .carried-is),
+        λ p i w. all-later time (record { place = p; image = i }) (versions (r .log) file)
+            (among-versions (fateOf (r .log)) (record { place = p; image = i }) (effectiveOf (r .log) file) (effective-of n files b r file time action p i w) (fate n files b r file time action p i w)) (none-by n files b r file time (h .0)),
+      )
 
 -- ---- alike
 

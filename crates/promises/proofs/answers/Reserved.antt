@@ -165,6 +165,6 @@ module _ (n files : ℕ) where
       (suc (m .model .used), answer-is n files b m (calls (decide action c)) tt ∙ rw (t .0, status-by n files b m action undecided u, le-leb 1 (m .model .pages - m .model .used) room))
 
 pub run-reserved : (n files : ℕ) (es : List Event) → Run n files es → NoTornOutcome es → (action p : ℕ) (c : Bool) → answerTo (runs (blankBox n) es) (calls (test action)) ≡ some (Told 1 p)
-      → (place : ℕ) × (answerTo (runs (blankBox n) es) (calls (decide action c)) ≡ some (Stored place))
+    → (place : ℕ) × (answerTo (runs (blankBox n) es) (calls (decide action c)) ≡ some (Stored place))
 run-reserved n files es r w action p c e =
     can-decide (pagesOn n (blankBox n) es) files (runs (blankBox n) es) (spared-on n files (blankBox n) (record { with = reached-blank n files (r .sized); left = omega arith }) es (r .allowed) w) action p c e

@@ -201,8 +201,9 @@ module _ (n files : ℕ) (m : Left) (r : Reached n files (on m)) (file time : �
       go : {k : ℕ} (b : Box) (q : Reached k files b) → Still (q .model .object file) z → answerTo b (calls (read file time 0)) ≡ some y → (isRefused y ≡ false) × Alike files (on m) b file time x y
       go {k} (on m′) q s p =
           let said : y ≡ readVersion (q .model) file time (q .model .object file) (latest time (q .model .object file .history)) .0 =
-          sym (some-is p) ∙ model-says k files m′ q (read file time 0) ∙ again (q .model) file time (rw (q .at .files-are) in-range) (rw (s .free) tt) in
-          (ap isRefused said ∙ answer-still (q .model) file time z s from-start,
-          alike-by n files (on m) r file time true (on m′) q refl latest-is (shows-still (q .model) file time z s from-start) x y
-          (sym e ∙ model-says n files m r (read file time 0) ∙ told-first .says ∙ ap told-as latest-is) said)
+          sym (some-is p) ∙ model-says k files m′ q (read file time 0) ∙ again (q .model) file time (rw (q .at .files-are) in-range) (rw (s .free) tt) in (
+            ap isRefused said ∙ answer-still (q .model) file time z s from-start,
+            alike-by n files (on m) r file time true (on m′) q refl latest-is (shows-still (q .model) file time z s from-start) x y
+                (sym e ∙ model-says n files m r (read file time 0) ∙ told-first .says ∙ ap told-as latest-is) said,
+          )
       go (off t) q s p = not-heard p
