@@ -3,7 +3,7 @@
 use Prim.Native.Nat.{ℕ, _*_, _≤_, _<_}
 use mathlib.Core.Path.{_≡_, refl, sym, ap, _∙_, subst}
 use mathlib.Core.List.{List, [], _∷_, _++_}
-use mathlib.Core.Bool.{true, false≢true}
+use mathlib.Core.Bool.{true, false, false≢true}
 use mathlib.Core.Logic.{_⊎_, inl, inr}
 use native.Mathlib.Omega.{arith}
 use lib.ListN.{take, drop}
@@ -29,16 +29,16 @@ use Rattle.commands.specs.declared.printing.Reply as reply
 use Rattle.commands.specs.Commands.{parsed}
 use Rattle.desk.specs.declared.talking.Desk.{Desk}
 use Rattle.desk.specs.Conversation.{After, answered, lost, isStruck, acted, actedBy, openedFor, lending, replied, isOpen, calledFor, startedFor, bareFiles, bareFloor, conversed}
-use Rattle.promises.specs.Runs.{Box, on, sheetOf, Event, callOn, after, runs, Allowed, AllAllowed}
+use Rattle.promises.specs.Runs.{Box, on, sheetOf, Event, isMoved, movedIn, callOn, after, runs, Allowed, AllAllowed, blankBox}
 use Rattle.promises.specs.Promises.{IsPageOf}
 use Rattle.promises.proofs.logs.Outcomes.{Lies}
 use Rattle.promises.proofs.boxes.Boxes.{Reached}
-use Rattle.promises.proofs.boxes.BoxRuns.{reached-next, reached-on, reached}
+use Rattle.promises.proofs.boxes.BoxRuns.{pagesAfter, pagesOn, reached-next, reached-on, reached}
 use Rattle.promises.proofs.boxes.Found.{some-is, not-heard}
 use Rattle.promises.proofs.boxes.Extends.{stays}
 use Rattle.promises.proofs.boxes.BoxPages.{solid-image, page-lies-in, lies-page}
 use Rattle.promises.proofs.answers.Origins.{Adds, from-event}
-use Rattle.program.specs.Program.{Memory, memoryOf, turned, talked, firstMemory, callEvent, openEvent, eventsOf, Keeps, AllLines, memoryAfter, runOf, boxNow}
+use Rattle.program.specs.Program.{Memory, memoryOf, turned, talked, firstMemory, strikes, callEvent, openEvent, eventsOf, Keeps, AllLines, memoryAfter, runOf, boxNow}
 use Rattle.program.specs.Backdating.{IsUnnumbered, NothingBackdated}
 use Rattle.program.proofs.Meets.{Met, met-on, met-off, leftFor, met-sheet, AllRows, line-steps}
 use Rattle.program.proofs.Proved.{Fits, start-fits, event-allowed, from-first}
@@ -85,7 +85,18 @@ module _ (low : ℕ) where
 
 -- ---- line by line
 
-module _ (pages : ℕ) (first : List ℕ) (p : ℕ) (i : Image) where
+-- no line is a move
+call-stays : (b : Box) (m : Memory) (k : Call) → isMoved b (callEvent m k) ≡ false
+call-stays b m k = by-test (λ e. isMoved b e ≡ false) (strikes m k) (λ e. refl) (λ e. refl)
+
+no-move : (b : Box) (m : Memory) (c : Command) (line : List ℕ) → movedIn b (eventsOf m c line) ≡ false
+no-move b m command.Command.What line = refl
+no-move b m command.Command.BareOpen line = refl
+no-move b m (command.Command.Open files floor) line = refl
+no-move b m (command.Command.Cut n) line = refl
+no-move b m (command.Command.Call k from) line = rw (call-stays b m (asked k (drop from line)))
+
+module _ (first : List ℕ) (p : ℕ) (i : Image) where
   -- every image was on the first sheet too, or starts above
   abbrev Others : Box → Type 0
   Others b = (q : ℕ) (j : Image) → sealed bareFiles (sheetOf b) q ≡ image j → (sealed bareFiles first q ≡ image j) ⊎ (i .start < j .start)
@@ -95,6 +106,7 @@ module _ (pages : ℕ) (first : List ℕ) (p : ℕ) (i : Image) where
     pub box : Box
     pub met : Met m box
     pub rows : AllRows (m .rows)
+    pub pages : ℕ
     pub reached : Reached pages bareFiles box
     pub here : sealed bareFiles (sheetOf box) p ≡ image i
     pub others : Others box
@@ -109,25 +121,26 @@ module _ (pages : ℕ) (first : List ℕ) (p : ℕ) (i : Image) where
   -- ---- an event, and a line of one or none
 
   module _ (m : Memory) (x : Holds m) where
-    goes-on : (m′ : Memory) (es : List Event) → AllAllowed pages bareFiles es → Met m′ (runs (x .box) es) → AllRows (m′ .rows) → Others (runs (x .box) es) → Holds m′
-    goes-on m′ es al h long o =
-        let l = page-lies-in pages bareFiles (x .box) (x .reached) p (image i) (solid-image i) (x .here) in
+    goes-on : (m′ : Memory) (es : List Event) → AllAllowed bareFiles (x .box) es → movedIn (x .box) es ≡ false → Met m′ (runs (x .box) es) → AllRows (m′ .rows) → Others (runs (x .box) es) → Holds m′
+    goes-on m′ es al mv h long o =
+        let l = page-lies-in (x .pages) bareFiles (x .box) (x .reached) p (image i) (solid-image i) (x .here) in
         record {
           box = runs (x .box) es;
           met = h;
           rows = long;
-          reached = reached-on pages bareFiles (x .box) (x .reached) es al;
-          here = stays pages bareFiles (x .box) (x .reached) es al p (image i) (l .low) (l .high) (l .here);
+          pages = pagesOn (x .pages) (x .box) es;
+          reached = reached-on (x .pages) bareFiles (x .box) (x .reached) es al;
+          here = stays (x .pages) bareFiles (x .box) (x .reached) es al mv p (image i) (l .low) (l .high) (l .here);
           others = o;
         }
 
-    after-event : (e : Event) → Allowed pages bareFiles e → ((q : ℕ) (j : Image) → Adds (x .box) e q (image j) → i .start < j .start) → Others (after (x .box) e)
-    after-event e t f q j h =
-        go (from-event pages bareFiles (x .box) (x .reached) e t q (image j) (solid-image j)
-        (page-lies-in pages bareFiles (after (x .box) e) (reached-next pages bareFiles (x .box) (x .reached) e t) q (image j) (solid-image j) h))
+    after-event : (e : Event) → Allowed bareFiles (x .box) e → isMoved (x .box) e ≡ false → ((q : ℕ) (j : Image) → Adds (x .box) e q (image j) → i .start < j .start) → Others (after (x .box) e)
+    after-event e t mv f q j h =
+        go (from-event (x .pages) bareFiles (x .box) (x .reached) e mv q (image j) (solid-image j)
+        (page-lies-in (pagesAfter (x .pages) (x .box) e) bareFiles (after (x .box) e) (reached-next (x .pages) bareFiles (x .box) (x .reached) e t) q (image j) (solid-image j) h))
       where
         go : Lies (x .reached .log) q (image j) ⊎ Adds (x .box) e q (image j) → (sealed bareFiles first q ≡ image j) ⊎ (i .start < j .start)
-        go (inl l) = x .others q j (lies-page pages bareFiles (x .box) (x .reached) q (image j) l)
+        go (inl l) = x .others q j (lies-page (x .pages) bareFiles (x .box) (x .reached) q (image j) l)
         go (inr a) = inr (f q j a)
 
     -- what a line leaves
@@ -135,14 +148,14 @@ module _ (pages : ℕ) (first : List ℕ) (p : ℕ) (i : Image) where
       abbrev next : Command → Memory
       next c = memoryOf (conversed (m .desk) (m .sheet) (m .fates) (m .rows) c line)
 
-      stepped : (c : Command) → AllAllowed pages bareFiles (eventsOf m c line) → Others (runs (x .box) (eventsOf m c line)) → Holds (next c)
-      stepped c al o = let y = line-steps m (x .rows) (x .box) (x .met) line c in goes-on (next c) (eventsOf m c line) al (y .next) (y .rows) o
+      stepped : (c : Command) → AllAllowed bareFiles (x .box) (eventsOf m c line) → Others (runs (x .box) (eventsOf m c line)) → Holds (next c)
+      stepped c al o = let y = line-steps m (x .rows) (x .box) (x .met) line c in goes-on (next c) (eventsOf m c line) al (no-move (x .box) m c line) (y .next) (y .rows) o
 
-      allowed : (c : Command) → Fits line c → IsUnnumbered c → AllAllowed pages bareFiles (eventsOf m c line)
-      allowed c f h = event-allowed pages bareFiles m (x .rows) c line f (keeps c h)
+      allowed : (c : Command) → Fits line c → IsUnnumbered c → AllAllowed bareFiles (x .box) (eventsOf m c line)
+      allowed c f h = event-allowed bareFiles m (x .rows) (x .box) c line f (keeps c h)
 
       bare-holds : Holds (next command.Command.BareOpen)
-      bare-holds = let al = allowed command.Command.BareOpen tt tt in stepped command.Command.BareOpen al (after-event (openEvent m bareFiles (bareFloor (m .sheet))) (al .0) (λ q j h. absurd (h .whole)))
+      bare-holds = let al = allowed command.Command.BareOpen tt tt in stepped command.Command.BareOpen al (after-event (openEvent m bareFiles (bareFloor (m .sheet))) (al .0) refl (λ q j h. absurd (h .whole)))
 
       bare-above : Above (i .start) (next command.Command.BareOpen .desk)
       bare-above = open-above (i .start) m line (none-later bareFiles (m .sheet) p i (ap (λ s. sealed bareFiles s p) (met-sheet m (x .box) (x .met)) ∙ x .here))
@@ -156,7 +169,7 @@ module _ (pages : ℕ) (first : List ℕ) (p : ℕ) (i : Image) where
           let c : Command = command.Command.Call k from in
           let e : Event = callEvent m (asked k (drop from line)) in
           let al = allowed c f h in
-          stepped c al (after-event e (al .0) (adds-late (i .start) m (x .box) (x .met) u e))
+          stepped c al (after-event e (al .0) (call-stays (x .box) m (asked k (drop from line))) (adds-late (i .start) m (x .box) (x .met) u e))
 
       line-above : (c : Command) → IsUnnumbered c → Above (i .start) (m .desk) → Above (i .start) (next c .desk)
       line-above command.Command.What h u = u
@@ -183,15 +196,16 @@ module _ (pages : ℕ) (sized : sizes pages pages bareFiles ≡ true) (fates row
       let r = from-first pages bareFiles sized fates rows long before keep in
       let b₀ : Box = boxNow pages bareFiles fates rows before in
       let same : m .sheet ≡ sheetOf b₀ = met-sheet m b₀ (r .met) in
-      let x : Holds pages (m .sheet) p i m = record {
+      let x : Holds (m .sheet) p i m = record {
         box = b₀;
         met = r .met;
         rows = r .rows;
+        pages = pagesOn pages (blankBox pages) (runOf pages bareFiles fates rows before);
         reached = reached pages bareFiles (runOf pages bareFiles fates rows before) (record { sized = sized; allowed = r .allowed });
         here = ap (λ s. sealed bareFiles s p) (sym same) ∙ here;
         others = λ q j h. inl (ap (λ s. sealed bareFiles s q) same ∙ h);
       } in
-      let y : Holds pages (m .sheet) p i (memoryOf (turned m bare)) = subst (λ c. Holds pages (m .sheet) p i (memoryOf (conversed (m .desk) (m .sheet) (m .fates) (m .rows) c bare))) (sym b) (bare-holds pages (m .sheet) p i m x bare) in
-      let u : Above (i .start) (turned m bare .turn .desk) = subst (λ c. Above (i .start) (conversed (m .desk) (m .sheet) (m .fates) (m .rows) c bare .turn .desk)) (sym b) (bare-above pages (m .sheet) p i m x bare) in
-      let z = lines-hold pages (m .sheet) p i (memoryOf (turned m bare)) later none u y in
+      let y : Holds (m .sheet) p i (memoryOf (turned m bare)) = subst (λ c. Holds (m .sheet) p i (memoryOf (conversed (m .desk) (m .sheet) (m .fates) (m .rows) c bare))) (sym b) (bare-holds (m .sheet) p i m x bare) in
+      let u : Above (i .start) (turned m bare .turn .desk) = subst (λ c. Above (i .start) (conversed (m .desk) (m .sheet) (m .fates) (m .rows) c bare .turn .desk)) (sym b) (bare-above (m .sheet) p i m x bare) in
+      let z = lines-hold (m .sheet) p i (memoryOf (turned m bare)) later none u y in
       z .others q j (ap (λ s. sealed bareFiles s q) (sym (met-sheet _ (z .box) (z .met)) ∙ ap (λ (v : Memory). v .sheet) (talked-join (firstMemory pages fates rows) before (bare ∷ later))) ∙ there)

@@ -20,7 +20,7 @@ use Rattle.commands.specs.declared.parsing.Command.{Command}
 use Rattle.commands.specs.Commands.{parsed}
 use Rattle.commands.proofs.EveryLine.{every-line}
 use Rattle.desk.specs.Conversation.{bareFiles, bareFloor, spoken, saidTo}
-use Rattle.promises.specs.Runs.{Box, Event, runs, Typed, Allowed, AllAllowed, blankBox}
+use Rattle.promises.specs.Runs.{Box, sheetOf, Event, after, runs, Typed, Allowed, AllAllowed, blankBox}
 use Rattle.promises.proofs.bytes.Mixed.{first-ordered}
 use Rattle.promises.proofs.boxes.BoxRuns.{runs-join}
 use Rattle.program.specs.Program.{Memory, memoryOf, turned, talked, firstMemory, strikes, callEvent, openEvent, eventsOf, eventsIn, Keeps, AllKeep, Program}
@@ -50,21 +50,21 @@ start-fits line = every-line line (Fits line) (record {
   writes = λ file start action from fits inside text. fits;
 })
 
-module _ (pages files : ℕ) (m : Memory) (s : AllRows (m .rows)) where
-  call-allowed : (k : Call) → Typed k → Allowed pages files (callEvent m k)
-  call-allowed k h = by-test (Allowed pages files) (strikes m k) (λ e. (h, first-ordered (m .desk .cut))) (λ e. h)
+module _ (files : ℕ) (m : Memory) (s : AllRows (m .rows)) (b : Box) where
+  call-allowed : (k : Call) → Typed k → Allowed files b (callEvent m k)
+  call-allowed k h = by-test (Allowed files b) (strikes m k) (λ e. (h, first-ordered (m .desk .cut))) (λ e. h)
 
-  open-allowed : (n floor : ℕ) → (isFile mostFiles n ≡ true → n ≡ files) → Allowed pages files (openEvent m n floor)
+  open-allowed : (n floor : ℕ) → (isFile mostFiles n ≡ true → n ≡ files) → Allowed files b (openEvent m n floor)
   open-allowed n floor h = go (isFile mostFiles n) refl
     where
-      go : (z : Bool) → isFile mostFiles n ≡ z → sizesRight (pageSize * pages) (length (m .fates)) (length (cond z (take (rowLength * n) (m .rows)) [])) ≡ true
+      go : (z : Bool) → isFile mostFiles n ≡ z → sizesRight (length (sheetOf b)) (length (m .fates)) (length (cond z (take (rowLength * n) (m .rows)) [])) ≡ true
           → length (cond z (take (rowLength * n) (m .rows)) []) ≡ rowLength * files
       go true e q =
           let f = is-file mostFiles n e in
           length-take-le (rowLength * n) (m .rows) (omega (arith, s)) ∙ ap (λ m. rowLength * m) (h e)
-      go false e q = absurd (omega (arith, sizes-right (pageSize * pages) (length (m .fates)) 0 q .some-files))
+      go false e q = absurd (omega (arith, sizes-right (length (sheetOf b)) (length (m .fates)) 0 q .some-files))
 
-  pub event-allowed : (c : Command) (line : List ℕ) → Fits line c → Keeps files c → AllAllowed pages files (eventsOf m c line)
+  pub event-allowed : (c : Command) (line : List ℕ) → Fits line c → Keeps files c → AllAllowed files b (eventsOf m c line)
   event-allowed command.Command.What line f h = tt
   event-allowed command.Command.BareOpen line f h = (open-allowed bareFiles (bareFloor (m .sheet)) (λ e. h), tt)
   event-allowed (command.Command.Open n floor) line f h = (open-allowed n floor h, tt)
@@ -73,23 +73,23 @@ module _ (pages files : ℕ) (m : Memory) (s : AllRows (m .rows)) where
 
 -- ---- a conversation
 
-allowed-join : (n files : ℕ) (es es′ : List Event) → AllAllowed n files es → AllAllowed n files es′ → AllAllowed n files (es ++ es′)
-allowed-join n files [] es′ h k = k
-allowed-join n files (e ∷ es) es′ h k = (h .0, allowed-join n files es es′ (h .1) k)
+allowed-join : (files : ℕ) (b : Box) (es es′ : List Event) → AllAllowed files b es → AllAllowed files (runs b es) es′ → AllAllowed files b (es ++ es′)
+allowed-join files b [] es′ h k = k
+allowed-join files b (e ∷ es) es′ h k = (h .0, allowed-join files (after b e) es es′ (h .1) k)
 
-pub record Reaches (pages files : ℕ) (m : Memory) (b : Box) (lines : List (List ℕ)) : Type 0 where
-  pub allowed : AllAllowed pages files (eventsIn m lines)
+pub record Reaches (files : ℕ) (m : Memory) (b : Box) (lines : List (List ℕ)) : Type 0 where
+  pub allowed : AllAllowed files b (eventsIn m lines)
   pub met : Met (talked m lines) (runs b (eventsIn m lines))
   pub rows : AllRows (talked m lines .rows)
 
-reaches : (pages files : ℕ) (m : Memory) (b : Box) → AllRows (m .rows) → Met m b → (lines : List (List ℕ)) → AllKeep files lines → Reaches pages files m b lines
-reaches pages files m b s h [] k = record { allowed = tt; met = h; rows = s }
-reaches pages files m b s h (line ∷ lines) k =
+reaches : (files : ℕ) (m : Memory) (b : Box) → AllRows (m .rows) → Met m b → (lines : List (List ℕ)) → AllKeep files lines → Reaches files m b lines
+reaches files m b s h [] k = record { allowed = tt; met = h; rows = s }
+reaches files m b s h (line ∷ lines) k =
     let x = line-steps m s b h line (parsed line) in
     let e = eventsOf m (parsed line) line in
-    let r = reaches pages files (memoryOf (turned m line)) (runs b e) (x .rows) (x .next) lines (k .1) in
+    let r = reaches files (memoryOf (turned m line)) (runs b e) (x .rows) (x .next) lines (k .1) in
     record {
-      allowed = allowed-join pages files e (eventsIn (memoryOf (turned m line)) lines) (event-allowed pages files m s (parsed line) line (start-fits line) (k .0)) (r .allowed);
+      allowed = allowed-join files b e (eventsIn (memoryOf (turned m line)) lines) (event-allowed files m s b (parsed line) line (start-fits line) (k .0)) (r .allowed);
       met = subst (Met (talked m (line ∷ lines))) (sym (runs-join b e (eventsIn (memoryOf (turned m line)) lines))) (r .met);
       rows = r .rows;
     }
@@ -99,8 +99,8 @@ unfolding saidTo
 said-is m line out s = rw (eq-eqb (length (m .rows)) (rowLength * mostFiles) s)
 
 module _ (pages files : ℕ) (sized : sizes pages pages files ≡ true) (fates rows : List ℕ) (long : AllRows rows) where
-  pub from-first : (lines : List (List ℕ)) → AllKeep files lines → Reaches pages files (firstMemory pages fates rows) (blankBox pages) lines
-  from-first lines k = reaches pages files (firstMemory pages fates rows) (blankBox pages) long (met-off refl) lines k
+  pub from-first : (lines : List (List ℕ)) → AllKeep files lines → Reaches files (firstMemory pages fates rows) (blankBox pages) lines
+  from-first lines k = reaches files (firstMemory pages fates rows) (blankBox pages) long (met-off refl) lines k
 
   pub program : Program pages files fates rows
   program = record {

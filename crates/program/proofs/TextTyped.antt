@@ -27,7 +27,7 @@ use Rattle.desk.specs.Wording.{callReply, shown}
 use Rattle.desk.specs.Conversation.{After, bareFiles, bareFloor, conversed}
 use Rattle.calls.specs.Cuts.{firstBytes}
 use Rattle.promises.specs.Runs.{Box, sheetOf, Event, calls, cuts, answerTo, numbered, after, runs, blankBox, Run}
-use Rattle.promises.proofs.boxes.BoxRuns.{reached}
+use Rattle.promises.proofs.boxes.BoxRuns.{pagesOn, reached}
 use Rattle.promises.proofs.boxes.BoxKept.{box-kept}
 use Rattle.promises.proofs.boxes.BoxShown.{box-shows}
 use Rattle.promises.specs.Promises.{IsWhole, WasWritten}
@@ -164,7 +164,11 @@ module _ (pages files : ℕ) (sized : sizes pages pages files ≡ true) (fates r
   abbrev b : Box
   b = runs (blankBox pages) es
 
-  r : Reaches pages files m₀ (blankBox pages) lines
+  -- the pages of the sheet in use
+  abbrev n : ℕ
+  n = pagesOn pages (blankBox pages) es
+
+  r : Reaches files m₀ (blankBox pages) lines
   r = from-first pages files sized fates rows long lines keep
 
   run : Run pages files es
@@ -189,11 +193,11 @@ module _ (pages files : ℕ) (sized : sizes pages pages files ≡ true) (fates r
 
       not-blank : sealed files (sheetOf b) place ≡ blank → ⊥
       not-blank q =
-          let v = box-shows pages files b (reached pages files es run) file time action place start size (a .answer) in
+          let v = box-shows n files b (reached pages files es run) file time action place start size (a .answer) in
           let z : image (v .seen) ≡ blank = sym (v .effective .here) ∙ q in clash cc
 
       page-is : pageBytes (x .sheet) place ≡ pageBytes (sheetOf b) place
-      page-is = ap (λ s. pageBytes s place) sheet-is ∙ box-kept pages files b (reached pages files es run) (calls (call.read file time action) ∷ []) (tt, tt) place not-blank
+      page-is = ap (λ s. pageBytes s place) sheet-is ∙ box-kept n files b (reached pages files es run) (calls (call.read file time action) ∷ []) (tt, tt) refl place not-blank
 
       text-is : textOf x ≡ written .value
       text-is = ap (λ y. shown y (x .sheet)) h ∙ ap (λ p. take size (valueIn p)) page-is ∙ written .bytes

@@ -21,7 +21,7 @@ use Rattle.commands.specs.Commands.{parsed}
 use Rattle.desk.specs.declared.talking.Desk.{Desk}
 use Rattle.desk.specs.Wording.{callReply, openReply}
 use Rattle.desk.specs.Conversation.{After, isOpen, isStruck, bareFiles, bareFloor, conversed, spoken, saidTo, firstDesk}
-use Rattle.promises.specs.Runs.{Box, sheetOf, Event, calls, opens, cuts, answerTo, numbered, Run}
+use Rattle.promises.specs.Runs.{Box, sheetOf, Event, calls, opens, cuts, moves, cutsMove, answerTo, numbered, Run}
 use Rattle.promises.specs.Promises.{boxAfter}
 
 -- ---- what the program has between two lines
@@ -74,11 +74,13 @@ eventsIn m (line ∷ lines) = eventsOf m (parsed line) line ++ eventsIn (memoryO
 
 -- ---- what is heard, in 01's words
 
--- no answer: a call without a state prints `closed`, one that was cut `lost`
+-- no answer: a call without a state prints `closed`, one that was cut `lost`; no line is a move
 abbrev pub unheard : Event → Reply
 unheard (calls k) = reply.Reply.Closed
 unheard (opens floor fates rows) = reply.Reply.Closed
 unheard (cuts k stored) = reply.Reply.Lost
+unheard (moves fresh) = reply.Reply.Closed
+unheard (cutsMove fresh n) = reply.Reply.Lost
 
 abbrev pub inWords : (List ℕ → Reply) → Event → Option (List ℕ) → Reply
 inWords word e (some numbers) = word numbers
