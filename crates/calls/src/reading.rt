@@ -123,7 +123,7 @@ fn read_versions(
     Reading { answer, row }
 }
 
-// Lines 7 to 25 of read on a warm row. Each place of the row is looked at once.
+// Lines 7, 9, 13 and 25 of read on a warm row. Each place of the row is looked at once.
 fn read_row(
     sheet: &[u8],
     end: u64,
