@@ -173,20 +173,23 @@ module _ (pages files : ℕ) where
   uncut (moved n ∷ xs) = uncut xs
   uncut (cutMove n k ∷ xs) = uncut xs
 
-  pub none-torn : (xs : List Step) → uncut xs ≡ true → NoTornOutcome (events xs)
-  none-torn [] h [] es₂ a c kept q = clash cc
-  none-torn [] h (x ∷ es₁) es₂ a c kept q = clash cc
-  none-torn (does k ∷ xs) h [] es₂ a c kept q = let z = head-is q in clash cc
-  none-torn (does k ∷ xs) h (x ∷ es₁) es₂ a c kept q = none-torn xs h es₁ es₂ a c kept (tail-is q)
-  none-torn (opened floor ∷ xs) h [] es₂ a c kept q = let z = head-is q in clash cc
-  none-torn (opened floor ∷ xs) h (x ∷ es₁) es₂ a c kept q = none-torn xs h es₁ es₂ a c kept (tail-is q)
-  none-torn (cut k n ∷ xs) h es₁ es₂ a c kept q = absurd (false≢true h)
-  none-torn (openedAs n floor ∷ xs) h [] es₂ a c kept q = let z = head-is q in clash cc
-  none-torn (openedAs n floor ∷ xs) h (x ∷ es₁) es₂ a c kept q = none-torn xs h es₁ es₂ a c kept (tail-is q)
-  none-torn (moved n ∷ xs) h [] es₂ a c kept q = let z = head-is q in clash cc
-  none-torn (moved n ∷ xs) h (x ∷ es₁) es₂ a c kept q = none-torn xs h es₁ es₂ a c kept (tail-is q)
-  none-torn (cutMove n k ∷ xs) h [] es₂ a c kept q = let z = head-is q in clash cc
-  none-torn (cutMove n k ∷ xs) h (x ∷ es₁) es₂ a c kept q = none-torn xs h es₁ es₂ a c kept (tail-is q)
+  no-cut : (xs : List Step) → uncut xs ≡ true → (es₁ es₂ : List Event) (a : ℕ) (c : Bool) (kept : ℕ → Bool) → events xs ≡ es₁ ++ cuts (decide a c) kept ∷ es₂ → kept kindAt ≡ kept markAt
+  no-cut [] h [] es₂ a c kept q = clash cc
+  no-cut [] h (x ∷ es₁) es₂ a c kept q = clash cc
+  no-cut (does k ∷ xs) h [] es₂ a c kept q = let z = head-is q in clash cc
+  no-cut (does k ∷ xs) h (x ∷ es₁) es₂ a c kept q = no-cut xs h es₁ es₂ a c kept (tail-is q)
+  no-cut (opened floor ∷ xs) h [] es₂ a c kept q = let z = head-is q in clash cc
+  no-cut (opened floor ∷ xs) h (x ∷ es₁) es₂ a c kept q = no-cut xs h es₁ es₂ a c kept (tail-is q)
+  no-cut (cut k n ∷ xs) h es₁ es₂ a c kept q = absurd (false≢true h)
+  no-cut (openedAs n floor ∷ xs) h [] es₂ a c kept q = let z = head-is q in clash cc
+  no-cut (openedAs n floor ∷ xs) h (x ∷ es₁) es₂ a c kept q = no-cut xs h es₁ es₂ a c kept (tail-is q)
+  no-cut (moved n ∷ xs) h [] es₂ a c kept q = let z = head-is q in clash cc
+  no-cut (moved n ∷ xs) h (x ∷ es₁) es₂ a c kept q = no-cut xs h es₁ es₂ a c kept (tail-is q)
+  no-cut (cutMove n k ∷ xs) h [] es₂ a c kept q = let z = head-is q in clash cc
+  no-cut (cutMove n k ∷ xs) h (x ∷ es₁) es₂ a c kept q = no-cut xs h es₁ es₂ a c kept (tail-is q)
+
+  pub none-torn : (xs : List Step) → uncut xs ≡ true → NoTornOutcome (blankBox pages) (events xs)
+  none-torn xs h es₁ es₂ a c kept q mv = no-cut xs h es₁ es₂ a c kept q
 
   -- ---- what is heard, by the object model
 

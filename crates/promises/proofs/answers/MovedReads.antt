@@ -27,18 +27,17 @@ use Rattle.promises.specs.Promises.{IsEffective, IsVersion, IsCarried, A
 use Rattle.promises.proofs.logs.Logs.{known-place}
 use Rattle.promises.proofs.logs.Versions as found
 use Rattle.promises.proofs.logs.Versions.{version, Among, first, next, among-versions, versions-among, all-later}
-use Rattle.promises.proofs.logs.Newest.{effective-spot}
 use Rattle.promises.proofs.logs.Histories.{latest-is}
 use Rattle.promises.proofs.worlds.LogSays.{carried-entry}
-use Rattle.promises.proofs.worlds.Visible.{shared}
 use Rattle.promises.proofs.boxes.Boxes.{isOn, Reached, log-page, model-says}
 use Rattle.promises.proofs.boxes.BoxPages.{effective-out}
-use Rattle.promises.proofs.boxes.BoxShown.{heard-on, committed-told, effective-of, fate}
+use Rattle.promises.proofs.boxes.BoxShown.{heard-on, effective-of, fate}
 use Rattle.promises.proofs.boxes.Found.{some-is, not-heard}
 use Rattle.promises.proofs.boxes.Settled.{Settled}
 use Rattle.promises.proofs.boxes.Lasting.{Like, Shows, not-yet, this, gone, Lasts, FloorsFrom}
 use Rattle.promises.proofs.boxes.Stable.{told-as, again, v, first-is, in-range, late, last}
 use Rattle.promises.proofs.answers.Origins.{carried-first}
+use Rattle.promises.proofs.answers.Carried.{log-version}
 use Rattle.promises.proofs.answers.Seen.{value-bytes}
 
 -- ---- the model's versions on a box's sheet
@@ -94,11 +93,7 @@ module _ (n files : ℕ) (b : Box) (r : Reached n files b) (file time : ℕ) whe
       record {
         place = x .place;
         seen = x .image;
-        version-is = (
-          effective-out n files b r file x (p .1),
-          effective-spot (r .log) file x (p .1) .mine,
-          committed-told n files b r file time 0 (x .image) o (shared (p .0)) (λ e. omega (arith, k .0)),
-        );
+        version-is = log-version n files b r o file x (f .1);
         carried-is = log-page n files b r a (k .0) (k .1) ∙ carried-first (entryIn (r .log) a) (sym (carried-entry (r .log) a) ∙ sym (r .at .says .carried a) ∙ f .2);
         later = all-later time x (versions (r .log) file) (f .1) (none-by q);
       }

@@ -1,10 +1,7 @@
 -- The reserve holds: begin and write leave a page for the outcome of every undecided action, also where they are torn.
-use Rattle.encoding.proofs.Logic.{by-test}
-use Rattle.encoding.specs.Bytes.{zeros}
-use Rattle.moving.specs.Moved.{isSheet}
-use Prim.Native.Nat.{ℕ, zero, suc, pred, _+_, _-_, _≤_, _*_, _/_, _%_}
-use mathlib.Core.Path.{_≡_, refl, sym, ap, _∙_}
-use mathlib.Core.List.{List, [], _∷_, _++_}
+use Prim.Native.Nat.{ℕ, zero, suc, pred, _+_, _-_, _≤_, _/_}
+use mathlib.Core.Path.{_≡_, refl, sym, ap, _∙_, subst}
+use mathlib.Core.List.{List, [], _∷_}
 use mathlib.Core.Bool.{Bool, true, false, cond, not, _||_, true≢false, _&&_}
 use mathlib.Core.Option.{some, none}
 use mathlib.Core.Logic.{_⊎_, inl, inr}
@@ -16,17 +13,17 @@ use Rattle.page.specs.Layout.{kindAt, markAt, pageSize}
 use Rattle.recovery.specs.Places.{nth}
 use Rattle.recovery.specs.Log.{undecided, fateOf}
 use Rattle.recovery.specs.World.{fateNumber, fatesOf, undecidedOf}
-use Rattle.recovery.specs.declared.Answer.the-variants.{Stored, Told, Moved}
+use Rattle.recovery.specs.declared.Answer.the-variants.{Stored, Told}
 use Rattle.recovery.proofs.Places.{nth-tabulate}
 use Rattle.recovery.proofs.LogFates.{undecided-known}
 use Rattle.calls.specs.Calls.{Call, begin, write, read, test, decide, rebuild}
-use Rattle.promises.specs.Runs.{Box, Event, calls, opens, cuts, answerTo, after, runs, Allowed, AllAllowed, blankBox, Run, moves, cutsMove}
+use Rattle.promises.specs.Runs.{Box, on, off, Event, calls, opens, cuts, moves, cutsMove, takesPlace, bytesOfMove, isMoved, movedIn, answerTo, after, runs, AllAllowed, blankBox, Run}
 use Rattle.promises.specs.Promises.{NoTornOutcome}
-use Rattle.promises.specs.Model.{Model, Reply, stores, hasRoom, modelCall, modelOpened, modelCut, modelAfter, isOpened, refuses, askedTo, movedPages, lowestPending, modelMoved, modelMove}
+use Rattle.promises.specs.Model.{Model, Reply, stores, hasRoom, modelCall, modelOpened, modelCut, modelAfter, isOpened, modelMoved}
 use Rattle.promises.proofs.logs.Logs.{known-place}
 use Rattle.promises.proofs.worlds.ModelCalls.{begins, writes, reads, tests, decides, rebuilds}
 use Rattle.promises.proofs.boxes.Boxes.{isOn, Reached}
-use Rattle.promises.proofs.boxes.BoxRuns.{reached-next, reached-blank, answer-is, pagesAfter, pagesOn}
+use Rattle.promises.proofs.boxes.BoxRuns.{model-is, cut-model, reached-next, reached-on, reached-blank, reached, answer-is, pagesAfter, pagesOn}
 use Rattle.promises.proofs.logs.Fates.{same-fate}
 use Rattle.promises.proofs.boxes.Found.{told-fate}
 use Rattle.promises.proofs.answers.Seen.{status-by}
@@ -89,53 +86,49 @@ module _ (m : Model) (h : Left-for m) where
   open-keeps floor true = h
   open-keeps floor false = h
 
-  -- a fresh sheet has room for what is moved onto it
-  move-keeps : (fresh : List ℕ) → Left-for (modelMove m fresh .1)
-  move-keeps fresh =
-      by-test Keeps (eqb (length fresh % pageSize) 0 && isSheet (length fresh / pageSize)) {y = refuses 1 0 m}
-      (λ a. by-test Keeps (eqb (lowestPending m) 0) {y = refuses 23 (lowestPending m) m}
-      (λ b. by-test Keeps (leb (movedPages m) (length fresh / pageSize)) {y = refuses 11 0 m}
-      (λ c. by-test Keeps (zeros fresh) {x = (Moved (askedTo (m .floor) (m .object) (m .files)), modelMoved m (length fresh / pageSize))} {y = refuses 12 0 m}
-      (λ d. omega (arith, leb-true (movedPages m) (length fresh / pageSize) c)) (λ d. h)) (λ c. h)) (λ b. h)) (λ a. h)
-
 -- ---- along a run
 
-record Spared (n files : ℕ) (b : Box) : Type 0 where
-  pub with : Reached n files b
-  pub left : Left-for (with .model)
-
+-- the model of a box's next state: a move that takes place leaves nothing undecided, one that does not leaves it as it was
 module _ (n files : ℕ) where
-  spared-next : (b : Box) → Spared n files b → (e : Event) → Allowed files b e → NoTornOutcome (e ∷ []) → Spared (pagesAfter n b e) files (after b e)
-  spared-next b k e t w = record { with = reached-next n files b (k .with) e t; left = go (isOn b) e w }
-    where
-      go : (o : Bool) (e : Event) → NoTornOutcome (e ∷ []) → Left-for (modelAfter o (k .with .model) e)
-      go true (calls c) w = call-keeps (k .with .model) (k .left) c
-      go false (calls c) w = k .left
-      go o (opens floor fates rows) w = open-keeps (k .with .model) (k .left) floor (isOpened (k .with .model) fates rows)
-      go true (cuts c kept) w = cut-keeps (k .with .model) (k .left) c kept (λ a d q. w [] [] a d kept (ap (λ x. cuts x kept ∷ []) q))
-      go false (cuts c kept) w = k .left
-      go true (moves fresh) w = move-keeps (k .with .model) (k .left) fresh
-      go false (moves fresh) w = k .left
-      go true (cutsMove fresh c) w = by-test Left-for (leb (pageSize * movedPages (k .with .model)) c) (λ e. move-keeps (k .with .model) (k .left) fresh) (λ e. k .left)
-      go false (cutsMove fresh c) w = k .left
+  abbrev Next : (b : Box) (r : Reached n files b) (e : Event) → Bool → Type 0
+  Next b r e true = modelAfter (isOn b) (r .model) e .undecided ≡ 0
+  Next b r e false = Left-for (r .model) → Left-for (modelAfter (isOn b) (r .model) e)
 
-  -- of a run, its first event and the rest
-  first-whole : (e : Event) (es : List Event) → NoTornOutcome (e ∷ es) → NoTornOutcome (e ∷ [])
-  first-whole e es w [] es₂ a c kept q = w [] es a c kept (ap (λ l. first-of e l ∷ es) q)
-    where
-      first-of : Event → List Event → Event
-      first-of d [] = d
-      first-of d (x ∷ l) = x
-  first-whole e es w (x ∷ []) es₂ a c kept q = let z : length (e ∷ []) ≡ length (x ∷ (cuts (decide a c) kept ∷ es₂)) = ap length q in absurd (omega arith)
-  first-whole e es w (x ∷ (y ∷ es₁)) es₂ a c kept q = let z : length (e ∷ []) ≡ length (x ∷ (y ∷ (es₁ ++ (cuts (decide a c) kept ∷ es₂)))) = ap length q in absurd (omega arith)
+  -- an outcome's page is not torn, while no move takes place since
+  abbrev Whole : Event → Type 0
+  Whole e = (a : ℕ) (c : Bool) (kept : ℕ → Bool) → e ≡ cuts (decide a c) kept → kept kindAt ≡ kept markAt
 
-  rest-whole : (e : Event) (es : List Event) → NoTornOutcome (e ∷ es) → NoTornOutcome es
-  rest-whole e es w es₁ es₂ a c kept q = w (e ∷ es₁) es₂ a c kept (ap (λ l. e ∷ l) q)
+  by-model : (b : Box) (r : Reached n files b) (e : Event) (pages : ℕ) (c : Bool) → modelAfter (isOn b) (r .model) e ≡ cond c (modelMoved (r .model) pages) (r .model) → Next b r e c
+  by-model b r e pages true q = ap (λ (m : Model). m .undecided) q
+  by-model b r e pages false q = λ h. rw q h
 
-spared-on : (n files : ℕ) (b : Box) → Spared n files b → (es : List Event) → AllAllowed files b es → NoTornOutcome es → Spared (pagesOn n b es) files (runs b es)
-spared-on n files b k [] t w = k
-spared-on n files b k (e ∷ es) t w =
-    spared-on (pagesAfter n b e) files (after b e) (spared-next n files b k e (t .0) (first-whole n files e es w)) es (t .1) (rest-whole n files e es w)
+  next : (b : Box) (r : Reached n files b) (e : Event) → Whole e → Next b r e (isMoved b e)
+  next (on u) r (calls k) w = λ h. call-keeps (r .model) h k
+  next (off s) r (calls k) w = λ h. h
+  next b r (opens floor fates rows) w = λ h. open-keeps (r .model) h floor (isOpened (r .model) fates rows)
+  next (on u) r (cuts k kept) w = λ h. cut-keeps (r .model) h k kept (λ a c q. w a c kept (ap (λ x. cuts x kept) q))
+  next (off s) r (cuts k kept) w = λ h. h
+  next (on u) r (moves fresh) w = by-model (on u) r (moves fresh) (length fresh / pageSize) (takesPlace u fresh) (model-is n files u r fresh)
+  next (off s) r (moves fresh) w = λ h. h
+  next (on u) r (cutsMove fresh k) w = by-model (on u) r (cutsMove fresh k) (length fresh / pageSize) (takesPlace u fresh && leb (bytesOfMove u) k) (cut-model n files u r fresh k)
+  next (off s) r (cutsMove fresh k) w = λ h. h
+
+  room-for-none : (b : Box) (r : Reached n files b) → r .model .undecided ≡ 0 → Left-for (r .model)
+  room-for-none b r z = omega (arith, z, r .at .says .used, r .at .holds .room, r .at .pages-are)
+
+-- unless a move is still to come
+abbrev Spares : (n files : ℕ) (b : Box) → Reached n files b → List Event → Type 0
+Spares n files b r es = movedIn b es ≡ false → Left-for (r .model)
+
+spared : (n files : ℕ) (b : Box) (r : Reached n files b) (es : List Event) (t : AllAllowed files b es) → NoTornOutcome b es → Spares n files b r es → Left-for (reached-on n files b r es t .model)
+spared n files b r [] t w h = h refl
+spared n files b r (e ∷ es) t w h =
+    spared (pagesAfter n b e) files (after b e) (reached-next n files b r e (t .0)) es (t .1) (λ es₁ es₂ a c kept q. w (e ∷ es₁) es₂ a c kept (ap (λ l. e ∷ l) q))
+    (λ q. go (isMoved b e) refl q (next n files b r e (λ a c kept x. w [] es a c kept (ap (λ d. d ∷ es) x) (subst (λ d. movedIn (after b d) es ≡ false) x q))))
+  where
+    go : (c : Bool) → isMoved b e ≡ c → movedIn (after b e) es ≡ false → Next n files b r e c → Left-for (reached-next n files b r e (t .0) .model)
+    go true m q x = room-for-none (pagesAfter n b e) files (after b e) (reached-next n files b r e (t .0)) x
+    go false m q x = x (h (rw (m, q)))
 
 -- ---- an undecided action is counted
 
@@ -156,15 +149,14 @@ module _ (n files : ℕ) where
       let c = counted-at (fatesOf (m .model .pages) (m .log)) a (nth-tabulate (λ x. fateNumber (fateOf (m .log) x)) (m .model .pages) a 0 (p .0) (omega (arith, p .1, m .at .holds .room, m .at .pages-are)) ∙ ap fateNumber u) in
       omega (arith, m .at .says .undecided, c)
 
-  can-decide : (b : Box) → Spared n files b → (action p : ℕ) (c : Bool) → answerTo b (calls (test action)) ≡ some (Told 1 p) → (place : ℕ) × (answerTo b (calls (decide action c)) ≡ some (Stored place))
-  can-decide b k action p c e =
-      let m = k .with in
+  can-decide : (b : Box) (m : Reached n files b) → Left-for (m .model) → (action p : ℕ) (c : Bool) → answerTo b (calls (test action)) ≡ some (Told 1 p) → (place : ℕ) × (answerTo b (calls (decide action c)) ≡ some (Stored place))
+  can-decide b m h action p c e =
       let t = told-fate n files b m action 1 p e in
       let u : fateOf (m .log) action ≡ undecided = same-fate (t .2) in
-      let room : 1 ≤ m .model .pages - m .model .used = omega (arith, some-open b m action u, k .left) in
+      let room : 1 ≤ m .model .pages - m .model .used = omega (arith, some-open b m action u, h) in
       (suc (m .model .used), answer-is n files b m (calls (decide action c)) tt ∙ rw (t .0, status-by n files b m action undecided u, le-leb 1 (m .model .pages - m .model .used) room))
 
-pub run-reserved : (n files : ℕ) (es : List Event) → Run n files es → NoTornOutcome es → (action p : ℕ) (c : Bool) → answerTo (runs (blankBox n) es) (calls (test action)) ≡ some (Told 1 p)
+pub run-reserved : (n files : ℕ) (es : List Event) → Run n files es → NoTornOutcome (blankBox n) es → (action p : ℕ) (c : Bool) → answerTo (runs (blankBox n) es) (calls (test action)) ≡ some (Told 1 p)
     → (place : ℕ) × (answerTo (runs (blankBox n) es) (calls (decide action c)) ≡ some (Stored place))
 run-reserved n files es r w action p c e =
-    can-decide (pagesOn n (blankBox n) es) files (runs (blankBox n) es) (spared-on n files (blankBox n) (record { with = reached-blank n files (r .sized); left = omega arith }) es (r .allowed) w) action p c e
+    can-decide (pagesOn n (blankBox n) es) files (runs (blankBox n) es) (reached n files es r) (spared n files (blankBox n) (reached-blank n files (r .sized)) es (r .allowed) w (λ q. omega arith)) action p c e

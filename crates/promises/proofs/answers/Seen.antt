@@ -1,9 +1,9 @@
 -- What people see, traced to the calls: fates to begins and decisions, values to writes; and whole or not at all.
 use Rattle.moving.specs.Promised.{SameVersion}
-use Rattle.promises.proofs.answers.Carried.{once}
+use Rattle.promises.proofs.answers.Carried.{WasVersion, whence, longer}
 use Prim.Native.Nat.{ℕ, suc, _-_, _≤_, _<_}
 use mathlib.Core.Path.{_≡_, refl, sym, ap, _∙_, subst}
-use mathlib.Core.List.{List}
+use mathlib.Core.List.{List, _++_}
 use mathlib.Core.Bool.{Bool, true, false, cond, false≢true}
 use mathlib.Core.Option.{some}
 use mathlib.Core.Logic.{_⊎_, inl, inr}
@@ -29,7 +29,7 @@ use Rattle.recovery.proofs.Spots.{entryIn}
 use Rattle.promises.specs.Runs.{Box, sheetOf, Event, calls, answerTo, runs, blankBox, Run, Hears}
 use Rattle.promises.specs.Model as model
 use Rattle.promises.specs.FromLog.{statusOf, carriedOf}
-use Rattle.promises.specs.Promises.{IsPageOf, Once, Did, IsCarried, AllShow, NoneShows, WasWritten, IsWhole, Shown}
+use Rattle.promises.specs.Promises.{IsPageOf, IsVersion, Did, IsCarried, AllShow, NoneShows, WasWritten, IsWhole, Shown}
 use Rattle.promises.proofs.logs.Logs.{Lawful, Known, known-place, opening-at}
 use Rattle.promises.proofs.logs.Outcomes.{Lies, outcome-lies, outcome-only}
 use Rattle.promises.proofs.logs.Fates.{same-fate}
@@ -239,7 +239,7 @@ module _ (n files : ℕ) (es : List Event) (r : Run n files es) where
   -- ---- what is read was written
 
   pub run-was-written : (file time reader place start size : ℕ) → answerTo box (calls (read file time reader)) ≡ some (Value place start size) → WasWritten n files es file reader place start size
-  run-was-written file time reader place start size e = go (origin n files es r place (image i) (solid-image i) (v .effective .here))
+  run-was-written file time reader place start size e = go (origin n files es r place (image i) (solid-image i) (v .effective .here)) (whence n files es r place i (v .effective .here))
     where
       v : Shown files box file time reader place start size
       v = box-shows N files box m file time reader place start size e
@@ -254,27 +254,45 @@ module _ (n files : ℕ) (es : List Event) (r : Run n files es) where
       as-asked : (j : Image) → SameVersion j i → write (j .file) (j .start) (j .action) (j .value) ≡ write file start (j .action) (i .value)
       as-asked j s = λ t. write ((s .file ∙ v .is .0) t) ((s .start ∙ v .is .1) t) (j .action) (s .value t)
 
-      go : Added (blankBox n) es place (image i) ⊎ ((i .action ≡ 1) × (sealed files (sheetOf box) 1 ≡ opening true)) → WasWritten n files es file reader place start size
-      go (inl a) =
+      by-write : Added (blankBox n) es place (image i) → WasWritten n files es file reader place start size
+      by-write a =
           let d : Did n files es (write file start (i .action) (i .value)) place =
           subst (λ c. Did n files es c place) (call-image (a .adds .by) i (a .adds .page) ∙ as-asked i (record { file = refl; start = refl; value = refl })) (did n files es place (image i) a) in
           record { writer = i .action; value = i .value; at = place; wrote = d .once; bytes = bytes; long = sym (v .is .2); whose = inl (d, v .whose) }
-      go (inr o) =
-          let k = once n files es r place i (v .effective .here) in
+
+      by-move : (k : WasVersion files (blankBox n) es i) → Added (blankBox n) (k .before) (k .place) (image (k .old)) → (i .action ≡ 1) × (sealed files (sheetOf box) 1 ≡ opening true)
+          → WasWritten n files es file reader place start size
+      by-move k a o =
+          let j : Image = k .old in
+          let c : a .adds .by ≡ write file start (j .action) (i .value) = call-image (a .adds .by) j (a .adds .page) ∙ as-asked j (k .same) in
+          let d : Did n files (k .before) (write file start (j .action) (i .value)) (k .place) = subst (λ c. Did n files (k .before) c (k .place)) c (did n files (k .before) (k .place) (image j) a) in
+          let f : j .file ≡ file = k .same .file ∙ v .is .0 in
           record {
-            writer = k .first .action;
+            writer = j .action;
             value = i .value;
             at = k .place;
-            wrote = record {
-              before = k .before;
-              event = k .event;
-              rest = k .rest;
-              parts = k .parts;
-              whole = subst (λ c. IsWhole c (k .event)) (call-image (k .adds .by) (k .first) (k .adds .page) ∙ as-asked (k .first) (k .same)) (k .adds .whole);
-              stored = subst (λ c. Hears (runs (blankBox n) (k .before)) (calls c) (Stored (k .place))) (call-image (k .adds .by) (k .first) (k .adds .page) ∙ as-asked (k .first) (k .same))
-                  (hears (runs (blankBox n) (k .before)) (calls (k .adds .by)) (Stored (k .place)) (k .adds .stored));
-            };
+            wrote = record { before = d .once .before; event = d .once .event; rest = d .once .rest ++ k .rest; parts = longer es (k .before) (k .rest) (d .once .before) (d .once .rest) (d .once .event) (k .parts) (d .once .parts); whole = d .once .whole; stored = d .once .stored };
             bytes = bytes;
             long = sym (v .is .2);
-            whose = inr (i, v .effective .here, subst (IsCarried files box) (sym (o .0)) (o .1));
+            whose = inr (
+              record {
+                before = k .before;
+                rest = k .rest;
+                parts = k .parts;
+                moved = k .moved;
+                wrote = d;
+                version = (
+                  j .link,
+                  subst (IsVersion files (runs (blankBox n) (k .before)) file (k .place)) (λ t. record { file = f t; action = j .action; link = j .link; start = (k .same .start ∙ v .is .1) t; value = k .same .value t })
+                      (subst (λ g. IsVersion files (runs (blankBox n) (k .before)) g (k .place) j) f (k .version)),
+                );
+              },
+              (i, v .effective .here, subst (IsCarried files box) (sym (o .0)) (o .1)),
+            );
           }
+
+      go : Added (blankBox n) es place (image i) ⊎ ((i .action ≡ 1) × (sealed files (sheetOf box) 1 ≡ opening true))
+          → Added (blankBox n) es place (image i) ⊎ ((k : WasVersion files (blankBox n) es i) × Added (blankBox n) (k .before) (k .place) (image (k .old))) → WasWritten n files es file reader place start size
+      go (inl a) y = by-write a
+      go (inr o) (inl a) = by-write a
+      go (inr o) (inr y) = by-move (y .0) (y .1) o
