@@ -477,7 +477,7 @@ decided-met = promised 12 2 .decided (at (begun ++ does older ∷ [])) (at (does
 pub begun-only-met : Did 12 2 (at late) begin 7 ⊎ IsCarried 2 (boxAt late) 7
 begun-only-met = promised 12 2 .begun-only (at late) 7 1 0 late-run late-open
 
-pub decided-only-met : Did 12 2 (at late) (decide 1 true) 3 ⊎ IsCarried 2 (boxAt late) 1
+pub decided-only-met : Did 12 2 (at late) (decide 1 true) 3 ⊎ (IsCarried 2 (boxAt late) 1 × (true ≡ true))
 decided-only-met = promised 12 2 .decided-only (at late) 1 3 true late-run late-committed
 
 did-commit : Did 12 2 (at late) (decide 1 true) 3

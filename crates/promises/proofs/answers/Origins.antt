@@ -124,7 +124,7 @@ OfMove torn = ⊥
 OfMove bad = ⊥
 OfMove (opening k) = k ≡ true
 OfMove (image i) = i .action ≡ 1
-OfMove (outcome a c) = a ≡ 1
+OfMove (outcome a c) = (a ≡ 1) × (c ≡ true)
 
 log-of-move : (v : World) (k p : ℕ) (g : Entry) → Lies (logTo v k) p g → OfMove g
 unfolding logTo
@@ -148,7 +148,7 @@ of-move v k p g h = only (lies-cons (outcome 1 true) (logTo v k) p g h)
   where
     only : Lies (logTo v k) p g ⊎ ((p ≡ suc (length (logTo v k))) × (outcome 1 true ≡ g)) → OfMove g
     only (inl y) = log-of-move v k p g y
-    only (inr y) = subst OfMove (y .1) refl
+    only (inr y) = subst OfMove (y .1) (refl, refl)
 
 pub carried-first : (g : Entry) → isCarried g ≡ true → g ≡ opening true
 carried-first blank e = absurd (false≢true e)

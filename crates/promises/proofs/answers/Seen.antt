@@ -165,15 +165,15 @@ module _ (n files : ℕ) (es : List Event) (r : Run n files es) where
       go (inl y) = turn (done action (opening false) begin solid-opening call-opening y)
       go (inr y) = inr y
 
-  pub run-decided-only : (action place : ℕ) (c : Bool) → answerTo box (calls (test action)) ≡ some (Told (cond c 2 3) place) → Did n files es (decide action c) place ⊎ IsCarried files box action
+  pub run-decided-only : (action place : ℕ) (c : Bool) → answerTo box (calls (test action)) ≡ some (Told (cond c 2 3) place) → Did n files es (decide action c) place ⊎ (IsCarried files box action × (c ≡ true))
   run-decided-only action place c e =
       let t = told-fate N files box m action (cond c 2 3) place e in
       let o = outcome-lies (m .log) action c (same-fate (t .2 ∙ told-number c)) in
       go (done place (outcome action c) (decide action c) (solid-outcome action c) (λ k h. call-outcome k action c h) (subst (λ p. Lies (m .log) p (outcome action c)) (t .3) o))
     where
-      go : Did n files es (decide action c) place ⊎ ((action ≡ 1) × (sealed files (sheetOf box) 1 ≡ opening true)) → Did n files es (decide action c) place ⊎ IsCarried files box action
+      go : Did n files es (decide action c) place ⊎ (((action ≡ 1) × (c ≡ true)) × (sealed files (sheetOf box) 1 ≡ opening true)) → Did n files es (decide action c) place ⊎ (IsCarried files box action × (c ≡ true))
       go (inl d) = inl d
-      go (inr y) = inr (subst (IsCarried files box) (sym (y .0)) (y .1))
+      go (inr y) = inr (subst (IsCarried files box) (sym (y .0 .0)) (y .1), y .0 .1)
 
   -- ---- one outcome
 

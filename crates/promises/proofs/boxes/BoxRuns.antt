@@ -24,10 +24,9 @@ use Rattle.recovery.specs.declared.Answer.{Answer}
 use Rattle.recovery.specs.declared.Answer.the-variants.{Moved}
 use Rattle.encoding.specs.Bytes.{zeros}
 use Rattle.encoding.proofs.Logic.{by-test}
-use Rattle.moving.specs.Moved.{isSheet}
 use Rattle.promises.specs.Runs.{Box, on, off, Event, calls, opens, cuts, moves, cutsMove, moveOn, takesPlace, bytesOfMove, isMoved, answerTo, after, runs, Allowed, AllAllowed, blankBox, Run}
 use Rattle.promises.specs.FromLog.{carriedOf}
-use Rattle.promises.specs.Model.{Model, Reply, refuses, askedTo, movedPages, lowestPending, modelMoved, modelMove, modelCutMove, blankModel, modelAnswer, modelAfter, modelOn}
+use Rattle.promises.specs.Model.{Model, Reply, refuses, askedTo, movedPages, lowestPending, modelMoved, modelMove, modelCutMove, blankModel, modelAnswer, modelAfter, modelOn, isSize}
 use Rattle.promises.proofs.logs.Fates.{undecided-low}
 use Rattle.promises.proofs.bytes.Stored.{bytesOf}
 use Rattle.promises.proofs.bytes.Cuts.{cutLog}
@@ -59,7 +58,7 @@ Follows m fresh x = x .1 ≡ cond (isRefused (x .0)) m (modelMoved m (length fre
 pub move-model : (m : Model) (fresh : List ℕ) → modelMove m fresh .1 ≡ cond (isRefused (modelMove m fresh .0)) m (modelMoved m (length fresh / pageSize))
 unfolding isRefused
 move-model m fresh =
-    by-test (Follows m fresh) (eqb (length fresh % pageSize) 0 && isSheet (length fresh / pageSize)) {y = refuses 1 0 m}
+    by-test (Follows m fresh) (eqb (length fresh % pageSize) 0 && isSize (length fresh / pageSize)) {y = refuses 1 0 m}
     (λ a. by-test (Follows m fresh) (eqb (lowestPending m) 0) {y = refuses 23 (lowestPending m) m}
     (λ b. by-test (Follows m fresh) (leb (movedPages m) (length fresh / pageSize)) {y = refuses 11 0 m}
     (λ c. by-test (Follows m fresh) (zeros fresh) {x = (Moved (askedTo (m .floor) (m .object) (m .files)), modelMoved m (length fresh / pageSize))} {y = refuses 12 0 m} (λ d. refl) (λ d. refl))

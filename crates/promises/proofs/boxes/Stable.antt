@@ -11,7 +11,6 @@ use lib.ListN.{length}
 use Rattle.encoding.specs.Bytes.{zeros}
 use Rattle.encoding.proofs.Logic.{by-test, and-true, and-both, clash}
 use Rattle.page.specs.Layout.{pageSize}
-use Rattle.moving.specs.Moved.{isSheet}
 use Rattle.recovery.specs.Log.{Entry, undecided, Placed, fateOf, effectiveOf}
 use Rattle.recovery.specs.Lent.{Left}
 use Rattle.recovery.specs.Numbers.{isRefused}
@@ -21,7 +20,7 @@ use Rattle.recovery.proofs.LogFates.{undecided-known}
 use Rattle.inspection.specs.Lawful.{token}
 use Rattle.calls.specs.Calls.{write, read}
 use Rattle.promises.specs.Runs.{Box, on, off, Event, calls, moves, callOn, answerTo, after, runs, movedIn, AllAllowed}
-use Rattle.promises.specs.Model.{Version, Object, Model, Reply, refuses, withObject, askedAt, askedTo, movedPages, lowestPending, modelMoved, modelMove, newest, since, latest, shows, hasCarried, readVersion, readHistory, reading, modelCall, currentEnd}
+use Rattle.promises.specs.Model.{Version, Object, Model, Reply, refuses, withObject, askedAt, askedTo, movedPages, lowestPending, modelMoved, modelMove, newest, since, latest, shows, hasCarried, readVersion, readHistory, reading, modelCall, currentEnd, isSize}
 use Rattle.promises.specs.FromLog.{versionIn}
 use Rattle.promises.proofs.logs.Logs.{Lawful, not-unknown, fate-zero}
 use Rattle.promises.proofs.logs.Chains.{token-live}
@@ -130,7 +129,7 @@ asked-high floor objects (suc k) f i = go (eqb f (suc k)) refl (asked-high floor
 
 move-floor : (m : Model) (fresh : List ℕ) (floor : ℕ) → modelMove m fresh .0 ≡ Moved floor → askedTo (m .floor) (m .object) (m .files) ≡ floor
 move-floor m fresh floor =
-    by-test (λ (r : Reply). r .0 ≡ Moved floor → askedTo (m .floor) (m .object) (m .files) ≡ floor) (eqb (length fresh % pageSize) 0 && isSheet (length fresh / pageSize)) {y = refuses 1 0 m}
+    by-test (λ (r : Reply). r .0 ≡ Moved floor → askedTo (m .floor) (m .object) (m .files) ≡ floor) (eqb (length fresh % pageSize) 0 && isSize (length fresh / pageSize)) {y = refuses 1 0 m}
     (λ a. by-test (λ (r : Reply). r .0 ≡ Moved floor → askedTo (m .floor) (m .object) (m .files) ≡ floor) (eqb (lowestPending m) 0) {y = refuses 23 (lowestPending m) m}
     (λ b. by-test (λ (r : Reply). r .0 ≡ Moved floor → askedTo (m .floor) (m .object) (m .files) ≡ floor) (leb (movedPages m) (length fresh / pageSize)) {y = refuses 11 0 m}
     (λ c. by-test (λ (r : Reply). r .0 ≡ Moved floor → askedTo (m .floor) (m .object) (m .files) ≡ floor) (zeros fresh)
