@@ -23,7 +23,7 @@ use Rattle.calls.specs.Calls.{Call, read, call}
 use Rattle.calls.specs.Leaves.{callLeaves}
 use Rattle.moving.specs.Moved.{warmRows, movePages, moved}
 use Rattle.moving.specs.MoveLeaves.{MoveLeft, moveLeaves}
-use Rattle.moving.specs.Promised.{FromStart, Alike}
+use Rattle.moving.specs.Promised.{FromStart, SameReads}
 use Rattle.moving.proofs.FreshOpened.{length-cold}
 use Rattle.moving.proofs.ReadAlike.{read-alike, fresh-opens}
 use Rattle.moving.proofs.DecodedBytes.{decoded-lent}
@@ -122,9 +122,9 @@ module _ (s fates rows : List ℕ) (state : State) (fresh : List ℕ) (floor : �
           ∙ ap (λ (u : World). call u (read n time 0) .0) fresh-lent
 
       pub bytes-alike : FromStart v n time → isRefused (callLeaves s fates (x .left .rows) state (read n time 0) .answer) ≡ false
-          → Alike v (lent (x .fresh) (o .fates) (o .rows) (o .state)) (callLeaves s fates (x .left .rows) state (read n time 0) .answer)
+          → SameReads v (lent (x .fresh) (o .fates) (o .rows) (o .state)) (callLeaves s fates (x .left .rows) state (read n time 0) .answer)
           (callLeaves (x .fresh) (o .fates) (o .rows) (o .state) (read n time 0) .answer)
       bytes-alike late a =
           let r = read-alike w v old pages floor (decoded-lent s fates rows state) made fs (rowsOf rs) t n time (hf ∙ sym (places s fates rows state fresh floor e)) as-many (rw (rows-long rows) hn) late
           (rw old-answer at a) in
-          rw (fresh-lent, old-answer, fresh-answer) (subst (λ (u : World). Alike v u (call v (read n time 0) .0) (call u (read n time 0) .0)) opened-is r)
+          rw (fresh-lent, old-answer, fresh-answer) (subst (λ (u : World). SameReads v u (call v (read n time 0) .0) (call u (read n time 0) .0)) opened-is r)

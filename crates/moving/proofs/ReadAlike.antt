@@ -26,7 +26,7 @@ use Rattle.inspection.proofs.LowestUnlawful.{lowest-none}
 use Rattle.calls.specs.Calls.{read, call, imageOf, isCarriedAt, onToken, onVersions}
 use Rattle.calls.proofs.LinkByLink.{reached}
 use Rattle.moving.specs.Moved.{versionOf, carried, versionsTo, movePages, moved}
-use Rattle.moving.specs.Promised.{Decoded, Alike, none-both, value-both, FromStart}
+use Rattle.moving.specs.Promised.{Decoded, SameReads, none-both, value-both, FromStart}
 use Rattle.moving.proofs.FreshLog.{moveLog, countTo, Carries, move-lawful}
 use Rattle.moving.proofs.FreshOpened.{AllBlank, freshSheet, pagesTo, above, fresh-end, fresh-log, fresh-opened, fresh-page, fresh-read, fresh-none}
 use Rattle.moving.proofs.Went.{Went, went}
@@ -220,10 +220,10 @@ module _ (w v : World) (fresh f : List Entry) (floor : ℕ) (d : Decoded w) (e :
     N = started (freshSheet v files rest) (pagesTo v files) files t
 
     pub read-alike : FromStart v n time → isRefused (call v (read n time 0) .0) ≡ false
-        → Alike v (opened f fs rs t .1) (call v (read n time 0) .0) (call (opened f fs rs t .1) (read n time 0) .0)
+        → SameReads v (opened f fs rs t .1) (call v (read n time 0) .0) (call (opened f fs rs t .1) (read n time 0) .0)
     read-alike late a = rw (opens fs rs t hf hr) (go (versionOf v n) refl)
       where
-        go : (z : Option Image) → versionOf v n ≡ z → Alike v N (call v (read n time 0) .0) (call N (read n time 0) .0)
+        go : (z : Option Image) → versionOf v n ≡ z → SameReads v N (call v (read n time 0) .0) (call N (read n time 0) .0)
         go none q =
             let x : call v (read n time 0) .0 ≡ Nothing = old-read n time low high late a ∙ rw q in
             let y : call N (read n time 0) .0 ≡ Nothing = fresh-none v files rest rest-blank carries t n low high time fits q in
