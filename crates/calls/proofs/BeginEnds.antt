@@ -1,6 +1,6 @@
 -- The ways begin and test end. Assumes nothing.
 use Prim.Native.Nat.{ℕ, suc, _+_, _-_, _*_, _/_, _≤_}
-use mathlib.Core.Path.{_≡_, refl, sym, _∙_}
+use mathlib.Core.Path.{_≡_, refl, sym, ap, _∙_}
 use mathlib.Core.Bool.{true, false, cond}
 use mathlib.Core.List.{List}
 use native.Mathlib.Omega.{arith}
@@ -42,7 +42,12 @@ module _ (s fs rs : List ℕ) (st : State) (fit : lineOne (length s) (length fs)
       let k = fate-some fs (st .end) a x h z in
       ends-same s fs rs st (test a) fit (Told x p) (rw (k .acts-is, k .number, e))
 
-  module _ (n : ℕ) (line-is : n ≡ roomLine s (st .end) (length rs / rowLength) (st .undecided + 2)) where
+  module _ (n : ℕ) (line : n ≡ roomLine s (st .end) (length rs / rowLength) (st .undecided + 1 + 1)) where
+    line-is : n ≡ roomLine s (st .end) (length rs / rowLength) (st .undecided + 2)
+    line-is =
+        let e : st .undecided + 1 + 1 ≡ st .undecided + 2 = omega arith in
+        line ∙ ap (roomLine s (st .end) (length rs / rowLength)) e
+
     on-begin : on w begin ≡ cond (eqb n 0) (Stored (suc (st .end)), append w (opening false) (put fs (suc (st .end)) 1) (rowsOf rs) (suc (st .undecided))) (refuse n 0 w)
     on-begin =
         rw line-is

@@ -20,7 +20,6 @@ pub mod LinkByLink
 pub mod FewLinks
 pub mod ReadWalks
 pub mod ReadWarming
-pub mod ReadEnds
 pub mod WritePads
 pub mod WriteAnswers
 pub mod WriteEnds

@@ -3,8 +3,8 @@ use Prim.Native.Nat.{ℕ}
 use mathlib.Core.List.{List}
 use mathlib.Core.Bool.{true, false}
 use Rattle.calls.specs.Calls as calls
-use Rattle.calls.specs.declared.making.Call as call
-use Rattle.calls.specs.declared.making.Call.{Call}
+use Rattle.calls.specs.declared.asking.Call as call
+use Rattle.calls.specs.declared.asking.Call.{Call}
 
 abbrev pub asked : Call → List ℕ → calls.Call
 asked call.Call.Begin v = calls.begin

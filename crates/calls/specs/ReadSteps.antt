@@ -8,20 +8,19 @@ use lib.Dec.{eqb, ltb}
 use Rattle.page.specs.declared.Page.{Page}
 use Rattle.page.specs.declared.Sought as sought
 use Rattle.page.specs.declared.Sought.{Sought}
-use Rattle.recovery.specs.Places.{nth, put}
+use Rattle.recovery.specs.Places.{nth}
 use Rattle.recovery.specs.Log.{Image, blank}
 use Rattle.recovery.specs.Sheet.{pageBytes, imageFrom}
 use Rattle.recovery.specs.declared.Row.{Row}
 use Rattle.recovery.specs.declared.State.{State}
 use Rattle.recovery.specs.declared.Answer.{Answer}
 use Rattle.recovery.specs.declared.Answer.the-variants.{Refused, Stored, Nothing}
-use Rattle.recovery.specs.World.{World, isCarried, withRow}
+use Rattle.recovery.specs.World.{isCarried}
 use Rattle.recovery.specs.Lent.{pagesOf}
 use Rattle.recovery.specs.Steps.{sealedImage, rowHoldsIn}
-use Rattle.calls.specs.declared.reading.Reading.{Reading}
 use Rattle.calls.specs.LineSteps.{actionLine, roomLine}
 use Rattle.calls.specs.Walk.{Walk, met, nothing, early, lost, imagesBelow, follow}
-use Rattle.calls.specs.Calls.{imageOf, isFreeFor, versionAnswer, onVersions, onRead}
+use Rattle.calls.specs.Calls.{imageOf, isFreeFor, versionAnswer}
 
 -- lines 5 and 6 of read, which passes over them for action 0
 unfoldable pub readLine : List ℕ → ℕ → ℕ → ℕ
@@ -50,18 +49,6 @@ carriedIn files s a = isCarried (nth blank (pagesOf s files) a)
 unfoldable pub walkAt : ℕ → List ℕ → ℕ → ℕ → Bool → ℕ → Page → Answer
 walkAt files s file time b place x =
     walkAnswer (follow (carriedIn files s) time b (record { place = place; image = imageFrom (pageBytes s place) x }) (imagesBelow (pagesOf s files) place file))
-
--- a read of a warm row: its answer and the row that it leaves, in any world whose row it is
-abbrev pub world : ℕ → List ℕ → ℕ → List ℕ → List Row → ℕ → ℕ → World
-world files s end fates rows floor n = record { sheet = pagesOf s files; fates = fates; rows = rows; end = end; floor = floor; undecided = n }
-
-pub record Versions (files : ℕ) (s : List ℕ) (file time : ℕ) (r : Row) (x : Reading) : Type 0 where
-  pub is : (end : ℕ) (fates : List ℕ) (rows : List Row) (floor n : ℕ) → put rows file r ≡ rows
-      → onVersions (world files s end fates rows floor n) file time r ≡ (x .answer, withRow (world files s end fates rows floor n) file (x .row))
-
-pub record Reads (files : ℕ) (s : List ℕ) (end file time action : ℕ) (r : Row) (x : Reading) : Type 0 where
-  pub is : (fates : List ℕ) (rows : List Row) (floor n : ℕ) → put rows file r ≡ rows
-      → onRead (world files s end fates rows floor n) file time action r ≡ (x .answer, withRow (world files s end fates rows floor n) file (x .row))
 
 -- lines 10 to 12 of write, and 7 to 12: what is answered on a warm row
 unfoldable pub storeAnswer : List ℕ → ℕ → State → ℕ → Row → Answer

@@ -1,20 +1,13 @@
-// The calls on an open sheet: begin, write, read, test, commit and abort. Each takes the sheet, fates, rows and state as the last
-// call left them, trusts none of it, and answers with the state that the next one gets (docs/STORE.md, The calls).
+// What the calls on an open sheet have in common: a call as a value, the lines of the refusals that several test, and the append.
+// What each call answers and leaves is in specs/. The calls take the sheet, fates, rows and state as the last call left them, trust
+// none of it, and answer with the state that the next one gets (docs/STORE.md, The calls). Their code is in the crates above:
+// `writing` (begin and write), `reading` (read), `deciding` (commit, abort and test) and `making` (any of them).
 mod appending;
-mod beginning;
-mod deciding;
-mod making;
-mod reading;
+mod asking;
 mod refusing;
-mod testing;
-mod writing;
 
 pub use appending::append;
-pub use beginning::begin;
-pub use deciding::abort;
-pub use deciding::commit;
-pub use making::Call;
-pub use making::make;
-pub use reading::read;
-pub use testing::test;
-pub use writing::write;
+pub use asking::Call;
+pub use refusing::action_line;
+pub use refusing::known_fate;
+pub use refusing::room_line;

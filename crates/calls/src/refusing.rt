@@ -4,13 +4,11 @@ use page::Page;
 use recovery::fate_at;
 use recovery::is_blank_at;
 ghost use mathlib.Core.Path.{_≡_};
-ghost use Prim.Native.Nat.{_/_, _≤_};
-ghost use lib.ListN.{length};
-ghost use Rattle.page.specs.Layout.{pageSize};
+ghost use Prim.Native.Nat.{_+_};
 ghost use Rattle.calls.specs.LineSteps.{knownFate, actionLine, roomLine};
 
 // An action's fate, 0 where line 5 refuses.
-pub(crate) fn known_fate(fates: &[u8], end: u64, action: u64) -> u64
+pub fn known_fate(fates: &[u8], end: u64, action: u64) -> u64
     ensures { λ r. ⌜ r ≡ knownFate (now (fates .entry)) end action ⌝ }
 {
     let fate = fate_at(fates, action);
@@ -24,7 +22,7 @@ pub(crate) fn known_fate(fates: &[u8], end: u64, action: u64) -> u64
 }
 
 // Lines 5 and 6.
-pub(crate) fn action_line(fates: &[u8], end: u64, action: u64) -> u64
+pub fn action_line(fates: &[u8], end: u64, action: u64) -> u64
     ensures { λ r. ⌜ r ≡ actionLine (now (fates .entry)) end action ⌝ }
 {
     let fate = known_fate(fates, end, action);
@@ -37,13 +35,15 @@ pub(crate) fn action_line(fates: &[u8], end: u64, action: u64) -> u64
     0
 }
 
-// Lines 11 and 12, for a call that needs so many pages above the end.
-pub(crate) fn room_line(sheet: &[u8], end: u64, files: u64, needed: u64) -> u64
-    requires { ⌜ end ≤ length (now sheet) / pageSize ⌝ }
-    ensures { λ r. ⌜ r ≡ roomLine (now (sheet .entry)) end files needed ⌝ }
+// Lines 11 and 12, for a call that stores one page above the end and leaves so many more for outcomes.
+pub fn room_line(sheet: &[u8], end: u64, files: u64, reserve: u64) -> u64
+    ensures { λ r. ⌜ r ≡ roomLine (now (sheet .entry)) end files (reserve + 1) ⌝ }
 {
     let pages = (sheet.len() / Page::SIZE) as u64;
-    if pages - end < needed {
+    if pages <= end {
+        return 11;
+    }
+    if pages - end <= reserve {
         return 11;
     }
     if !is_blank_at(sheet, end + 1, files) {

@@ -9,7 +9,7 @@ use lib.ListN.{length, drop, getD}
 use borrow.Author.Tests.{ltb-true}
 use Rattle.encoding.specs.Bytes.{same}
 use Rattle.encoding.proofs.Logic.{and-true, by-test}
-use Rattle.calls.specs.declared.making.Call.the-variants.{Begin, Write, Read, Test, Commit, Abort}
+use Rattle.calls.specs.declared.asking.Call.the-variants.{Begin, Write, Read, Test, Commit, Abort}
 use Rattle.commands.specs.declared.parsing.Command.{Command}
 use Rattle.commands.specs.declared.parsing.Command.the-variants.{What, BareOpen, Open, Cut, Call}
 use Rattle.commands.specs.declared.parsing.Number.{Number}

@@ -5,7 +5,7 @@ use mathlib.Core.List.{List, [], _∷_, _++_, map}
 use lib.ListN.{replicate}
 use Rattle.commands.specs.declared.parsing.Command.{Command}
 use Rattle.commands.specs.declared.parsing.Command.the-variants.{What, BareOpen, Open, Cut, Call}
-use Rattle.calls.specs.declared.making.Call.the-variants.{Begin, Write, Read, Test}
+use Rattle.calls.specs.declared.asking.Call.the-variants.{Begin, Write, Read, Test}
 use Rattle.commands.specs.declared.printing.Reply as reply
 use Rattle.commands.specs.Names.{openName, beginName, writeName, readName, testName, commitName, abortName, cutName, noName}
 use Rattle.commands.specs.Commands.{words, numberOf, three, isText, alone, withOne, withTwo, withThree, withText, commandOf, parsed}

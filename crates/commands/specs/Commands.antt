@@ -6,7 +6,7 @@ use lib.ListN.{length}
 use lib.Dec.{eqb, ltb, leb}
 use Rattle.page.specs.Layout.{pageSize}
 use Rattle.encoding.specs.Bytes.{same}
-use Rattle.calls.specs.declared.making.Call.the-variants.{Begin, Write, Read, Test, Commit, Abort}
+use Rattle.calls.specs.declared.asking.Call.the-variants.{Begin, Write, Read, Test, Commit, Abort}
 use Rattle.commands.specs.declared.parsing.Command.{Command}
 use Rattle.commands.specs.declared.parsing.Command.the-variants.{What, BareOpen, Open, Cut, Call}
 use Rattle.commands.specs.declared.parsing.Number.{Number}

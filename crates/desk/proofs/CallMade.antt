@@ -18,7 +18,7 @@ use Rattle.recovery.specs.declared.Done.{Done}
 use Rattle.recovery.specs.Sheet.{pageBytes}
 use Rattle.recovery.specs.Lent.{Left, leftBy}
 use Rattle.recovery.specs.Steps.{hasPlace, partAt}
-use Rattle.calls.specs.declared.making.Call.{Call}
+use Rattle.calls.specs.declared.asking.Call.{Call}
 use Rattle.calls.specs.Asked.{asked}
 use Rattle.calls.specs.Leaves.{withPage, callLeaves}
 use Rattle.calls.proofs.OnePage.{SameBut, only-one-page, room-above}

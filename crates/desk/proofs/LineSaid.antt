@@ -16,7 +16,7 @@ use Rattle.recovery.specs.World.{isFile}
 use Rattle.recovery.specs.Lent.{leftBy, rowLength, closed, openLeaves}
 use Rattle.recovery.specs.Numbers.{numbersOf, isRefused}
 use Rattle.recovery.proofs.Lookups.{is-file}
-use Rattle.calls.specs.declared.making.Call.{Call}
+use Rattle.calls.specs.declared.asking.Call.{Call}
 use Rattle.commands.specs.declared.parsing.Command as command
 use Rattle.commands.specs.declared.parsing.Command.{Command}
 use Rattle.commands.specs.declared.printing.Reply as reply

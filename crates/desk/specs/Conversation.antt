@@ -9,7 +9,7 @@ use Rattle.recovery.specs.declared.State.{State}
 use Rattle.recovery.specs.Numbers.{numbersOf, isRefused}
 use Rattle.recovery.specs.World.{isFile}
 use Rattle.recovery.specs.Lent.{Left, rowLength, highestStartOf, closed, openLeaves}
-use Rattle.calls.specs.declared.making.Call.{Call}
+use Rattle.calls.specs.declared.asking.Call.{Call}
 use Rattle.calls.specs.Asked.{asked}
 use Rattle.calls.specs.Leaves.{callLeaves}
 use Rattle.calls.specs.Cuts.{storedOf, firstBytes}

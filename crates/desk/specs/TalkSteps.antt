@@ -5,7 +5,7 @@ use mathlib.Core.Bool.{true, false}
 use Rattle.recovery.specs.declared.Done.{Done}
 use Rattle.recovery.specs.Lent.{closed}
 use Rattle.recovery.specs.Numbers.{numbersOf}
-use Rattle.calls.specs.declared.making.Call.{Call}
+use Rattle.calls.specs.declared.asking.Call.{Call}
 use Rattle.commands.specs.declared.printing.Reply as reply
 use Rattle.desk.specs.declared.talking.Desk.{Desk}
 use Rattle.desk.specs.declared.talking.Turn.{Turn}

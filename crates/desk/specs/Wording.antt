@@ -6,8 +6,8 @@ use lib.ListN.{take, getD}
 use lib.Dec.{eqb}
 use Rattle.page.specs.Answers.{valueIn}
 use Rattle.recovery.specs.Sheet.{pageBytes}
-use Rattle.calls.specs.declared.making.Call as call
-use Rattle.calls.specs.declared.making.Call.{Call}
+use Rattle.calls.specs.declared.asking.Call as call
+use Rattle.calls.specs.declared.asking.Call.{Call}
 use Rattle.commands.specs.declared.printing.Reply.{Reply}
 use Rattle.commands.specs.declared.printing.Reply.the-variants.{What, Closed, Lost, Cut, Opened, Begun, Written, Shown, Nothing, Told, Committed, Aborted, No}
 

@@ -8,8 +8,8 @@ use Rattle.recovery.specs.declared.Answer.{Answer}
 use Rattle.recovery.specs.declared.State.{State}
 use Rattle.recovery.specs.Lent.{Left, refused}
 use Rattle.recovery.specs.Numbers.{answerLength, numbersOf}
-use Rattle.calls.specs.declared.making.Call.{Call}
-use Rattle.calls.specs.declared.making.Call.the-variants.{Begin, Write, Read, Test, Commit, Abort}
+use Rattle.calls.specs.declared.asking.Call.{Call}
+use Rattle.calls.specs.declared.asking.Call.the-variants.{Begin, Write, Read, Test, Commit, Abort}
 use Rattle.calls.specs.Asked.{asked}
 use Rattle.calls.specs.Leaves.{callLeaves}
 use Rattle.moving.specs.MoveLeaves.{MoveLeft}

@@ -1,7 +1,7 @@
 // The door of the tests and timings outside Rattle: a call, an opening, a rebuild or a move as numbers, and the highest start. What it
 // answers is given as numbers, the answer's and then the state's, in a lent run; with a run of another length nothing is done.
 use calls::Call;
-use calls::make;
+use making::make;
 use recovery::ANSWER_LENGTH;
 use recovery::Done;
 use recovery::State;

@@ -9,7 +9,7 @@ use Rattle.commands.specs.Names.{openName, beginName, writeName, readName, test
 use Rattle.commands.specs.Commands.{words, numberOf, three, isText, alone, withOne, withTwo, withThree, withText, commandOf, parsed}
 use Rattle.promises.specs.Runs.{Run}
 use Rattle.program.specs.Program.{Memory, memoryOf, runOf, AllLines, AllKeep, turned, memoryAfter}
-use Rattle.calls.specs.declared.making.Call as code
+use Rattle.calls.specs.declared.asking.Call as code
 use Rattle.commands.specs.declared.parsing.Command as command
 use Rattle.commands.specs.declared.printing.Reply as reply
 use Rattle.commands.specs.declared.printing.Reply.{Reply}

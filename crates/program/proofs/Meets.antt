@@ -20,7 +20,7 @@ use Rattle.recovery.proofs.OpeningLaws.{open-refused}
 use Rattle.recovery.proofs.OpeningRuns.{cold-flat}
 use Rattle.recovery.proofs.Lookups.{is-file}
 use Rattle.recovery.proofs.Leaves.{rows-back}
-use Rattle.calls.specs.declared.making.Call as code
+use Rattle.calls.specs.declared.asking.Call as code
 use Rattle.calls.specs.Calls.{Call}
 use Rattle.calls.specs.Asked.{asked}
 use Rattle.calls.specs.Leaves.{callLeaves}

@@ -18,7 +18,7 @@ use Rattle.recovery.specs.World.{sizes, isFile}
 use Rattle.recovery.specs.Lent.{Left, rowLength, openLeaves}
 use Rattle.recovery.proofs.HighestStart.{none-later}
 use Rattle.recovery.proofs.Refused.{opened-floor}
-use Rattle.calls.specs.declared.making.Call as code
+use Rattle.calls.specs.declared.asking.Call as code
 use Rattle.calls.specs.Calls.{Call, begin, write, read, test, decide, rebuild}
 use Rattle.calls.specs.Asked.{asked}
 use Rattle.calls.specs.Leaves.{callLeaves}

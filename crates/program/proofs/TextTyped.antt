@@ -15,7 +15,7 @@ use Rattle.recovery.specs.Lent.{rowLength}
 use Rattle.recovery.specs.Numbers.{numbersOf}
 use Rattle.recovery.specs.declared.Answer as answers
 use Rattle.recovery.specs.declared.Answer.{Answer}
-use Rattle.calls.specs.declared.making.Call as code
+use Rattle.calls.specs.declared.asking.Call as code
 use Rattle.calls.specs.Asked.{asked}
 use Rattle.calls.specs.Calls as call
 use Rattle.calls.specs.Calls.{Call}

@@ -3,7 +3,7 @@ use Prim.Native.Nat.{ℕ}
 use mathlib.Core.Path.{_≡_}
 use mathlib.Core.List.{List, _∷_, _++_}
 use lib.ListN.{drop}
-use Rattle.calls.specs.declared.making.Call as call
+use Rattle.calls.specs.declared.asking.Call as call
 use Rattle.commands.specs.declared.parsing.Command as command
 use Rattle.commands.specs.declared.printing.Reply as reply
 use Rattle.commands.specs.Commands.{parsed}
