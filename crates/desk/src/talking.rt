@@ -75,7 +75,7 @@ fn open_desk(
 ) -> Turn
     ensures { λ r. ⌜ leftAfter r (now (sheet .entry)) (now (fates .exit)) (now (rows .exit)) ≡ openedFor desk (now (sheet .entry)) (now (fates .entry)) (now (rows .entry)) files floor ⌝ }
 {
-    let done = recovery::open(sheet, fates, rows, floor);
+    let done = opening::open(sheet, fates, rows, floor);
     let answer = done.answer;
     let state = done.state;
     let numbers = numbers_of(answer);

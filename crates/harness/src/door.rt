@@ -131,7 +131,7 @@ pub extern "C" fn door_open(
     if out.len() != NUMBERS {
         return;
     }
-    let done = recovery::open(sheet, fates, rows, floor);
+    let done = opening::open(sheet, fates, rows, floor);
     tell(out, done);
 }
 
@@ -153,7 +153,7 @@ pub extern "C" fn door_rebuild(
         return;
     }
     let state = state_with(end, floor, undecided);
-    let done = recovery::rebuild(sheet, fates, rows, state, file);
+    let done = rebuilding::rebuild(sheet, fates, rows, state, file);
     tell(out, done);
 }
 

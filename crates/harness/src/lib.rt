@@ -107,7 +107,7 @@ pub extern "C" fn bench_pack(sheet: &mut [u8], files: u64, size: u64, value: &[u
 pub extern "C" fn bench_walk(sheet: &[u8], fates: &[u8], files: u64, file: u64, end: u64) -> u64
     ensures { λ r. ⌜ r ≡ rowFromPages (now (sheet .entry)) (now (fates .entry)) files file end .current ⌝ }
 {
-    let row = recovery::rebuilt_row(sheet, fates, end, files, file);
+    let row = rebuilding::rebuilt_row(sheet, fates, end, files, file);
     row.current
 }
 

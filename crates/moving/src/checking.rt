@@ -1,12 +1,12 @@
 // What the move looks for before it stores a page.
 use page::Page;
+use rebuilding::row_holds_in;
 use recovery::Row;
 use recovery::State;
 use recovery::fate_at;
 use recovery::is_blank_at;
 use recovery::is_lent_right;
 use recovery::later;
-use recovery::row_holds_in;
 use recovery::row_of;
 ghost use mathlib.Core.Bool.{cond, not};
 ghost use mathlib.Core.Path.{_≡_};

@@ -1,7 +1,7 @@
 // Every cold row rebuilt.
+use rebuilding::warm_row;
 use recovery::State;
 use recovery::file_count;
-use recovery::warm_row;
 ghost use mathlib.Core.Bool.{true};
 ghost use mathlib.Core.Path.{_≡_};
 ghost use lib.ListN.{length};

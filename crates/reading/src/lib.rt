@@ -2,6 +2,8 @@
 use calls::action_line;
 use page::Page;
 use page::Sought;
+use rebuilding::row_holds_by;
+use rebuilding::warm_row;
 use recovery::Answer;
 use recovery::Done;
 use recovery::Row;
@@ -13,9 +15,7 @@ use recovery::is_carried_at;
 use recovery::is_lent_right;
 use recovery::raised_row;
 use recovery::refuse;
-use recovery::row_holds_by;
 use recovery::set_row;
-use recovery::warm_row;
 ghost use mathlib.Core.Bool.{true, false};
 ghost use mathlib.Core.Path.{_≡_};
 ghost use Prim.Native.Nat.{_/_};

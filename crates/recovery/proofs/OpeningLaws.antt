@@ -17,7 +17,7 @@ use Rattle.recovery.specs.Lent.{rowLength, rowsOf, flat, pagesOf, whole,
 use Rattle.recovery.specs.OpenSteps.{Scanned, unfinishedIn, refusedOpening}
 use Rattle.recovery.specs.declared.Answer.the-variants.{Opened}
 use Rattle.recovery.specs.declared.Done.{Done}
-use Rattle.recovery.specs.declared.opening.Scan.{Scan}
+use Rattle.recovery.specs.declared.Scan.{Scan}
 use Rattle.recovery.proofs.Places.{nth-tabulate}
 use Rattle.recovery.proofs.LogFates.{undecided-test}
 use Rattle.recovery.proofs.Pages.{pages-long, page-at-place, carried-sealed}

@@ -14,7 +14,7 @@ use Rattle.recovery.specs.Log.{Entry, blank, torn, bad, opening, image, 
 use Rattle.recovery.specs.Sheet.{pageBytes, imageFrom, isOpening, decoded, pages}
 use Rattle.recovery.specs.World.{down, endOf, isBlank, isBad, fateNumber, fatesOf}
 use Rattle.recovery.specs.OpenSteps.{good, worse, stepped, Scanned}
-use Rattle.recovery.specs.declared.opening.Scan.{Scan}
+use Rattle.recovery.specs.declared.Scan.{Scan}
 use Rattle.recovery.proofs.Places.{tabulate-cong}
 use Rattle.recovery.proofs.OpeningEnds.{Ends, ends-none, ends-blank, ends-worse, ends-good, fate-end}
 use Rattle.recovery.proofs.OpeningFates.{bounded-at, fate-none, page-is, fates-up, get-fate, keep-opening, keep-outcome, fates-zero}

@@ -12,7 +12,7 @@ use Rattle.page.specs.declared.Page.{Page}
 use Rattle.page.specs.declared.Unpacked.{Unpacked}
 use Rattle.page.specs.declared.Unpacked.the-variants.{Refused, Blank, Torn, Opening, Image, Outcome, Unfit}
 use Rattle.recovery.specs.OpenSteps.{Bounded, good, worse, stepped}
-use Rattle.recovery.specs.declared.opening.Scan.{Scan}
+use Rattle.recovery.specs.declared.Scan.{Scan}
 
 pub bounded-as : (place : ℕ) (u v : Unpacked) → u ≡ v → Bounded place u → Bounded place v
 bounded-as place u v e t = subst (Bounded place) e t

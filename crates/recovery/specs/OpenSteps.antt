@@ -13,7 +13,7 @@ use Rattle.recovery.specs.World.{down, endOf, highestBad, fatesOf, isCar
 use Rattle.recovery.specs.Lent.{closed}
 use Rattle.recovery.specs.declared.Answer as answers
 use Rattle.recovery.specs.declared.Done.{Done}
-use Rattle.recovery.specs.declared.opening.Scan.{Scan}
+use Rattle.recovery.specs.declared.Scan.{Scan}
 
 -- what the page test tells of the action and the verdict of a page at a place
 abbrev pub Bounded : ℕ → Unpacked → Type 0

@@ -1,13 +1,13 @@
-// Recovery: what a sheet says, read off its pages alone. Open finds the end, the bad pages and the fates,
-// rebuild a file's row (docs/STORE.md, The calls); a bare `open` asks for the highest start.
+// Recovery: what a sheet says, read off its pages alone (docs/STORE.md, The calls). Here are the definitions, the rows, and the look-ups;
+// a bare `open` asks for the highest start. Open, which finds the end, the bad pages and the fates, is the crate `opening`, and rebuild,
+// which finds a file's row, the crate `rebuilding`.
 mod lookup;
 mod numbering;
-mod opening;
-mod rebuilding;
 mod rolling;
 mod rows;
 mod starts;
 
+pub use lookup::counted_fate;
 pub use lookup::fate_at;
 pub use lookup::image_at;
 pub use lookup::is_blank_at;
@@ -18,13 +18,7 @@ pub use lookup::page_at;
 pub use lookup::part_at;
 pub use lookup::seek_at;
 pub use numbering::numbers_of;
-pub use opening::open;
 use page::Page;
-pub use rebuilding::rebuild;
-pub use rebuilding::rebuilt_row;
-pub use rebuilding::row_holds_by;
-pub use rebuilding::row_holds_in;
-pub use rebuilding::warm_row;
 pub use rolling::later;
 pub use rolling::raised_row;
 pub use rows::file_count;
@@ -74,6 +68,12 @@ pub struct Done {
     pub state: State,
 }
 
+// What the pass of open has found so far: the end, and the highest bad place up to it, 0 if there is none.
+pub struct Scan {
+    pub end: u64,
+    pub bad: u64,
+}
+
 // How many numbers of the lent run a row has.
 pub const ROW_LENGTH: usize = 6;
 
@@ -84,7 +84,7 @@ pub const ANSWER_LENGTH: usize = ROW_LENGTH;
 pub const FEW_PAGES: usize = 1024;
 
 // Line 1, by the lengths of sheet, fates and rows.
-pub(crate) fn is_sized(size: usize, fates: usize, numbers: usize) -> bool
+pub fn is_sized(size: usize, fates: usize, numbers: usize) -> bool
     ensures { λ r. ⌜ r ≡ sizesRight size fates numbers ⌝ }
 {
     let pages = size / Page::SIZE;

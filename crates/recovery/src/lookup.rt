@@ -135,7 +135,7 @@ fn is_counted(fate: u64) -> bool
 }
 
 // The fate under which images of an action count; the opening is looked at only where the fate could count.
-pub(crate) fn counted_fate(sheet: &[u8], fates: &[u8], action: u64, files: u64) -> u64
+pub fn counted_fate(sheet: &[u8], fates: &[u8], action: u64, files: u64) -> u64
     ensures { λ r. ⌜ r ≡ countedFate files (now (sheet .entry)) (now (fates .entry)) action ⌝ }
 {
     let fate = fate_at(fates, action);
