@@ -8,3 +8,4 @@ pub mod Folds
 pub mod Halves
 pub mod Shifts
 pub mod Few
+pub mod Concat

@@ -1,0 +1,77 @@
+-- What every edition has, and what follows from the length of a week. Assumes nothing.
+use Prim.Native.Nat.{ℕ, _+_, _*_, _^_, _≤_, _<_}
+use mathlib.Core.Path.{_≡_, refl, ap, subst, sym, _∙_}
+use mathlib.Core.Bool.{Bool, true, false, cond}
+use mathlib.Core.List.{List, [], _∷_}
+use native.Mathlib.Omega.{arith}
+use native.Mathlib.Nat.{mul-le-mul}
+use borrow.Author.Tests.{eqb-true}
+use lib.Dec.{eqb}
+use Rattle.encoding.proofs.Logic.{clash}
+use Rattle.encoding.proofs.Concat.{run-within}
+use Rattle.weeks.specs.declared.Edition.{Edition}
+use Rattle.weeks.specs.declared.Named.the-variants.{Known}
+use Rattle.weeks.specs.Editions.{timesAWeek, first, second, editions, size, namedIn, named, IsEdition}
+
+-- its number is below every refusal's; a time has one byte or two, and the limit fits them; a unit is one minute or 15; the limit is a day's 1,440 minutes
+pub record Sound (e : Edition) : Type 0 where
+  pub low-number : e .number ≤ 14
+  pub some-byte : 0 < e .width
+  pub narrow : e .width ≤ 2
+  pub fits : e .limit < 256 ^ e .width
+  pub some : 0 < e .minutes
+  pub few : e .minutes ≤ 15
+  pub unit : (e .minutes ≡ 1 → ⊥) → e .minutes ≡ 15
+  pub day : e .minutes * e .limit ≡ 1440
+
+abbrev AllSound : List Edition → Type 0
+AllSound [] = Unit {0}
+AllSound (e ∷ es) = Sound e × AllSound es
+
+all-sound : AllSound editions
+all-sound =
+    let one : Sound first =
+    record { low-number = omega arith; some-byte = omega arith; narrow = omega arith; fits = omega arith; some = omega arith; few = omega arith; unit = λ h. refl; day = refl } in
+    let two : Sound second =
+    record { low-number = omega arith; some-byte = omega arith; narrow = omega arith; fits = omega arith; some = omega arith; few = omega arith; unit = λ h. absurd (h refl); day = refl } in
+    (one, (two, tt))
+
+found-in : (es : List Edition) (n : ℕ) (e : Edition) → AllSound es → namedIn es n ≡ Known e → Sound e × (n ≡ size e)
+unfolding namedIn
+found-in [] n e h k = clash cc
+found-in (x ∷ es) n e h k = go (eqb n (size x)) refl k (found-in es n e (h .1))
+  where
+    go : (b : Bool) → eqb n (size x) ≡ b → cond b (Known x) (namedIn es n) ≡ Known e
+        → (namedIn es n ≡ Known e → Sound e × (n ≡ size e)) → Sound e × (n ≡ size e)
+    go true t q later = let same : x ≡ e = cc in (subst Sound same (h .0), subst (λ (y : Edition). n ≡ size y) same (eqb-true n (size x) t))
+    go false t q later = later q
+
+found : (n : ℕ) (e : Edition) → named n ≡ Known e → Sound e × (n ≡ size e)
+unfolding named
+found n e k = found-in editions n e all-sound k
+
+pub sound : {e : Edition} → IsEdition e → Sound e
+sound {e} k = found (size e) e k .0
+
+-- what a length names is an edition, and its weeks have that length
+pub length-named : (n : ℕ) {e : Edition} → named n ≡ Known e → n ≡ size e
+length-named n {e} k = found n e k .1
+
+pub is-edition : (n : ℕ) {e : Edition} → named n ≡ Known e → IsEdition e
+is-edition n k = ap named (sym (length-named n k)) ∙ k
+
+-- time k lies within the week
+pub time-within : (e : Edition) (k : ℕ) → k < timesAWeek → e .width * k + e .width ≤ size e
+unfolding size
+time-within e k l = run-within (e .width) k timesAWeek l
+
+pub time-small : {e : Edition} → IsEdition e → (k : ℕ) → k < timesAWeek → e .width * k + e .width ≤ 28
+unfolding size
+time-small {e} h k l = omega (arith, time-within e k l, sound h .narrow)
+
+-- a time in minutes
+pub minutes-small : {e : Edition} → IsEdition e → (t : ℕ) → t < 65536 → e .minutes * t < 1048576
+minutes-small h t l = let m : t ≤ 65535 = omega arith in omega (arith, mul-le-mul (sound h .few) m)
+
+pub wide : {e : Edition} → IsEdition e → (e .width ≡ 1 → ⊥) → e .width ≡ 2
+wide h l = omega (arith, sound h .some-byte, sound h .narrow)

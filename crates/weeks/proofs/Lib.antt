@@ -1,0 +1,8 @@
+pub mod Editions
+pub mod DayTests
+pub mod TimeParts
+pub mod Written
+pub mod Lines
+pub mod Facts
+pub mod NoSecondOutcome
+pub mod Examples

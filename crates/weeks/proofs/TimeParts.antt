@@ -1,0 +1,90 @@
+-- A time read off a week and put into one: its bytes one by one, and its minutes as another edition's units. Assumes nothing.
+use Prim.Native.Nat.{ℕ, suc, _+_, _*_, _/_, _%_, _≤_, _<_}
+use mathlib.Core.Path.{_≡_, refl, sym, ap, _∙_}
+use mathlib.Core.Bool.{Bool, true, false, not}
+use mathlib.Core.List.{List, [], _∷_, _++_, append-assoc}
+use native.Mathlib.Omega.{arith}
+use native.Mathlib.Nat.{mul-le-mul, mul-mod-right, mul-div-right}
+use native.Mathlib.Numerals.{add-one}
+use borrow.Author.Tests.{eq-eqb, ne-eqb, eqb-true, not-false}
+use lib.Dec.{eqb}
+use lib.ListN.{length, take, drop, getD, set}
+use lib.Seq.{take-suc-set, lt-length-set}
+use Rattle.encoding.specs.Bytes.{number, bytes}
+use Rattle.encoding.proofs.Logic.{bool-ext}
+use Rattle.encoding.proofs.Numbers.{number-first, number-byte}
+use Rattle.weeks.specs.declared.Edition.{Edition}
+use Rattle.weeks.specs.Weeks.{time, minute, uneven, timeIn}
+use Rattle.weeks.proofs.Editions.{Sound}
+
+-- ---- read
+
+pub one-byte : (e : Edition) (s : List ℕ) (k : ℕ) {x : ℕ} → e .width ≡ 1 → x ≡ getD s (e .width * k) 0 → x ≡ time e s k
+unfolding time
+one-byte e s k h r = r ∙ sym (number-byte s (e .width * k)) ∙ ap (λ (n : ℕ). number (take n (drop (e .width * k) s))) (sym h)
+
+pub two-bytes : (e : Edition) (s : List ℕ) (k : ℕ) {x y : ℕ} → e .width ≡ 2 → x ≡ getD s (e .width * k) 0 → y ≡ getD s (e .width * k + 1) 0 → y < 256
+    → x + y * 256 % 18446744073709551616 ≡ time e s k
+unfolding time
+two-bytes e s k {x} {y} h low high small =
+    let at : ℕ = e .width * k in
+    let next : at + 1 ≡ suc at = add-one at in
+    let last : y ≡ number (take 1 (drop (suc at) s)) = high ∙ ap (λ (i : ℕ). getD s i 0) next ∙ sym (number-byte s (suc at)) in
+    let both : x + y * 256 % 18446744073709551616 ≡ number (take 2 (drop at s)) = omega (arith, number-first 1 s at) in
+    both ∙ ap (λ (n : ℕ). number (take n (drop at s))) (sym h)
+
+-- ---- units
+
+-- 978,671 times a multiple of 15 leaves a fifteenth of it by 1,048,576, and no other number leaves one that gives it back
+fifteenth : (m : ℕ) → m < 1048576 → m % 15 ≡ 0 → 15 * (m * 978671 % 1048576) ≡ m
+fifteenth m l h =
+    let q : ℕ = m / 15 in
+    let whole : 15 * q ≡ m = omega arith in
+    let split : m * 978671 ≡ q + 1048576 * (14 * q) = omega arith in
+    let low : (q + 1048576 * (14 * q)) % 1048576 ≡ q = omega arith in
+    ap (λ (x : ℕ). 15 * (x % 1048576)) split ∙ ap (λ (x : ℕ). 15 * x) low ∙ whole
+
+pub units-by-15 : (o : Edition) (m : ℕ) {x : ℕ} → o .minutes ≡ 15 → m < 1048576 → x ≡ m * 978671 % 1048576
+    → (uneven o m ≡ not (eqb (o .minutes * x) m)) × (x < 1048576)
+units-by-15 o m {x} h l q = (ap not (bool-ext _ _ there back), omega arith)
+  where
+    there : eqb (m % o .minutes) 0 ≡ true → eqb (o .minutes * x) m ≡ true
+    there e =
+        let z : m % 15 ≡ 0 = rw h at (eqb-true (m % o .minutes) 0 e) in
+        eq-eqb _ m (rw (h, q) (fifteenth m l z))
+
+    back : eqb (o .minutes * x) m ≡ true → eqb (m % o .minutes) 0 ≡ true
+    back e = eq-eqb _ 0 (ap (λ (y : ℕ). y % o .minutes) (sym (eqb-true _ m e)) ∙ mul-mod-right (o .minutes) x)
+
+pub units-by-1 : (o : Edition) (m : ℕ) → o .minutes ≡ 1 → uneven o m ≡ not (eqb (o .minutes * m) m)
+units-by-1 o m h =
+    let z : m % o .minutes ≡ 0 = rw h (omega arith) in
+    let q : o .minutes * m ≡ m = rw h (omega arith) in
+    rw (eq-eqb (m % o .minutes) 0 z, eq-eqb (o .minutes * m) m q)
+
+-- the number that gives the minutes is their quotient
+pub units-are : (o : Edition) (m x : ℕ) → 0 < o .minutes → uneven o m ≡ not (eqb (o .minutes * x) m) → uneven o m ≡ false → x ≡ m / o .minutes
+units-are o m x some e f =
+    let q : o .minutes * x ≡ m = eqb-true (o .minutes * x) m (not-false (eqb (o .minutes * x) m) (sym e ∙ f)) in
+    sym (ap (λ (y : ℕ). y / o .minutes) (sym q) ∙ mul-div-right x some)
+
+-- ---- written
+
+pub put-one : (w k x : ℕ) (out : List ℕ) → w ≡ 1 → w * k < length out → take (w * k + w) (set out (w * k) (x % 256)) ≡ take (w * k) out ++ bytes w x
+put-one w k x out h l =
+    let next : w * k + w ≡ suc (w * k) = omega arith in
+    let one : bytes w x ≡ x % 256 ∷ [] = rw h refl in
+    rw (next, one) (take-suc-set out (w * k) (x % 256) l)
+
+pub put-two : (w k x : ℕ) (out : List ℕ) → w ≡ 2 → w * k + 1 < length out
+    → take (w * k + w) (set (set out (w * k) (x % 256)) (w * k + 1) (x / 256 % 256)) ≡ take (w * k) out ++ bytes w x
+put-two w k x out h l =
+    let end : w * k + w ≡ suc (w * k + 1) = omega arith in
+    let next : w * k + 1 ≡ suc (w * k) = add-one (w * k) in
+    let both : bytes w x ≡ x % 256 ∷ x / 256 % 256 ∷ [] = rw h refl in
+    let low : take (w * k + 1) (set out (w * k) (x % 256)) ≡ take (w * k) out ++ (x % 256 ∷ []) =
+    rw next (take-suc-set out (w * k) (x % 256) (omega arith)) in
+    rw (end, both)
+    (take-suc-set (set out (w * k) (x % 256)) (w * k + 1) (x / 256 % 256) (lt-length-set out (w * k) (x % 256) l)
+    ∙ ap (λ (t : List ℕ). t ++ (x / 256 % 256 ∷ [])) low
+    ∙ append-assoc (take (w * k) out) (x % 256 ∷ []) (x / 256 % 256 ∷ []))

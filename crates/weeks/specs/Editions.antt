@@ -1,0 +1,50 @@
+-- The editions of the lock heads. An edition is one record: its number, the bytes of a time, the highest time, and the minutes of a
+-- unit of time. A new edition is one more record in the list: everything else is said over the record.
+use Prim.Native.Nat.{ℕ, _*_}
+use mathlib.Core.Path.{_≡_}
+use mathlib.Core.List.{List, [], _∷_}
+use mathlib.Core.Bool.{cond}
+use lib.Dec.{eqb}
+use Rattle.weeks.specs.declared.Edition.{Edition}
+use Rattle.weeks.specs.declared.Named.{Named}
+use Rattle.weeks.specs.declared.Named.the-variants.{Known, Unknown}
+
+-- Monday, day 1, to Sunday
+abbrev pub daysAWeek : ℕ
+daysAWeek = 7
+
+-- an opening and a closing each
+abbrev pub timesAWeek : ℕ
+timesAWeek = 14
+
+-- quarter hours, 0 to 96
+abbrev pub first : Edition
+first = record { number = 1; width = 1; limit = 96; minutes = 15 }
+
+-- minutes, 0 to 1,440, in two bytes
+abbrev pub second : Edition
+second = record { number = 2; width = 2; limit = 1440; minutes = 1 }
+
+abbrev pub editions : List Edition
+editions = first ∷ second ∷ []
+
+-- the bytes of an edition's week
+unfoldable pub size : Edition → ℕ
+size e = e .width * timesAWeek
+
+-- lengths name the editions
+unfoldable pub namedIn : List Edition → ℕ → Named
+namedIn [] n = Unknown
+namedIn (e ∷ es) n = cond (eqb n (size e)) (Known e) (namedIn es n)
+
+unfoldable pub named : ℕ → Named
+named n = namedIn editions n
+
+-- by cases: f of the edition that a length names, d where it names none
+abbrev pub onKnown : {A : Type 0} → Named → (Edition → A) → A → A
+onKnown (Known e) f d = f e
+onKnown Unknown f d = d
+
+-- an edition of the list
+abbrev pub IsEdition : Edition → Type 0
+IsEdition e = named (size e) ≡ Known e
