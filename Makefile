@@ -15,7 +15,7 @@ COMMANDS = 20000000
 PREFIX = /usr/local
 INTO = $(DESTDIR)$(PREFIX)
 
-all: build/sheet build/model build/model-pages build/model-moves
+all: build/sheet build/model build/model-pages build/model-weeks build/model-moves
 	rt check
 	@echo 'target/bin/console: the command program. build/sheet: the tool for sheets.'
 
@@ -37,6 +37,10 @@ build/model-pages: $(wildcard model/*.rs) $(LIBRARY)
 	@mkdir -p build
 	rustc -O --edition 2021 -D warnings -L $(dir $(LIBRARY)) -l static=desk -o $@ model/pages.rs
 
+build/model-weeks: $(wildcard model/*.rs) $(LIBRARY)
+	@mkdir -p build
+	rustc -O --edition 2021 -D warnings -L $(dir $(LIBRARY)) -l static=desk -o $@ model/weeks.rs
+
 build/model-moves: $(wildcard model/*.rs) $(HARNESS)
 	@mkdir -p build
 	rustc -O --edition 2021 -D warnings -L $(dir $(HARNESS)) -l static=harness -o $@ model/moves.rs
@@ -47,9 +51,10 @@ target/bin/console: $(SOURCES)
 test:
 	.ci/run
 
-check-long: build/model build/model-pages build/model-moves target/bin/console
+check-long: build/model build/model-pages build/model-weeks build/model-moves target/bin/console
 	build/model check target/bin/console $(or $(SEED),$(shell date +%s)) $(COMMANDS)
 	build/model-pages $(or $(SEED),$(shell date +%s)) $(shell expr $(COMMANDS) / 4)
+	build/model-weeks $(or $(SEED),$(shell date +%s)) $(COMMANDS)
 	build/model-moves $(or $(SEED),$(shell date +%s)) $(shell expr $(COMMANDS) / 4)
 
 bench:

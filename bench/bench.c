@@ -5,8 +5,10 @@
 #include <stdlib.h>
 #include <time.h>
 #include <unistd.h>
+#include "../c/desk.h"
 #include "../tests/door.h"
 #include "../tests/plain.h"
+#include "../tests/plainweeks.h"
 #include "sqlite.h"
 
 enum { FILES = 256, NEWEST = 254, OLDEST = 255, ABSENT = 256, USED = 28, MOST = 65536, READS = 64 };
@@ -15,8 +17,11 @@ static const uint8_t none[32];
 
 /* How a sheet is filled: actions are an opening, six images and an outcome each, and may have a small one below them, an opening and its
    outcome. Images are all under one opening, and their starts grow with the place, or fall. Tokens are one a file, all of one action or all but
-   the last of another; versions are one a file, of one action. The rows of both are rebuilt. */
-enum fill { BLANK, OPENINGS, IMAGES, FALLING_IMAGES, TORN, ACTIONS, SMALL_ACTION, LINKS, TOKENS, OTHERS_TOKENS, VERSIONS };
+   the last of another; versions are one a file, of one action. The rows of both are rebuilt. Weeks of opening hours, old or new, are one in
+   the place of each page. */
+enum fill {
+    BLANK, OPENINGS, IMAGES, FALLING_IMAGES, TORN, ACTIONS, SMALL_ACTION, LINKS, TOKENS, OTHERS_TOKENS, VERSIONS, OLD_WEEKS, NEW_WEEKS
+};
 
 struct sheet {
     uint8_t *bytes, *fates;
@@ -163,6 +168,31 @@ static uint64_t run_move(struct sheet s) {
     return told[WHICH] == MOVED && told[FIRST] == 1 && fresh[PAGE * end - 1] == 0xA5 && fresh[PAGE * end] == 0;
 }
 
+/* How many weeks pass the test as this edition, and how many are converted. Inlined, so that each function is called by its name. */
+typedef uint64_t week_test(const uint8_t *, size_t);
+typedef uint64_t converter(const uint8_t *, size_t, uint8_t *, size_t);
+static inline __attribute__((always_inline)) uint64_t weeks_passed(struct sheet s, week_test *test, size_t size) {
+    uint64_t right = 0;
+    for (uint64_t p = 0; p < s.pages; p++)
+        right += test(s.bytes + PAGE * p, size) == (size == OLD ? 1 : 2);
+    return right;
+}
+static inline __attribute__((always_inline)) uint64_t weeks_converted(struct sheet s, converter *convert, size_t size) {
+    static uint8_t out[NEW];
+    uint64_t done = 0;
+    for (uint64_t p = 0; p < s.pages; p++)
+        done += convert(s.bytes + PAGE * p, size, out, size == OLD ? NEW : OLD) == 0;
+    return done;
+}
+static uint64_t run_plain_old_test(struct sheet s) { return weeks_passed(s, plain_week_test, OLD); }
+static uint64_t run_plain_new_test(struct sheet s) { return weeks_passed(s, plain_week_test, NEW); }
+static uint64_t run_old_test(struct sheet s) { return weeks_passed(s, desk_week_test, OLD); }
+static uint64_t run_new_test(struct sheet s) { return weeks_passed(s, desk_week_test, NEW); }
+static uint64_t run_plain_to_new(struct sheet s) { return weeks_converted(s, plain_convert, OLD); }
+static uint64_t run_plain_to_old(struct sheet s) { return weeks_converted(s, plain_convert, NEW); }
+static uint64_t run_to_new(struct sheet s) { return weeks_converted(s, desk_convert, OLD); }
+static uint64_t run_to_old(struct sheet s) { return weeks_converted(s, desk_convert, NEW); }
+
 struct row {
     const char *what;
     uint64_t (*run)(struct sheet sheet);
@@ -237,10 +267,24 @@ static void fill_versions(struct sheet s) {
     }
 }
 
+/* Weeks that an old head and a new one can take, each other than the one before. */
+static void fill_weeks(struct sheet s, int is_old) {
+    for (uint64_t p = 0; p < s.pages; p++)
+        for (unsigned k = 0; k < TIMES; k++) {
+            unsigned quarter = (unsigned)(7 * p + 5 * k) % 49 + (k % 2 ? 48 : 0);
+            uint8_t *week = s.bytes + PAGE * p;
+            if (is_old)
+                week[k] = (uint8_t)quarter;
+            else
+                plain_put(week, (int)(2 * k), (int)(2 * k + 2), QUARTER * quarter);
+        }
+}
+
 static struct sheet filled(enum fill fill, uint64_t pages) {
     struct sheet s = {calloc(pages, PAGE), calloc(pages, 1), calloc(ROW_LENGTH * FILES, sizeof *s.numbers), pages};
     if (!s.bytes || !s.fates || !s.numbers)
         exit(1);
+    int is_of_weeks = fill == OLD_WEEKS || fill == NEW_WEEKS;
     int is_of_actions = fill == ACTIONS || fill == SMALL_ACTION, is_of_rows = fill == TOKENS || fill == OTHERS_TOKENS || fill == VERSIONS;
     if (is_of_actions) {
         fill_actions(s, fill == SMALL_ACTION ? 2 : 0);
@@ -250,8 +294,10 @@ static struct sheet filled(enum fill fill, uint64_t pages) {
         fill_versions(s);
     else if (is_of_rows)
         fill_tokens(s, fill == TOKENS ? 1 : 2);
+    if (is_of_weeks)
+        fill_weeks(s, fill == OLD_WEEKS);
     s.fates[0] = fill == LINKS ? 2 : s.fates[0];
-    for (uint64_t p = 1; fill != BLANK && !is_of_actions && !is_of_rows && p <= pages; p++) {
+    for (uint64_t p = 1; fill != BLANK && !is_of_weeks && !is_of_actions && !is_of_rows && p <= pages; p++) {
         uint8_t *page = s.bytes + PAGE * (p - 1);
         if (fill == OPENINGS || p == 1)
             plain_pack(page, 1, 0, 0, p, 0, 0, none, p);
@@ -397,10 +443,25 @@ static void time_sqlite(void) {
     }
 }
 
+/* The unit is a week; each beside the plain loop in C. */
+static void time_weeks(void) {
+#define ROW(what, run, fill) {what, run, fill, -2, 0, 0, {0}, 0}
+    struct row tables[][2] = {
+        {ROW("plain week test in C, old", run_plain_old_test, OLD_WEEKS), ROW("week test, old", run_old_test, OLD_WEEKS)},
+        {ROW("plain week test in C, new", run_plain_new_test, NEW_WEEKS), ROW("week test, new", run_new_test, NEW_WEEKS)},
+        {ROW("plain converter in C, old to new", run_plain_to_new, OLD_WEEKS), ROW("convert, old to new", run_to_new, OLD_WEEKS)},
+        {ROW("plain converter in C, new to old", run_plain_to_old, NEW_WEEKS), ROW("convert, new to old", run_to_old, NEW_WEEKS)},
+    };
+#undef ROW
+    for (size_t i = 0; i < sizeof tables / sizeof *tables; i++)
+        TABLE("1,024 weeks, a week", tables[i], 1024, 200, 8);
+}
+
 int main(void) {
     time_page();
     time_recovery();
     time_calls();
+    time_weeks();
     time_sqlite();
     return 0;
 }

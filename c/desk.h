@@ -1,9 +1,10 @@
-/* The schedule store's three functions for the desk: packing a page, testing a page, inspecting a sheet.
+/* The schedule store's functions for the desk: packing a page, testing a page, inspecting a sheet; and testing a week of opening hours and
+   converting it between the editions of the lock heads.
 
    A sheet is a run of pages of 64 bytes. A page's number, counted from 1, is its place. The file count is the number of locks
    that the sheet is for.
 
-   All three take any numbers and any bytes: nothing need be tested before a call. Each pointer must lead to as many elements
+   All of them take any numbers and any bytes: nothing need be tested before a call. Each pointer must lead to as many elements
    as the count after it says, and buffers that are lent to one call must not overlap: of such a call nothing is promised. They
    keep nothing between calls and allocate nothing, so that any thread may call them at any time. Link with libdesk.a. */
 #ifndef DESK_H
@@ -59,13 +60,42 @@ enum { DESK_PACKED = 0, DESK_PACK_REFUSED = 1, DESK_NO_SUCH_PAGE = 2 };
 uint64_t desk_test(const uint8_t *part, size_t part_len, uint64_t place, uint64_t files, uint64_t *fields, size_t fields_len);
 enum { DESK_FITS = 0, DESK_TEST_REFUSED = 1, DESK_UNFIT = 2, DESK_BLANK = 3, DESK_TORN = 4 };
 
-/* Inspects a sheet: one pass, in a time that grows with its pages alone. It takes 78 KB of stack; the other two less than 1 KB.
+/* Inspects a sheet: one pass, in a time that grows with its pages alone. It takes 78 KB of stack; the others less than 1 KB.
 
    0             the sheet is lawful: what the store can have written. A page whose byte 63 decayed to 0 is torn, and may pass
    1 to 65,536   the lowest place whose page is bad or does not go on from those below it
    DESK_REFUSED  sheet_len is not a multiple of 64 from 64 to 4,194,304, or files not 1 to 256 */
 uint64_t desk_inspect(const uint8_t *sheet, size_t sheet_len, uint64_t files);
 #define DESK_REFUSED UINT64_MAX
+
+/* A week of opening hours has an opening and a closing for each day, Monday, which is day 1, to Sunday. Its length names the edition of the
+   lock head that takes it:
+
+   DESK_OLD_WEEK  edition 1: 14 bytes, each a quarter hour, 0 to 96
+   DESK_NEW_WEEK  edition 2: 28 bytes, two a time, the lower one first: minutes, 0 to 1,440
+
+   A closing is not below its opening; where they are equal the shop is closed. An answer that names a day has it in the bits above the
+   lowest eight. */
+enum { DESK_OLD_WEEK = 14, DESK_NEW_WEEK = 28 };
+#define DESK_WEEK_REFUSAL(answer) ((answer) & 255)
+#define DESK_WEEK_DAY(answer) ((answer) >> 8)
+
+/* Tests a week.
+
+   1, 2              it is a week of this edition
+   DESK_WEEK_LENGTH  week_len is neither 14 nor 28
+   DESK_WEEK_TIMES   and the day: the lowest with a time above its limit, or that closes before it opens */
+uint64_t desk_week_test(const uint8_t *week, size_t week_len);
+
+/* Writes a week in the other edition at out. A quarter hour is 15 minutes; a week that is converted, and converted back, has the same bytes.
+
+   DESK_CONVERTED     the week is written, and passes the test of its edition
+   DESK_WEEK_LENGTH   week_len is neither 14 nor 28, or out_len is not the other of the two
+   DESK_WEEK_TIMES    and the day, as in the test
+   DESK_WEEK_MINUTES  and the day: to edition 1, the lowest with a minute that is no whole number of quarter hours
+   The first of them that holds is answered. Unless DESK_CONVERTED is, out is untouched. */
+uint64_t desk_convert(const uint8_t *week, size_t week_len, uint8_t *out, size_t out_len);
+enum { DESK_CONVERTED = 0, DESK_WEEK_LENGTH = 15, DESK_WEEK_TIMES = 16, DESK_WEEK_MINUTES = 17 };
 
 #ifdef __cplusplus
 }

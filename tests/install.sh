@@ -39,12 +39,12 @@ cat >"$root/other.c" <<'END'
 #include <desk.h>
 #include <stdio.h>
 int main(void) {
-    static uint8_t sheet[DESK_PAGE];
-    return printf("%d\n", (int)desk_inspect(sheet, sizeof sheet, 8)) < 0;
+    static uint8_t sheet[DESK_PAGE], week[DESK_NEW_WEEK];
+    return printf("%d %d\n", (int)desk_inspect(sheet, sizeof sheet, 8), (int)desk_week_test(week, sizeof week)) < 0;
 }
 END
 gcc -Wall -Wextra -Werror -I"$there/include" -o "$root/other" "$root/other.c" -L"$there/lib" -ldesk
-same "the header and the library" 0 "$("$root/other")"
+same "the header and the library" "0 2" "$("$root/other")"
 same "the manual page" ".TH SHEET 1" "$(head -n 1 "$there/share/man/man1/sheet.1" | cut -c 1-11)"
 
 rm -f "$root/new" "$root/other" "$root/other.c"

@@ -1,6 +1,6 @@
 -- What the functions for C leave, in the shape of their contracts.
-use Prim.Native.Nat.{ℕ}
-use mathlib.Core.Path.{_≡_, sym, ap, _∙_}
+use Prim.Native.Nat.{ℕ, _≤_}
+use mathlib.Core.Path.{_≡_, sym, ap, ap₂, subst, _∙_}
 use mathlib.Core.List.{List}
 use mathlib.Core.Bool.{cond}
 use lib.ListN.{length}
@@ -13,7 +13,12 @@ use Rattle.page.specs.Layout.{valueSize}
 use Rattle.page.specs.Answers.{packs, packNumber, tested, testNumber, testValues}
 use Rattle.inspection.specs.declared.Inspected.{Inspected}
 use Rattle.inspection.specs.Inspected.{inspected, inspectNumber, inspectPlace}
-use Rattle.desk.specs.Exports.{fieldCount, numbered, packedFor, fieldsGiven, testedFor, refusalNumber, inspectedFor}
+use Rattle.weeks.specs.declared.Refusal.{Refusal}
+use Rattle.weeks.specs.declared.WeekTest.{WeekTest}
+use Rattle.weeks.specs.declared.Conversion.{Conversion}
+use Rattle.weeks.specs.Editions.{daysAWeek}
+use Rattle.weeks.specs.Answers.{weekTest, converted, refusalDay, testCode, conversionCode}
+use Rattle.desk.specs.Exports.{fieldCount, numbered, packedFor, fieldsGiven, testedFor, refusalNumber, inspectedFor, weekTestedFor, convertedFor}
 
 -- ---- the page test
 
@@ -56,3 +61,22 @@ told x = cond (eqb (inspectNumber x) 0) (inspectPlace x) refusalNumber
 pub inspect-told : (s : List ℕ) (files : ℕ) (a v : Inspected) → a ≡ inspected s files → a ≡ v → told v ≡ inspectedFor s files
 unfolding inspectedFor
 inspect-told s files a v e h = ap told (sym h ∙ e)
+
+-- ---- weeks
+
+-- the day of the same refusal
+pub same-day : {a v : Refusal} → a ≡ v → refusalDay a ≤ daysAWeek → refusalDay v ≤ daysAWeek
+same-day e h = subst (λ (r : Refusal). refusalDay r ≤ daysAWeek) e h
+
+pub week-told : (s : List ℕ) (a v : WeekTest) → a ≡ weekTest s → a ≡ v → testCode v ≡ weekTestedFor s
+unfolding weekTestedFor
+week-told s a v e h = ap testCode (sym h ∙ e)
+
+pub convert-answer : (s out left : List ℕ) {a v : Conversion} → _≡_ {A = Conversion × List ℕ} (a, left) (converted s out) → a ≡ v → converted s out .0 ≡ v
+convert-answer s out left e h = sym (ap (λ (r : Conversion × List ℕ). r .0) e) ∙ h
+
+pub convert-told : (s out left : List ℕ) (a v : Conversion) → _≡_ {A = Conversion × List ℕ} (a, left) (converted s out) → a ≡ v
+    → {n : ℕ} → n ≡ conversionCode v → _≡_ {A = ℕ × List ℕ} (n, left) (convertedFor s out)
+unfolding convertedFor
+convert-told s out left a v e h i =
+    ap₂ (λ (k : ℕ) (t : List ℕ). (k, t)) (i ∙ ap conversionCode (sym (convert-answer s out left e h))) (ap (λ (r : Conversion × List ℕ). r .1) e)

@@ -1,4 +1,4 @@
--- What the three functions for C answer and leave: the page layer's and the recovery layer's own answers, in numbers.
+-- What the functions for C answer and leave: the answers of the layers below, in numbers.
 use Prim.Native.Nat.{ℕ}
 use mathlib.Core.List.{List}
 use mathlib.Core.Bool.{cond}
@@ -10,6 +10,7 @@ use Rattle.page.specs.declared.Unpacked.{Unpacked}
 use Rattle.page.specs.Layout.{valueSize}
 use Rattle.page.specs.Answers.{packs, packNumber, tested, testNumber, testValues}
 use Rattle.inspection.specs.Inspected.{inspected, inspectNumber, inspectPlace}
+use Rattle.weeks.specs.Answers.{weekTest, converted, testCode, conversionCode}
 
 -- kind to start
 abbrev pub fieldCount : ℕ
@@ -35,3 +36,9 @@ refusalNumber = 0xffffffffffffffff
 
 unfoldable pub inspectedFor : List ℕ → ℕ → ℕ
 inspectedFor s files = cond (eqb (inspectNumber (inspected s files)) 0) (inspectPlace (inspected s files)) refusalNumber
+
+unfoldable pub weekTestedFor : List ℕ → ℕ
+weekTestedFor s = testCode (weekTest s)
+
+unfoldable pub convertedFor : List ℕ → List ℕ → ℕ × List ℕ
+convertedFor s out = (conversionCode (converted s out .0), converted s out .1)

@@ -1,12 +1,19 @@
-// For the desk in C: packing, the page test and inspection. A slice is a pointer and a count there; any count is taken.
+// For the desk in C: packing, the page test and inspection; the week test and the converter. A slice is a pointer and a count there; any
+// count is taken.
 use inspection::Inspected;
 use page::Packing;
 use page::Page;
 use page::Unpacked;
+use weeks::Conversion;
+use weeks::Refusal;
+use weeks::WeekTest;
 ghost use mathlib.Core.Path.{_≡_};
+ghost use Prim.Native.Nat.{_≤_};
 ghost use lib.ListN.{length};
 ghost use Rattle.page.specs.Answers.{packNumber, fieldList};
-ghost use Rattle.desk.specs.Exports.{fieldCount, fieldsGiven, packedFor, testedFor, inspectedFor};
+ghost use Rattle.weeks.specs.Editions.{daysAWeek};
+ghost use Rattle.weeks.specs.Answers.{refusalDay, refusalCode};
+ghost use Rattle.desk.specs.Exports.{fieldCount, fieldsGiven, packedFor, testedFor, inspectedFor, weekTestedFor, convertedFor};
 
 // The fields from kind to start.
 const FIELDS: usize = 6;
@@ -117,5 +124,41 @@ pub extern "C" fn desk_inspect(sheet: &[u8], files: u64) -> u64
     match answer {
         Inspected::Refused => REFUSED,
         Inspected::Lowest(place) => place,
+    }
+}
+
+// A refusal of a week: its number, and the day that it names above the lowest eight bits.
+fn refusal_code(refusal: Refusal) -> u64
+    requires { ⌜ refusalDay refusal ≤ daysAWeek ⌝ }
+    ensures { λ r. ⌜ r ≡ refusalCode refusal ⌝ }
+{
+    match refusal {
+        Refusal::Length => 15,
+        Refusal::Times(day) => 16 + 256 * day,
+        Refusal::Minutes(day) => 17 + 256 * day,
+    }
+}
+
+// Tests a week: its edition, or a refusal.
+#[no_mangle]
+pub extern "C" fn desk_week_test(week: &[u8]) -> u64
+    ensures { λ r. ⌜ r ≡ weekTestedFor (now (week .entry)) ⌝ }
+{
+    let answer = weeks::week_test(week);
+    match answer {
+        WeekTest::Week(edition) => edition,
+        WeekTest::Refused(refusal) => refusal_code(refusal),
+    }
+}
+
+// Writes a week in the other edition: 0, or a refusal.
+#[no_mangle]
+pub extern "C" fn desk_convert(week: &[u8], out: &mut [u8]) -> u64
+    ensures { λ r. ⌜ (r, now (out .exit)) ≡ convertedFor (now (week .entry)) (now (out .entry)) ⌝ }
+{
+    let answer = weeks::convert(week, out);
+    match answer {
+        Conversion::Converted => 0,
+        Conversion::Refused(refusal) => refusal_code(refusal),
     }
 }

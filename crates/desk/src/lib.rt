@@ -1,4 +1,4 @@
-// The desk: its conversation with the store, command by command, and three functions for C.
+// The desk: its conversation with the store, command by command, and the functions for C.
 mod cutting;
 mod exports;
 mod showing;

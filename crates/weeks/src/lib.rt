@@ -121,12 +121,12 @@ fn convert_by(e: Edition, o: Edition, week: &[u8], out: &mut [u8]) -> Conversion
     requires { ⌜ IsEdition e × IsEdition o × (length (now week) ≡ size e) × (length (now out) ≡ size o) ⌝ }
     ensures { λ r. ⌜ (r, now (out .exit)) ≡ convertedBy e o (now (week .entry)) (now (out .entry)) ⌝ }
 {
-    let found = find_faults(e, o, week);
-    if found.wrong != 0 {
-        return Conversion::Refused(Refusal::Times(found.wrong));
+    let faults = find_faults(e, o, week);
+    if faults.wrong != 0 {
+        return Conversion::Refused(Refusal::Times(faults.wrong));
     }
-    if found.uneven != 0 {
-        return Conversion::Refused(Refusal::Minutes(found.uneven));
+    if faults.uneven != 0 {
+        return Conversion::Refused(Refusal::Minutes(faults.uneven));
     }
     write_week(e, o, week, out);
     Conversion::Converted
