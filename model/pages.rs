@@ -1,5 +1,4 @@
-//! Random pages and sheets through the three functions for C, beside the second version in `sheet.rs`. Linked with the proved
-//! library.
+//! Random pages and sheets through the functions for C, beside the second version in `sheet.rs`. Linked with the proved library.
 //!
 //!   pages [SEED [PAGES]]
 

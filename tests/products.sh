@@ -65,7 +65,7 @@ plain=$(seen "$folder/plain.o")
 test_that "the word in C" has "$plain" "^[1-9][0-9]* plain_word\$"
 test_that "the word in C by shifts" has "$plain" "^0 shifted_word\$"
 
-# What is linked. The words must be worked out somewhere, or nothing was looked at; the three functions for C need no opening's.
+# What is linked. The words must be worked out somewhere, or nothing was looked at; the functions for C need no opening's.
 for file in "$@"; do
     lines=$(seen "$file")
     test_that "$file has no word of 60 bytes" has "$lines" " BYTES"

@@ -9,3 +9,4 @@ pub mod Halves
 pub mod Shifts
 pub mod Few
 pub mod Concat
+pub mod Lowest

@@ -2,7 +2,7 @@
 -- version alone; and a read at or above its start finds it. Assumes nothing.
 use Prim.Native.Nat.{ℕ, zero, suc, _+_, _-_, _≤_, _<_}
 use mathlib.Core.Path.{_≡_, refl, sym, ap, _∙_}
-use mathlib.Core.Bool.{Bool, true, false, cond}
+use mathlib.Core.Bool.{Bool, true, false, cond, false≢true}
 use mathlib.Core.List.{List, [], _∷_, _++_, append-assoc}
 use mathlib.Core.Option.{Option, some, none}
 use native.Mathlib.Omega.{arith}
@@ -12,7 +12,7 @@ use lib.Dec.{eqb}
 use borrow.Author.Tests.{eq-eqb, ne-eqb, eqb-true, eqb-false, le-leb}
 use Rattle.recovery.specs.Places.{nth, tabulate}
 use Rattle.recovery.specs.Log.{Image, Entry, blank, torn, bad, opening, image, outcome, Fate, unknown, committed, fateOf, imagesOf, notBy, effective, versionsOf, tokenOf}
-use Rattle.inspection.specs.Lawful.{lawful}
+use Rattle.inspection.specs.Lawful.{lawful, fitsBelow}
 use Rattle.recovery.specs.declared.Row.{Row}
 use Rattle.recovery.specs.declared.Answer.the-variants.{Opened, Value, Nothing}
 use Rattle.recovery.specs.World.{World, Result, down, sizes, cold, isBlank, endOf, isBad, highestBad, fateNumber, fateFrom, fateIn, fatesOf, undecidedOf, coldRows, started, unfinished, opened, rebuiltRow, warmRow, withRow, rowHolds, lentRight}
@@ -42,10 +42,10 @@ unfolding highestBad
 not-bad [] w = refl
 not-bad (g ∷ l) w = go g (lawful-parts g l w .0) (not-bad l (lawful-parts g l w .1))
   where
-    go : (g : Entry) → Rattle.inspection.specs.Lawful.fitsBelow g l ≡ true → highestBad l ≡ 0 → cond (isBad g) (suc (length l)) (highestBad l) ≡ 0
-    go blank h r = absurd (mathlib.Core.Bool.false≢true h)
+    go : (g : Entry) → fitsBelow g l ≡ true → highestBad l ≡ 0 → cond (isBad g) (suc (length l)) (highestBad l) ≡ 0
+    go blank h r = absurd (false≢true h)
     go torn h r = r
-    go bad h r = absurd (mathlib.Core.Bool.false≢true h)
+    go bad h r = absurd (false≢true h)
     go (opening k) h r = r
     go (image i) h r = r
     go (outcome a c) h r = r
@@ -61,7 +61,7 @@ getD-cold zero i = refl
 getD-cold (suc n) zero = refl
 getD-cold (suc n) (suc i) = getD-cold n i
 
-nth-cold : (n f : ℕ) → nth cold (coldRows n) f ≡ cold
+pub nth-cold : (n f : ℕ) → nth cold (coldRows n) f ≡ cold
 nth-cold n zero = refl
 nth-cold n (suc i) = getD-cold n i
 

@@ -1,4 +1,3 @@
-pub mod Lowest
 pub mod Rows
 pub mod CarriedPages
 pub mod StoredPages

@@ -23,7 +23,8 @@ use Rattle.recovery.proofs.Pages.{pages-long}
 use Rattle.recovery.proofs.FlatRows.{rows-long}
 use Rattle.recovery.proofs.Leaves.{rows-back, whole-is}
 use Rattle.calls.proofs.Ends.{lent-is}
-use Rattle.moving.specs.Moved.{isSheet, isUnused, lowest, lowestDamaged, versionsTo, movePages, highestEnd, onRows}
+use Rattle.encoding.specs.Lowest.{lowest}
+use Rattle.moving.specs.Moved.{isSheet, isUnused, lowestDamaged, versionsTo, movePages, highestEnd, onRows}
 use Rattle.moving.specs.MoveLeaves.{moveBy, lowerMove, warmMove}
 use Rattle.moving.specs.MoveSteps.{moveLineOne, isDamaged, placesTo, surveyTo, storesAll, Roomy, refusalAt}
 use Rattle.moving.specs.declared.checking.Survey.{Survey}

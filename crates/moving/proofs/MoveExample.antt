@@ -7,7 +7,8 @@ use Rattle.recovery.specs.Places.{tabulate}
 use Rattle.recovery.specs.Log.{Image, blank, opening, image, outcome, imagesOf, notBy, effective, versionsOf, tokenOf}
 use Rattle.recovery.specs.declared.Answer.the-variants.{Moved}
 use Rattle.recovery.specs.World.{World, cold, down, endOf, warmRow, rowHolds, lentRight}
-use Rattle.moving.specs.Moved.{lowest, warmRows, versionsTo, movePages, highestEnd, moved}
+use Rattle.encoding.specs.Lowest.{lowest}
+use Rattle.moving.specs.Moved.{warmRows, versionsTo, movePages, highestEnd, moved}
 
 -- the value 7 of file 1, started at 10 under action 1
 abbrev first : Image

@@ -25,7 +25,8 @@ use Rattle.recovery.proofs.Leaves.{rows-back, whole-is}
 use Rattle.recovery.proofs.Pages.{pages-long, page-here}
 use Rattle.calls.proofs.Ends.{lent-is}
 use Rattle.calls.proofs.Appends.{blank-is}
-use Rattle.moving.specs.Moved.{isUnused, lowest, highestEnd}
+use Rattle.encoding.specs.Lowest.{lowest}
+use Rattle.moving.specs.Moved.{isUnused, highestEnd}
 use Rattle.moving.specs.MoveSteps.{placesTo, surveyTo, surveyWith, warmRun}
 use Rattle.moving.specs.declared.checking.Survey.{Survey}
 

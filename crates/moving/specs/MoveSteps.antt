@@ -17,7 +17,8 @@ use Rattle.page.specs.Table as table
 use Rattle.page.specs.Table.{packed, valueOf}
 use Rattle.recovery.specs.Sheet.{pageBytes}
 use Rattle.calls.specs.Leaves.{withPage}
-use Rattle.moving.specs.Moved.{isSheet, lowest, warmRows, highestEnd}
+use Rattle.encoding.specs.Lowest.{lowest}
+use Rattle.moving.specs.Moved.{isSheet, warmRows, highestEnd}
 use Rattle.moving.specs.declared.checking.Survey.{Survey}
 
 -- line 1 by numbers, with the fresh sheet's

@@ -19,7 +19,7 @@ use Rattle.recovery.specs.declared.Answer.{Answer}
 use Rattle.recovery.specs.declared.Answer.the-variants.{Refused, Opened, Stored, Value, Nothing, Told, Moved}
 use Rattle.recovery.specs.Numbers.{isRefused}
 use Rattle.calls.specs.Calls.{Call, begin, write, read, test, decide, rebuild}
-use Rattle.moving.specs.Moved.{lowest}
+use Rattle.encoding.specs.Lowest.{lowest}
 use Rattle.promises.specs.Runs.{Box, on, off, sheetOf, Event, calls, opens, cuts, moves, cutsMove, after, movedIn, numbered, heard, Hears, Run, Floors, blankBox}
 use Rattle.promises.specs.Model.{Model, latest, hasCarried, askedTo, countTo, movedPages, modelMove, blankModel, modelAnswer, modelOn, modelAfter, modelHeard, modelRuns}
 use Rattle.promises.specs.Promises.{boxAfter, pageIn, IsPageOf, IsWhole, IsVersion, IsCarried, freshOf, sizeOfMove, Alike, same, AnsweredAlike}

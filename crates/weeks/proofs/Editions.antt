@@ -60,6 +60,10 @@ length-named n {e} k = found n e k .1
 pub is-edition : (n : ℕ) {e : Edition} → named n ≡ Known e → IsEdition e
 is-edition n k = ap named (sym (length-named n k)) ∙ k
 
+pub second-edition : {e : Edition} → e ≡ second → IsEdition e
+unfolding size namedIn named
+second-edition {e} h = subst IsEdition (sym h) refl
+
 -- time k lies within the week
 pub time-within : (e : Edition) (k : ℕ) → k < timesAWeek → e .width * k + e .width ≤ size e
 unfolding size

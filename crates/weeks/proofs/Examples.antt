@@ -4,11 +4,12 @@ use mathlib.Core.Path.{_≡_, refl}
 use mathlib.Core.List.{List, [], _∷_, _++_}
 use lib.ListN.{replicate}
 use Rattle.encoding.specs.Concat.{concat}
+use Rattle.encoding.specs.Lowest.{lowest}
 use Rattle.weeks.specs.declared.Refusal.the-variants.{Length, Times, Minutes}
 use Rattle.weeks.specs.declared.WeekTest as test
 use Rattle.weeks.specs.declared.Conversion as conversion
 use Rattle.weeks.specs.Editions.{size, namedIn, named}
-use Rattle.weeks.specs.Weeks.{time, minute, lowestDay, wrongDay, unevenDay, timeIn, inEdition}
+use Rattle.weeks.specs.Weeks.{time, wrongDay, unevenDay, timeIn, inEdition}
 use Rattle.weeks.specs.Answers.{testedBy, weekTest, refused, convertedBy, converted}
 
 abbrev zeros : ℕ → List ℕ
@@ -36,5 +37,5 @@ pub examples :
     × (converted (0 ∷ 0 ∷ 1 ∷ 0 ∷ zeros 24) (zeros 14) ≡ refused (Minutes 1) (zeros 14))
     -- 16 of day 7 comes before 17 of day 1
     × (converted (0 ∷ 0 ∷ 1 ∷ 0 ∷ zeros 22 ++ (161 ∷ 5 ∷ [])) (zeros 14) ≡ refused (Times 7) (zeros 14))
-unfolding concat size namedIn named time lowestDay wrongDay unevenDay timeIn inEdition testedBy weekTest convertedBy converted
+unfolding concat size namedIn lowest named time wrongDay unevenDay timeIn inEdition testedBy weekTest convertedBy converted
 examples = (refl, refl, refl, refl, refl, refl, refl, refl, refl, refl, refl, refl, refl)

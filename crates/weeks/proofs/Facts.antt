@@ -23,7 +23,7 @@ use Rattle.weeks.specs.Weeks.{minute, wrongDay, unevenDay, lowestDay, in
 use Rattle.weeks.specs.Answers.{testedBy, weekTest, refused, convertedBy, converted, refusalDay}
 use Rattle.weeks.specs.Facts.{Facts}
 use Rattle.weeks.proofs.Editions.{Sound, sound, is-edition, length-named}
-use Rattle.weeks.proofs.DayTests.{lowest-is, lowest-within}
+use Rattle.encoding.proofs.Lowest.{lowest-is, lowest-within}
 use Rattle.weeks.proofs.Lines.{test-wrong, test-week, step-done, convert-unknown, convert-no-output, convert-same, convert-by}
 use Rattle.weeks.proofs.Written.{no-uneven, minute-there, right-there, all-even-there, bytes-back, length-there}
 
@@ -172,8 +172,8 @@ unfolding convertedBy
 step-refuses e o s out =
     by-test (Refuses out) (eqb (lowestDay (wrongDay e s)) 0)
     (λ _. by-test (Refuses out) (eqb (lowestDay (unevenDay e o s)) 0) (λ _. λ r h. clash cc)
-    (λ _. refuses (Minutes (lowestDay (unevenDay e o s))) out (lowest-within (unevenDay e o s))))
-    (λ _. refuses (Times (lowestDay (wrongDay e s))) out (lowest-within (wrongDay e s)))
+    (λ _. refuses (Minutes (lowestDay (unevenDay e o s))) out (lowest-within (unevenDay e o s) daysAWeek)))
+    (λ _. refuses (Times (lowestDay (wrongDay e s))) out (lowest-within (wrongDay e s) daysAWeek))
 
 converter-refuses : (s out : List ℕ) → Refuses out (converted s out)
 unfolding converted
@@ -202,7 +202,7 @@ tester-refuses s = from (named (length s))
   where
     from : (n : Named) → TestRefuses (onKnown n (λ (e : Edition). testedBy e s) (test.WeekTest.Refused Length))
     from (Known e) =
-        by-test TestRefuses (eqb (lowestDay (wrongDay e s)) 0) (λ _. λ r h. clash cc) (λ _. test-refuses (Times (lowestDay (wrongDay e s))) (lowest-within (wrongDay e s)))
+        by-test TestRefuses (eqb (lowestDay (wrongDay e s)) 0) (λ _. λ r h. clash cc) (λ _. test-refuses (Times (lowestDay (wrongDay e s))) (lowest-within (wrongDay e s) daysAWeek))
     from Unknown = test-refuses Length (omega arith)
 
 pub facts : Facts
@@ -212,7 +212,7 @@ facts = record {
   same-minutes = keeps-minutes;
   accepts = accepts-week;
   unwritten = λ s out r h. converter-refuses s out r h .0;
-  lowest = lowest-is;
+  lowest = λ t d h. let r = lowest-is t daysAWeek d h in (r .0, r .1);
   tested-day = tester-refuses;
   converted-day = λ s out r h. converter-refuses s out r h .1;
 }

@@ -17,7 +17,8 @@ use Rattle.weeks.specs.declared.Edition.{Edition}
 use Rattle.weeks.specs.Editions.{timesAWeek, daysAWeek, size, IsEdition}
 use Rattle.weeks.specs.Weeks.{time, opening, closing, minute, wrongDay, uneven, unevenDay, lowestDay, timeIn, inEdition}
 use Rattle.weeks.proofs.Editions.{Sound, sound}
-use Rattle.weeks.proofs.DayTests.{no-day, every-day, each-time}
+use Rattle.encoding.proofs.Lowest.{lowest-none, lowest-zero}
+use Rattle.weeks.proofs.DayTests.{each-time}
 use Rattle.weeks.proofs.TimeParts.{units-are}
 
 neither-or : (a b : Bool) → a ≡ false → b ≡ false → (a || b) ≡ false
@@ -51,11 +52,11 @@ units-whole o m h = rw (eq-eqb (m % o .minutes) 0 h)
 pub all-even : (e o : Edition) (s : List ℕ) → lowestDay (unevenDay e o s) ≡ 0 → (k : ℕ) → k < timesAWeek → uneven o (minute e s k) ≡ false
 unfolding unevenDay
 all-even e o s even = each-time (λ (k : ℕ). uneven o (minute e s k) ≡ false)
-    (λ d l m. or-false (uneven o (minute e s (2 * d - 2))) (uneven o (minute e s (2 * d - 1))) (no-day (unevenDay e o s) even d l m))
+    (λ d l m. or-false (uneven o (minute e s (2 * d - 2))) (uneven o (minute e s (2 * d - 1))) (lowest-none (unevenDay e o s) daysAWeek even d l m))
 
 pub no-uneven : (e o : Edition) (s : List ℕ) → ((k : ℕ) → k < timesAWeek → minute e s k % o .minutes ≡ 0) → lowestDay (unevenDay e o s) ≡ 0
 unfolding unevenDay
-no-uneven e o s h = every-day (unevenDay e o s)
+no-uneven e o s h = lowest-zero (unevenDay e o s) daysAWeek
     (λ d l m. neither-or _ _ (units-whole o (minute e s (2 * d - 2)) (h (2 * d - 2) (omega arith))) (units-whole o (minute e s (2 * d - 1)) (h (2 * d - 1) (omega arith))))
 
 -- a time written behind those before it
@@ -69,7 +70,7 @@ put-there e o s out k x {t} h even l i u =
 module _ (e o : Edition) (he : Sound e) (ho : Sound o) (s : List ℕ) (right : lowestDay (wrongDay e s) ≡ 0) (even : lowestDay (unevenDay e o s) ≡ 0) where
   within-limit : (k : ℕ) → k < timesAWeek → time e s k ≤ e .limit
   within-limit = each-time (λ (k : ℕ). time e s k ≤ e .limit)
-      (λ d l m. let r = day-right e s d (no-day (wrongDay e s) right d l m) in (r .opens, r .closes))
+      (λ d l m. let r = day-right e s d (lowest-none (wrongDay e s) daysAWeek right d l m) in (r .opens, r .closes))
 
   even-minutes : (k : ℕ) → k < timesAWeek → minute e s k % o .minutes ≡ 0
   even-minutes k l = whole-units o (minute e s k) (all-even e o s even k l)
@@ -101,10 +102,10 @@ module _ (e o : Edition) (he : Sound e) (ho : Sound o) (s : List ℕ) (right : l
   limit-there k l = omega (arith, time-there k l, units-within k l)
 
   pub right-there : lowestDay (wrongDay o (inEdition e o s)) ≡ 0
-  right-there = every-day (wrongDay o (inEdition e o s)) (λ d l m. right-day o (inEdition e o s) d (record {
+  right-there = lowest-zero (wrongDay o (inEdition e o s)) daysAWeek (λ d l m. right-day o (inEdition e o s) d (record {
     opens = limit-there (2 * d - 2) (omega arith);
     closes = limit-there (2 * d - 1) (omega arith);
-    order = order-there (2 * d - 2) (2 * d - 1) (omega arith) (omega arith) (day-right e s d (no-day (wrongDay e s) right d l m) .order);
+    order = order-there (2 * d - 2) (2 * d - 1) (omega arith) (omega arith) (day-right e s d (lowest-none (wrongDay e s) daysAWeek right d l m) .order);
   }))
 
   pub all-even-there : lowestDay (unevenDay o e (inEdition e o s)) ≡ 0

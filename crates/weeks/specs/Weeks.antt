@@ -1,11 +1,12 @@
 -- A week read off bytes by its edition, its days tested, and the same week written in another edition.
-use Prim.Native.Nat.{ℕ, zero, suc, _*_, _-_, _/_, _%_}
+use Prim.Native.Nat.{ℕ, _*_, _-_, _/_, _%_}
 use mathlib.Core.List.{List}
-use mathlib.Core.Bool.{Bool, _||_, not, cond}
+use mathlib.Core.Bool.{Bool, _||_, not}
 use lib.Dec.{eqb, ltb}
 use lib.ListN.{take, drop}
 use Rattle.encoding.specs.Bytes.{number, bytes}
 use Rattle.encoding.specs.Concat.{concat}
+use Rattle.encoding.specs.Lowest.{lowest}
 use Rattle.weeks.specs.declared.Edition.{Edition}
 use Rattle.weeks.specs.Editions.{daysAWeek, timesAWeek}
 
@@ -26,13 +27,9 @@ minute e s k = e .minutes * time e s k
 
 -- ---- days
 
--- the lowest of the n days from d on that a test finds, 0 if it finds none
-abbrev pub lowestFrom : (ℕ → Bool) → ℕ → ℕ → ℕ
-lowestFrom t d zero = 0
-lowestFrom t d (suc n) = cond (t d) d (lowestFrom t (suc d) n)
-
-unfoldable pub lowestDay : (ℕ → Bool) → ℕ
-lowestDay t = lowestFrom t 1 daysAWeek
+-- the lowest day that meets a test, 0 if there is none
+abbrev pub lowestDay : (ℕ → Bool) → ℕ
+lowestDay t = lowest t daysAWeek
 
 -- a time above the limit, or a closing below its opening
 abbrev pub wrong : Edition → ℕ → ℕ → Bool

@@ -5,6 +5,7 @@ use crate::times::units;
 ghost use mathlib.Core.Bool.{cond};
 ghost use mathlib.Core.Path.{_≡_};
 ghost use Prim.Native.Nat.{_*_, _<_};
+ghost use lib.Dec.{eqb};
 ghost use lib.ListN.{length};
 ghost use Rattle.weeks.specs.Editions.{size, IsEdition};
 ghost use Rattle.weeks.specs.Weeks.{wrong, wrongDay, uneven, unevenDay, lowestDay};
@@ -30,30 +31,33 @@ fn is_uneven(e: Edition, o: Edition, t: u64) -> bool
     o.minutes * units(e, o, t) != e.minutes * t
 }
 
-// A day that fails takes the place of a later one.
-fn earlier(fails: bool, d: usize, later: u64) -> u64
-    ensures { λ r. ⌜ r ≡ cond fails d later ⌝ }
+// The lowest day that fails, with one day more: the first that was found stays.
+fn lowest_so_far(found: u64, fails: bool, d: usize) -> u64
+    ensures { λ r. ⌜ r ≡ cond (eqb found 0) (cond fails d 0) found ⌝ }
 {
+    if found != 0 {
+        return found;
+    }
     if fails {
         return d as u64;
     }
-    later
+    0
 }
 
-// Both tests in one pass, from the last day to the first, so that the lowest of each stays. It does not end at a fault: those are rare.
+// Both tests in one pass. It does not end at a fault: those are rare.
 pub(crate) fn find_faults(e: Edition, o: Edition, week: &[u8]) -> Faults
     requires { ⌜ IsEdition e × IsEdition o × (length (now week) ≡ size e) ⌝ }
     ensures { λ r. ⌜ (r .wrong ≡ lowestDay (wrongDay e (now (week .entry)))) × (r .uneven ≡ lowestDay (unevenDay e o (now (week .entry)))) ⌝ }
 {
     let mut wrong: u64 = 0;
     let mut uneven: u64 = 0;
-    let mut d: usize = Edition::DAYS;
-    while 0 < d {
-        let opens = time_at(e, week, 2 * d - 2);
-        let closes = time_at(e, week, 2 * d - 1);
-        wrong = earlier(is_wrong(e, opens, closes), d, wrong);
-        uneven = earlier(is_uneven(e, o, opens) | is_uneven(e, o, closes), d, uneven);
-        d -= 1;
+    let mut d: usize = 0;
+    while d < Edition::DAYS {
+        let opens = time_at(e, week, 2 * d);
+        let closes = time_at(e, week, 2 * d + 1);
+        d += 1;
+        wrong = lowest_so_far(wrong, is_wrong(e, opens, closes), d);
+        uneven = lowest_so_far(uneven, is_uneven(e, o, opens) | is_uneven(e, o, closes), d);
     }
     Faults { wrong, uneven }
 }

@@ -97,7 +97,8 @@ pub fn week_test(week: &[u8]) -> WeekTest
     let Named::Known(e) = Edition::of(week.len()) else {
         return WeekTest::Refused(Refusal::Length);
     };
-    let found = find_faults(e, e, week);
+    // Every time is a whole number of minutes, so that no time is uneven.
+    let found = find_faults(e, Edition::second(), week);
     if found.wrong != 0 {
         return WeekTest::Refused(Refusal::Times(found.wrong));
     }

@@ -22,26 +22,19 @@ use Rattle.inspection.proofs.BadPages.{lawful-is}
 use Rattle.inspection.proofs.LowestUnlawful.{none-lawful}
 use Rattle.promises.specs.Runs.{off, Event, heard, AllAllowed}
 use Rattle.promises.specs.Model.{modelHeard}
+use Rattle.moving.proofs.Went.{blank-entry}
 use Rattle.promises.proofs.logs.Logs.{test-lawful}
 use Rattle.promises.proofs.worlds.Openings.{Holds}
 use Rattle.promises.proofs.answers.ModelRuns.{heard-alike}
 use Rattle.promises.proofs.boxes.Boxes.{Reached}
 use Rattle.promises.specs.FromLog.{modelOf, logIn}
 
-blank-is : (g : Entry) → isBlank g ≡ true → g ≡ blank
-blank-is blank e = refl
-blank-is torn e = absurd (false≢true e)
-blank-is bad e = absurd (false≢true e)
-blank-is (opening k) e = absurd (false≢true e)
-blank-is (image i) e = absurd (false≢true e)
-blank-is (outcome a c) e = absurd (false≢true e)
-
 -- above the end all is blank
 clean-above : (P : List Entry) (n p : ℕ) → endOf P n < p → p ≤ n → nth blank P p ≡ blank
 clean-above P n p h k = go (isBlank (nth blank P p)) refl
   where
     go : (b : Bool) → isBlank (nth blank P p) ≡ b → nth blank P p ≡ blank
-    go true e = blank-is (nth blank P p) e
+    go true e = blank-entry (nth blank P p) e
     go false e = absurd (omega (arith, used-end P p e n k))
 
 module _ (n files : ℕ) (s : List ℕ) (long : length s ≡ pageSize * n) (sz : sizes n n files ≡ true) (h : inspected s files ≡ Lowest 0) where

@@ -15,6 +15,7 @@ use Rattle.recovery.specs.declared.Answer.the-variants.{Refused, Opened}
 use Rattle.recovery.proofs.Spots.{entryIn, entry-top, entry-down}
 use Rattle.inspection.specs.Lawful.{current, token, lawful, lowestUnlawful}
 use Rattle.inspection.proofs.LowestUnlawful.{lowest-none}
+use Rattle.moving.proofs.FreshOpened.{nth-cold, length-cold}
 use Rattle.promises.proofs.logs.Logs.{Lawful, lawful-test}
 use Rattle.promises.specs.Model.{Model, newest, since, modelOpened, isPending, isUnfinished}
 use Rattle.promises.specs.FromLog.{statusOf, carriedOf}
@@ -61,21 +62,6 @@ not-bad (bad ∷ l) w = absurd (w .0)
 not-bad (opening k ∷ l) w = not-bad l (w .1)
 not-bad (image i ∷ l) w = not-bad l (w .1)
 not-bad (outcome a c ∷ l) w = not-bad l (w .1)
-
-getD-cold : (n i : ℕ) → getD (coldRows n) i cold ≡ cold
-unfolding coldRows
-getD-cold zero i = refl
-getD-cold (suc n) zero = refl
-getD-cold (suc n) (suc i) = getD-cold n i
-
-nth-cold : (n f : ℕ) → nth cold (coldRows n) f ≡ cold
-nth-cold n zero = refl
-nth-cold n (suc i) = getD-cold n i
-
-length-cold : (n : ℕ) → length (coldRows n) ≡ n
-unfolding coldRows
-length-cold zero = refl
-length-cold (suc n) = ap suc (length-cold n)
 
 -- the end is found
 pub holds-end : (s : List Entry) (n : ℕ) (l : List Entry) → Holds s n l → endOf s (length s) ≡ length l

@@ -18,24 +18,13 @@ use Rattle.recovery.proofs.Spots.{Lies}
 use Rattle.recovery.proofs.Lookups.{is-file}
 use Rattle.inspection.specs.Lawful.{versions, current}
 use Rattle.calls.specs.Calls.{imageOf}
-use Rattle.moving.specs.Moved.{lowest, lowestUndecided, lowestDamaged, warmRows, versionOf, carriedBy, versionsTo, movePages, highestEnd}
+use Rattle.encoding.proofs.Lowest.{lowest-cong, lowest-zero}
+use Rattle.moving.specs.Moved.{lowestUndecided, lowestDamaged, warmRows, versionOf, carriedBy, versionsTo, movePages, highestEnd}
 use Rattle.promises.specs.Model.{Version, Model, newest, currentEnd, tokenEnd, askedTo, oneOf, countTo, movedPages, isPending, lowestPending}
 use Rattle.promises.specs.FromLog as fromLog
 use Rattle.promises.specs.FromLog.{statusOf, versionIn}
 use Rattle.promises.proofs.logs.Histories.{newest-is}
 use Rattle.promises.proofs.worlds.Sim.{warmOf, rowFor, Sim, warm-eq, lies-at, row-holds, current-lies}
-
--- two tests that agree on 1 to n find the same
-lowest-cong : (t u : ℕ → Bool) (n : ℕ) → ((p : ℕ) → 1 ≤ p → p ≤ n → t p ≡ u p) → lowest t n ≡ lowest u n
-unfolding lowest
-lowest-cong t u zero h = refl
-lowest-cong t u (suc n) h = rw (h (suc n) (omega arith) (omega arith), lowest-cong t u n (λ p a b. h p a (omega arith)))
-
--- one that none of them meets finds none
-lowest-zero : (t : ℕ → Bool) (n : ℕ) → ((p : ℕ) → 1 ≤ p → p ≤ n → t p ≡ false) → lowest t n ≡ 0
-unfolding lowest
-lowest-zero t zero h = refl
-lowest-zero t (suc n) h = rw (h (suc n) (omega arith) (omega arith), lowest-zero t n (λ p a b. h p a (omega arith)))
 
 pending-test : (x : Fate) (place : ℕ) → eqb (fateNumber x) 1 ≡ isPending (statusOf x place)
 pending-test unknown place = refl
