@@ -8,8 +8,8 @@ use native.Mathlib.Nat.{mul-suc, mul-zero, mul-le-mul-left}
 use native.Mathlib.Numerals.{add-one}
 use borrow.Author.Tests.{ltb-true, ltb-false}
 use lib.Dec.{ltb}
-use lib.ListN.{length, take, drop, getD, length-append, length-drop}
-use lib.Seq.{take-all, take-add, take-append-le, drop-append-le, drop-at, getD-take, getD-drop}
+use lib.ListN.{length, take, drop, length-append, length-drop}
+use lib.Seq.{take-all, take-add, take-append-le, drop-append-le, drop-at}
 use Rattle.encoding.specs.Concat.{concat}
 
 -- the same runs give the same whole
@@ -30,7 +30,7 @@ pub run-within : (w k n : ℕ) → k < n → w * k + w ≤ w * n
 run-within w k n h = let m : w * suc k ≤ w * n = mul-le-mul-left w h in omega (arith, mul-suc w k)
 
 -- a part of a run, with more behind the run
-pub part-in-front : (at w : ℕ) (s more : List ℕ) → at + w ≤ length s → take w (drop at (s ++ more)) ≡ take w (drop at s)
+part-in-front : (at w : ℕ) (s more : List ℕ) → at + w ≤ length s → take w (drop at (s ++ more)) ≡ take w (drop at s)
 part-in-front at w s more h =
     let d : at ≤ length s = omega arith in
     let t : w ≤ length (drop at s) = simp length-drop (omega arith) in
@@ -63,13 +63,6 @@ concat-parts zero w s = ap (λ (k : ℕ). take k s) (sym (mul-zero w))
 concat-parts (suc n) w s =
     ap (λ (t : List ℕ). t ++ take w (drop (w * n) s)) (concat-parts n w s)
     ∙ sym (take-add (w * n) w s) ∙ ap (λ (k : ℕ). take k s) (sym (mul-suc w n))
-
--- byte i of run k of the whole
-pub concat-byte : (n w : ℕ) (f : ℕ → List ℕ) → ((k : ℕ) → k < n → length (f k) ≡ w) → (k i : ℕ) → k < n → i < w
-    → getD (concat n f) (w * k + i) 0 ≡ getD (f k) i 0
-concat-byte n w f h k i l m =
-    sym (getD-drop (w * k) (concat n f) i 0) ∙ sym (getD-take w (drop (w * k) (concat n f)) i 0 m)
-    ∙ ap (λ (t : List ℕ). getD t i 0) (concat-at n w f h k l)
 
 -- one run more is written behind those before it
 pub concat-turn : (w k : ℕ) (out next : List ℕ) (f : ℕ → List ℕ) → take (w * k) out ≡ concat k f → take (w * k + w) next ≡ take (w * k) out ++ f k
