@@ -1,13 +1,12 @@
 -- Each contract allows one outcome; and an answer's number tells it from every other. Assumes nothing.
 use Prim.Native.Nat.{ℕ, _+_, _*_, _/_, _%_, _≤_, _<_}
-use mathlib.Core.Path.{_≡_, refl, sym, ap, subst, _∙_}
+use mathlib.Core.Path.{_≡_, refl, sym, ap, _∙_}
 use mathlib.Core.Bool.{Bool, true, false, cond}
 use mathlib.Core.List.{List}
 use native.Mathlib.Omega.{arith}
-use borrow.Author.Tests.{lt-ltb, le-ltb, eq-eqb}
+use borrow.Author.Tests.{lt-ltb, le-ltb}
 use lib.Dec.{eqb, ltb}
 use lib.ListN.{length}
-use Rattle.encoding.proofs.Logic.{clash}
 use Rattle.weeks.specs.declared.Edition.{Edition}
 use Rattle.weeks.specs.declared.Named.{Named}
 use Rattle.weeks.specs.declared.Named.the-variants.{Known, Unknown}
@@ -19,7 +18,7 @@ use Rattle.weeks.specs.declared.Conversion as conversion
 use Rattle.weeks.specs.declared.Conversion.{Conversion}
 use Rattle.weeks.specs.Editions.{named, onKnown}
 use Rattle.weeks.specs.Weeks.{lowestDay, wrongDay}
-use Rattle.weeks.specs.Answers.{testedBy, weekTest, converted, refusalNumber, refusalDay, refusalCode, testCode, conversionCode}
+use Rattle.weeks.specs.Answers.{testedBy, weekTest, converted, refusalCode, testCode, conversionCode}
 use Rattle.weeks.proofs.Editions.{sound, is-edition}
 
 pub test-once : (s : List ℕ) {r r′ : WeekTest} → r ≡ weekTest s → r′ ≡ weekTest s → r ≡ r′

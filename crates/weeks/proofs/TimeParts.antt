@@ -1,12 +1,12 @@
 -- A time read off a week and put into one: its bytes one by one, and its minutes as another edition's units. Assumes nothing.
-use Prim.Native.Nat.{ℕ, suc, _+_, _*_, _/_, _%_, _≤_, _<_}
+use Prim.Native.Nat.{ℕ, suc, _+_, _*_, _/_, _%_, _<_}
 use mathlib.Core.Path.{_≡_, refl, sym, ap, _∙_}
-use mathlib.Core.Bool.{Bool, true, false, not}
+use mathlib.Core.Bool.{true, false, not}
 use mathlib.Core.List.{List, [], _∷_, _++_, append-assoc}
 use native.Mathlib.Omega.{arith}
-use native.Mathlib.Nat.{mul-le-mul, mul-mod-right, mul-div-right}
+use native.Mathlib.Nat.{mul-mod-right, mul-div-right}
 use native.Mathlib.Numerals.{add-one}
-use borrow.Author.Tests.{eq-eqb, ne-eqb, eqb-true, not-false}
+use borrow.Author.Tests.{eq-eqb, eqb-true, not-false}
 use lib.Dec.{eqb}
 use lib.ListN.{length, take, drop, getD, set}
 use lib.Seq.{take-suc-set, lt-length-set}
@@ -14,8 +14,7 @@ use Rattle.encoding.specs.Bytes.{number, bytes}
 use Rattle.encoding.proofs.Logic.{bool-ext}
 use Rattle.encoding.proofs.Numbers.{number-first, number-byte}
 use Rattle.weeks.specs.declared.Edition.{Edition}
-use Rattle.weeks.specs.Weeks.{time, minute, uneven, timeIn}
-use Rattle.weeks.proofs.Editions.{Sound}
+use Rattle.weeks.specs.Weeks.{time, uneven}
 
 -- ---- read
 

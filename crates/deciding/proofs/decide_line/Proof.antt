@@ -1,6 +1,5 @@
 -- `deciding::decide_line`: line 1, then 5 and 6, then 11 and 12. Assumes nothing.
 use Rattle.encoding.proofs.Logic.{refused, passed}
-use Rattle.calls.proofs.Ends.{lent-is}
 use Rattle.calls.proofs.DecideEnds.{line-1, line-action, line-room}
 use denote.Ref.{now}
 use lib.ListN.{length}

@@ -2,14 +2,14 @@
 use Prim.Native.Nat.{ℕ, zero, suc, _*_, _/_, _≤_, _<_}
 use mathlib.Core.Path.{_≡_, refl, ap, subst}
 use mathlib.Core.List.{List}
-use mathlib.Core.Bool.{Bool, true, false, false≢true}
+use mathlib.Core.Bool.{Bool, true, false}
 use native.Mathlib.Omega.{arith}
 use lib.ListN.{length, List·getD-eq-default}
 use lib.Dec.{leb}
 use borrow.Author.Tests.{leb-true, leb-false}
 use Rattle.page.specs.Layout.{pageSize}
 use Rattle.recovery.specs.Places.{nth}
-use Rattle.recovery.specs.Log.{Entry, blank, torn, bad, opening, image, outcome, undecided}
+use Rattle.recovery.specs.Log.{Entry, blank, undecided}
 use Rattle.recovery.specs.Sheet.{pages}
 use Rattle.recovery.specs.World.{sizes, down, endOf, isBlank}
 use Rattle.recovery.specs.Lent.{pagesOf}

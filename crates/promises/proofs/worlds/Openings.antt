@@ -9,7 +9,7 @@ use lib.Dec.{eqb, leb}
 use borrow.Author.Tests.{eqb-true, eqb-false, leb-true, leb-false}
 use Rattle.recovery.specs.Places.{nth}
 use Rattle.recovery.specs.Log.{Entry, blank, torn, bad, opening, image, outcome, Fate, unknown, undecided, committed, aborted, isUndecided, fateOf, outcomeOf, startOf}
-use Rattle.recovery.specs.World.{World, Result, refuse, rebuiltRow, down, sizes, cold, isBlank, isCarried, endOf, highestBad, fatesOf, undecidedOf, coldRows, unopened, unfinished, opened}
+use Rattle.recovery.specs.World.{World, Result, refuse, rebuiltRow, down, sizes, isBlank, isCarried, endOf, highestBad, fatesOf, undecidedOf, coldRows, unopened, unfinished, opened}
 use Rattle.recovery.specs.declared.Row.{Row}
 use Rattle.recovery.specs.declared.Answer.the-variants.{Refused, Opened}
 use Rattle.recovery.proofs.Spots.{entryIn, entry-top, entry-down}

@@ -1,17 +1,17 @@
 -- What a move finds of a world that stands for a log and the object model: rows that hold, the model's newest versions, its pending actions
 -- and when each file was asked for last.
-use Prim.Native.Nat.{ℕ, zero, suc, max, _+_, _≤_}
+use Prim.Native.Nat.{ℕ, zero, suc, _≤_}
 use mathlib.Core.Path.{_≡_, refl, sym, ap, _∙_}
-use mathlib.Core.List.{List, [], _∷_, _++_}
-use mathlib.Core.Bool.{Bool, true, false, not, cond}
+use mathlib.Core.List.{List, [], _∷_}
+use mathlib.Core.Bool.{true, false, not}
 use mathlib.Core.Option.{Option, some, none}
 use native.Mathlib.Omega.{arith}
 use lib.ListN.{length, length-append}
-use lib.Dec.{eqb, leb}
-use borrow.Author.Tests.{le-leb, ne-eqb}
-use Rattle.recovery.specs.Places.{nth, tabulate}
+use lib.Dec.{eqb}
+use borrow.Author.Tests.{le-leb}
+use Rattle.recovery.specs.Places.{nth}
 use Rattle.recovery.specs.Log.{Image, Entry, image, outcome, Fate, unknown, undecided, committed, aborted, Placed, fateOf, outcomeOf, placeOf}
-use Rattle.recovery.specs.World.{World, entryAt, rowAt, cold, fateNumber, fatesOf, warmRow, rowHolds, isFile}
+use Rattle.recovery.specs.World.{World, entryAt, rowAt, cold, fateNumber, warmRow, rowHolds, isFile}
 use Rattle.recovery.specs.declared.Row.{Row}
 use Rattle.recovery.proofs.Places.{nth-tabulate, length-tabulate}
 use Rattle.recovery.proofs.Spots.{Lies}
@@ -20,11 +20,10 @@ use Rattle.inspection.specs.Lawful.{versions, current}
 use Rattle.calls.specs.Calls.{imageOf}
 use Rattle.encoding.proofs.Lowest.{lowest-cong, lowest-zero}
 use Rattle.moving.specs.Moved.{lowestUndecided, lowestDamaged, warmRows, versionOf, carriedBy, versionsTo, movePages, highestEnd}
-use Rattle.promises.specs.Model.{Version, Model, newest, currentEnd, tokenEnd, askedTo, oneOf, countTo, movedPages, isPending, lowestPending}
-use Rattle.promises.specs.FromLog as fromLog
+use Rattle.promises.specs.Model.{Model, newest, askedTo, oneOf, countTo, movedPages, isPending, lowestPending}
 use Rattle.promises.specs.FromLog.{statusOf, versionIn}
 use Rattle.promises.proofs.logs.Histories.{newest-is}
-use Rattle.promises.proofs.worlds.Sim.{warmOf, rowFor, Sim, warm-eq, lies-at, row-holds, current-lies}
+use Rattle.promises.proofs.worlds.Sim.{rowFor, Sim, warm-eq, lies-at, row-holds, current-lies}
 
 pending-test : (x : Fate) (place : ℕ) → eqb (fateNumber x) 1 ≡ isPending (statusOf x place)
 pending-test unknown place = refl

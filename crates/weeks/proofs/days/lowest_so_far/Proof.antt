@@ -1,6 +1,5 @@
 -- `weeks::days::lowest_so_far`, by its ways out. Assumes nothing.
 use borrow.Author.Tests.{eq-eqb, ne-eqb}
-use borrow.Author.Needs.{needs}
 use Rattle.weeks.proofs.days.lowest_so_far.Statement.{statement}
 use Rattle.weeks.proofs.days.lowest_so_far.Tie as tie
 

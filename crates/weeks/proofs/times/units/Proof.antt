@@ -4,7 +4,6 @@ use native.Mathlib.Omega.{arith}
 use lib.Bits.{and-mask}
 use Rattle.weeks.proofs.Editions.{sound, minutes-small}
 use Rattle.weeks.proofs.TimeParts.{units-by-1, units-by-15}
-use borrow.Author.Needs.{needs}
 use Rattle.weeks.proofs.times.units.Statement.{statement}
 use Rattle.weeks.proofs.times.units.Tie as tie
 
