@@ -17,7 +17,7 @@ static const uint8_t none[32];
 
 /* How a sheet is filled: actions are an opening, six images and an outcome each, and may have a small one below them, an opening and its
    outcome. Images are all under one opening, and their starts grow with the place, or fall. Tokens are one a file, all of one action or all but
-   the last of another; versions are one a file, of one action. The rows of both are rebuilt. Weeks of opening hours, old or new, are one in
+   the last of another; versions are one a file, of one action. The rows of both are rebuilt. Weeks of opening hours, of any edition, are one in
    the place of each page. */
 enum fill {
     BLANK, OPENINGS, IMAGES, FALLING_IMAGES, TORN, ACTIONS, SMALL_ACTION, LINKS, TOKENS, OTHERS_TOKENS, VERSIONS, OLD_WEEKS, NEW_WEEKS
@@ -168,30 +168,35 @@ static uint64_t run_move(struct sheet s) {
     return told[WHICH] == MOVED && told[FIRST] == 1 && fresh[PAGE * end - 1] == 0xA5 && fresh[PAGE * end] == 0;
 }
 
-/* How many weeks pass the test as this edition, and how many are converted. Inlined, so that each function is called by its name. */
+/* How many weeks pass the test as this edition, and how many are converted, with two keyholders. Inlined, so that each function is called by
+   its name. */
 typedef uint64_t week_test(const uint8_t *, size_t);
-typedef uint64_t converter(const uint8_t *, size_t, uint8_t *, size_t);
+typedef uint64_t converter(const uint8_t *, size_t, uint16_t, uint8_t *, size_t);
 static inline __attribute__((always_inline)) uint64_t weeks_passed(struct sheet s, week_test *test, size_t size) {
     uint64_t right = 0;
     for (uint64_t p = 0; p < s.pages; p++)
-        right += test(s.bytes + PAGE * p, size) == (size == OLD ? 1 : 2);
+        right += test(s.bytes + PAGE * p, size) == plain_edition(size);
     return right;
 }
-static inline __attribute__((always_inline)) uint64_t weeks_converted(struct sheet s, converter *convert, size_t size) {
-    static uint8_t out[NEW];
+static inline __attribute__((always_inline)) uint64_t weeks_converted(struct sheet s, converter *convert, size_t size, size_t room) {
+    static uint8_t out[DUAL];
     uint64_t done = 0;
     for (uint64_t p = 0; p < s.pages; p++)
-        done += convert(s.bytes + PAGE * p, size, out, size == OLD ? NEW : OLD) == 0;
+        done += convert(s.bytes + PAGE * p, size, 0x8001, out, room) == 0;
     return done;
 }
 static uint64_t run_plain_old_test(struct sheet s) { return weeks_passed(s, plain_week_test, OLD); }
 static uint64_t run_plain_new_test(struct sheet s) { return weeks_passed(s, plain_week_test, NEW); }
+static uint64_t run_plain_dual_test(struct sheet s) { return weeks_passed(s, plain_week_test, DUAL); }
 static uint64_t run_old_test(struct sheet s) { return weeks_passed(s, desk_week_test, OLD); }
 static uint64_t run_new_test(struct sheet s) { return weeks_passed(s, desk_week_test, NEW); }
-static uint64_t run_plain_to_new(struct sheet s) { return weeks_converted(s, plain_convert, OLD); }
-static uint64_t run_plain_to_old(struct sheet s) { return weeks_converted(s, plain_convert, NEW); }
-static uint64_t run_to_new(struct sheet s) { return weeks_converted(s, desk_convert, OLD); }
-static uint64_t run_to_old(struct sheet s) { return weeks_converted(s, desk_convert, NEW); }
+static uint64_t run_dual_test(struct sheet s) { return weeks_passed(s, desk_week_test, DUAL); }
+static uint64_t run_plain_to_new(struct sheet s) { return weeks_converted(s, plain_convert, OLD, NEW); }
+static uint64_t run_plain_to_old(struct sheet s) { return weeks_converted(s, plain_convert, NEW, OLD); }
+static uint64_t run_plain_to_dual(struct sheet s) { return weeks_converted(s, plain_convert, NEW, DUAL); }
+static uint64_t run_to_new(struct sheet s) { return weeks_converted(s, desk_convert, OLD, NEW); }
+static uint64_t run_to_old(struct sheet s) { return weeks_converted(s, desk_convert, NEW, OLD); }
+static uint64_t run_to_dual(struct sheet s) { return weeks_converted(s, desk_convert, NEW, DUAL); }
 
 struct row {
     const char *what;
@@ -267,9 +272,10 @@ static void fill_versions(struct sheet s) {
     }
 }
 
-/* Weeks that an old head and a new one can take, each other than the one before. */
+/* Weeks that a head of each edition can take, each other than the one before: behind the new ones are two keyholders. */
 static void fill_weeks(struct sheet s, int is_old) {
-    for (uint64_t p = 0; p < s.pages; p++)
+    for (uint64_t p = 0; p < s.pages; p++) {
+        plain_put(s.bytes + PAGE * p, NEW, DUAL, 3 << p % 15);
         for (unsigned k = 0; k < TIMES; k++) {
             unsigned quarter = (unsigned)(7 * p + 5 * k) % 49 + (k % 2 ? 48 : 0);
             uint8_t *week = s.bytes + PAGE * p;
@@ -278,6 +284,7 @@ static void fill_weeks(struct sheet s, int is_old) {
             else
                 plain_put(week, (int)(2 * k), (int)(2 * k + 2), QUARTER * quarter);
         }
+    }
 }
 
 static struct sheet filled(enum fill fill, uint64_t pages) {
@@ -449,8 +456,10 @@ static void time_weeks(void) {
     struct row tables[][2] = {
         {ROW("plain week test in C, old", run_plain_old_test, OLD_WEEKS), ROW("week test, old", run_old_test, OLD_WEEKS)},
         {ROW("plain week test in C, new", run_plain_new_test, NEW_WEEKS), ROW("week test, new", run_new_test, NEW_WEEKS)},
+        {ROW("plain week test in C, dual", run_plain_dual_test, NEW_WEEKS), ROW("week test, dual", run_dual_test, NEW_WEEKS)},
         {ROW("plain converter in C, old to new", run_plain_to_new, OLD_WEEKS), ROW("convert, old to new", run_to_new, OLD_WEEKS)},
         {ROW("plain converter in C, new to old", run_plain_to_old, NEW_WEEKS), ROW("convert, new to old", run_to_old, NEW_WEEKS)},
+        {ROW("plain converter in C, new to dual", run_plain_to_dual, NEW_WEEKS), ROW("convert, new to dual", run_to_dual, NEW_WEEKS)},
     };
 #undef ROW
     for (size_t i = 0; i < sizeof tables / sizeof *tables; i++)

@@ -71,31 +71,48 @@ uint64_t desk_inspect(const uint8_t *sheet, size_t sheet_len, uint64_t files);
 /* A week of opening hours has an opening and a closing for each day, Monday, which is day 1, to Sunday. Its length names the edition of the
    lock head that takes it:
 
-   DESK_OLD_WEEK  edition 1: 14 bytes, each a quarter hour, 0 to 96
-   DESK_NEW_WEEK  edition 2: 28 bytes, two a time, the lower one first: minutes, 0 to 1,440
+   DESK_OLD_WEEK   edition 1: 14 bytes, each a quarter hour, 0 to 96
+   DESK_NEW_WEEK   edition 2: 28 bytes, two a time, the lower one first: minutes, 0 to 1,440
+   DESK_DUAL_WEEK  edition 3, dual custody: 30 bytes, as edition 2, then two more, the lower one first: the mask, with a bit for each keyholder
+                   who must attend; at least two of its bits are set
 
    A closing is not below its opening; where they are equal the shop is closed. An answer that names a day has it in the bits above the
    lowest eight. */
-enum { DESK_OLD_WEEK = 14, DESK_NEW_WEEK = 28 };
+enum { DESK_OLD_WEEK = 14, DESK_NEW_WEEK = 28, DESK_DUAL_WEEK = 30 };
 #define DESK_WEEK_REFUSAL(answer) ((answer) & 255)
 #define DESK_WEEK_DAY(answer) ((answer) >> 8)
 
 /* Tests a week.
 
-   1, 2              it is a week of this edition
-   DESK_WEEK_LENGTH  week_len is neither 14 nor 28
-   DESK_WEEK_TIMES   and the day: the lowest with a time above its limit, or that closes before it opens */
+   1, 2, 3               it is a week of this edition
+   DESK_WEEK_LENGTH      week_len is not 14, 28 or 30
+   DESK_WEEK_TIMES       and the day: the lowest with a time above its limit, or that closes before it opens
+   DESK_WEEK_KEYHOLDERS  edition 3: fewer than two bits of its mask are set
+   The first of them that holds is answered. */
 uint64_t desk_week_test(const uint8_t *week, size_t week_len);
 
-/* Writes a week in the other edition at out. A quarter hour is 15 minutes; a week that is converted, and converted back, has the same bytes.
+/* Writes a week at out in another edition, which out_len names. A quarter hour is 15 minutes; a week that is converted from edition 1 to 2 or
+   from 2 to 1, and converted back, has the same bytes. There is no way back from edition 3.
 
-   DESK_CONVERTED     the week is written, and passes the test of its edition
-   DESK_WEEK_LENGTH   week_len is neither 14 nor 28, or out_len is not the other of the two
-   DESK_WEEK_TIMES    and the day, as in the test
-   DESK_WEEK_MINUTES  and the day: to edition 1, the lowest with a minute that is no whole number of quarter hours
+   mask   the keyholders who must attend, for an output of edition 3; for another it is not looked at. It has 16 bits: of a wider number C hands
+          on the lowest 16 alone
+
+   DESK_CONVERTED        the week is written, and passes the test of its edition
+   DESK_WEEK_LENGTH      week_len or out_len is not 14, 28 or 30, or they are equal
+   DESK_WEEK_DOWN        the week is of edition 3
+   DESK_WEEK_TIMES       and the day, as in the test
+   DESK_WEEK_KEYHOLDERS  to edition 3: fewer than two bits of mask are set
+   DESK_WEEK_MINUTES     and the day: to edition 1, the lowest with a minute that is no whole number of quarter hours
    The first of them that holds is answered. Unless DESK_CONVERTED is, out is untouched. */
-uint64_t desk_convert(const uint8_t *week, size_t week_len, uint8_t *out, size_t out_len);
-enum { DESK_CONVERTED = 0, DESK_WEEK_LENGTH = 15, DESK_WEEK_TIMES = 16, DESK_WEEK_MINUTES = 17 };
+uint64_t desk_convert(const uint8_t *week, size_t week_len, uint16_t mask, uint8_t *out, size_t out_len);
+enum {
+    DESK_CONVERTED = 0,
+    DESK_WEEK_LENGTH = 15,
+    DESK_WEEK_TIMES = 16,
+    DESK_WEEK_MINUTES = 17,
+    DESK_WEEK_KEYHOLDERS = 29,
+    DESK_WEEK_DOWN = 30
+};
 
 #ifdef __cplusplus
 }

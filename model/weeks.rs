@@ -5,26 +5,26 @@
 mod editions;
 mod random;
 
-use editions::{converted, tested, Edition, EDITIONS};
+use editions::{converted, edition, tested, Edition, EDITIONS};
 use random::Random;
 use std::collections::BTreeMap;
 
-const SEED: u64 = 20261117;
+const SEED: u64 = 20261118;
 const WEEKS: u64 = 400_000;
 const UNTOUCHED: u8 = 0x77;
 
 #[rustfmt::skip]
 extern "C" {
     fn desk_week_test(week: *const u8, week_len: usize) -> u64;
-    fn desk_convert(week: *const u8, week_len: usize, out: *mut u8, out_len: usize) -> u64;
+    fn desk_convert(week: *const u8, week_len: usize, mask: u16, out: *mut u8, out_len: usize) -> u64;
 }
 
 // Each of these lends the library exactly the memory of its slices.
 fn test(week: &[u8]) -> u64 {
     unsafe { desk_week_test(week.as_ptr(), week.len()) }
 }
-fn convert(week: &[u8], out: &mut [u8]) -> u64 {
-    unsafe { desk_convert(week.as_ptr(), week.len(), out.as_mut_ptr(), out.len()) }
+fn convert(week: &[u8], mask: u16, out: &mut [u8]) -> u64 {
+    unsafe { desk_convert(week.as_ptr(), week.len(), mask, out.as_mut_ptr(), out.len()) }
 }
 
 struct Trial {
@@ -61,17 +61,31 @@ impl Trial {
                 _ => self.random.pick(&[7, 14, 16, 96, 97, 255, 1440, 1441, 65535]),
             };
         }
-        let width = edition.length / 14;
-        times.into_iter().flat_map(|time| time.to_le_bytes()[..width].to_vec()).collect()
+        let mut week: Vec<u8> = times.into_iter().flat_map(|time| time.to_le_bytes()[..edition.width].to_vec()).collect();
+        if edition.has_keyholders {
+            week.extend(self.mask().to_le_bytes());
+        }
+        week
     }
 
-    /// The length of the output: the other edition's, mostly.
+    /// No keyholder, one, two, all but one, or any.
+    fn mask(&mut self) -> u16 {
+        let (one, another) = (1 << self.random.below(16), 1 << self.random.below(16));
+        match self.random.below(8) {
+            0 => 0,
+            1 | 2 => one,
+            3 | 4 => one | another,
+            5 => !one,
+            _ => self.random.below(65536) as u16,
+        }
+    }
+
+    /// The length of the output: another edition's, mostly.
     fn room(&mut self, edition: Edition) -> usize {
-        let other = EDITIONS.iter().find(|other| other.number != edition.number).unwrap();
         match self.random.below(16) {
             0 => self.random.below(65) as usize,
             1 => edition.length,
-            _ => other.length,
+            _ => self.random.pick(&EDITIONS).length,
         }
     }
 
@@ -79,11 +93,11 @@ impl Trial {
         *self.met.entry(format!("{} {} {}", what, answer % 256, answer / 256)).or_default() += 1;
     }
 
-    /// Both functions, both ways: the answers, and every byte that is lent.
-    fn is_alike(&mut self, week: &[u8], room: usize) -> bool {
+    /// Both functions: the answers, and every byte that is lent.
+    fn is_alike(&mut self, week: &[u8], mask: u16, room: usize) -> bool {
         let (mut out, mut expected) = (vec![UNTOUCHED; room], vec![UNTOUCHED; room]);
         let answer = tested(week).unwrap_or_else(|refusal| refusal.code());
-        let step = match converted(week, room) {
+        let step = match converted(week, mask, room) {
             Ok(bytes) => {
                 expected.copy_from_slice(&bytes);
                 0
@@ -91,29 +105,39 @@ impl Trial {
             Err(refusal) => refusal.code(),
         };
         self.count("test", answer);
-        self.count(if week.len() == 14 { "old to new" } else { "new to old" }, step);
-        let (got, made) = (test(week), convert(week, &mut out));
+        if let (Some(from), Some(to)) = (edition(week.len()), edition(room)) {
+            self.count(&format!("{} to {}", from.number, to.number), step);
+        } else {
+            self.count("another length", step);
+        }
+        let (got, made) = (test(week), convert(week, mask, &mut out));
         let is_alike = got == answer && made == step && out == expected;
         if !is_alike {
-            println!("{:?} to {} bytes: {} not {}, {} not {}, {:?} not {:?}", week, room, got, answer, made, step, out, expected);
+            println!("{:?} to {} bytes with {:#x}: {} not {}, {} not {}, {:?} not {:?}", week, room, mask, got, answer, made, step, out, expected);
         }
         is_alike
     }
 
+    /// Each answer of each function, with each day, came; and a pair of editions has no others.
     fn is_met(&self) -> bool {
         let days = |what: &str, refusal: u64| (1..=7).map(|day| format!("{} {} {}", what, refusal, day)).collect::<Vec<_>>();
-        let mut wanted: Vec<String> =
-            ["test 1 0", "test 2 0", "test 15 0", "old to new 0 0", "new to old 0 0"].map(str::to_string).to_vec();
-        wanted.extend(days("test", 16));
-        wanted.extend(days("old to new", 16));
-        wanted.extend(days("new to old", 16));
-        wanted.extend(days("new to old", 17));
-        wanted.extend(["old to new 15 0", "new to old 15 0"].map(str::to_string));
+        let plain = |answers: &[&str]| answers.iter().map(|answer| answer.to_string()).collect::<Vec<_>>();
+        let mut wanted = plain(&["test 1 0", "test 2 0", "test 3 0", "test 15 0", "test 29 0", "another length 15 0"]);
+        wanted.extend(plain(&["1 to 1 15 0", "2 to 2 15 0", "3 to 3 15 0", "3 to 1 30 0", "3 to 2 30 0"]));
+        wanted.extend(plain(&["1 to 2 0 0", "2 to 1 0 0", "1 to 3 0 0", "2 to 3 0 0", "1 to 3 29 0", "2 to 3 29 0"]));
+        for what in ["test", "1 to 2", "2 to 1", "1 to 3", "2 to 3"] {
+            wanted.extend(days(what, 16));
+        }
+        wanted.extend(days("2 to 1", 17));
+        let others: Vec<&String> = self.met.keys().filter(|answer| !wanted.contains(answer)).collect();
+        if !others.is_empty() {
+            println!("not to be met: {:?}", others);
+        }
         let missing: Vec<&String> = wanted.iter().filter(|answer| !self.met.contains_key(*answer)).collect();
         if !missing.is_empty() {
             println!("never met: {:?}", missing);
         }
-        missing.is_empty()
+        missing.is_empty() && others.is_empty()
     }
 }
 
@@ -123,11 +147,11 @@ fn main() {
     let mut trial = Trial { random: Random::new(seed), met: BTreeMap::new() };
     for number in 0..weeks {
         let edition = trial.random.pick(&EDITIONS);
-        let (mut week, room) = (trial.week(edition), trial.room(edition));
+        let (mut week, mask, room) = (trial.week(edition), trial.mask(), trial.room(edition));
         if trial.random.once_in(50) {
             week.resize(trial.random.below(65) as usize, 0);
         }
-        if !trial.is_alike(&week, room) {
+        if !trial.is_alike(&week, mask, room) {
             println!("FAILED: seed {}, week {}", seed, number);
             std::process::exit(1);
         }

@@ -39,12 +39,15 @@ cat >"$root/other.c" <<'END'
 #include <desk.h>
 #include <stdio.h>
 int main(void) {
-    static uint8_t sheet[DESK_PAGE], week[DESK_NEW_WEEK];
-    return printf("%d %d\n", (int)desk_inspect(sheet, sizeof sheet, 8), (int)desk_week_test(week, sizeof week)) < 0;
+    static uint8_t sheet[DESK_PAGE], week[DESK_NEW_WEEK], dual[DESK_DUAL_WEEK];
+    int lawful = (int)desk_inspect(sheet, sizeof sheet, 8), edition = (int)desk_week_test(week, sizeof week);
+    int refusal = (int)desk_convert(week, sizeof week, 0x8000, dual, sizeof dual);
+    int converted = (int)desk_convert(week, sizeof week, 0x8001, dual, sizeof dual);
+    return printf("%d %d %d %d %d\n", lawful, edition, refusal, converted, (int)desk_week_test(dual, sizeof dual)) < 0;
 }
 END
 gcc -Wall -Wextra -Werror -I"$there/include" -o "$root/other" "$root/other.c" -L"$there/lib" -ldesk
-same "the header and the library" "0 2" "$("$root/other")"
+same "the header and the library" "0 2 29 0 3" "$("$root/other")"
 same "the manual page" ".TH SHEET 1" "$(head -n 1 "$there/share/man/man1/sheet.1" | cut -c 1-11)"
 
 rm -f "$root/new" "$root/other" "$root/other.c"

@@ -72,11 +72,12 @@ pub week-told : (s : List ℕ) (a v : WeekTest) → a ≡ weekTest s → a ≡ v
 unfolding weekTestedFor
 week-told s a v e h = ap testCode (sym h ∙ e)
 
-pub convert-answer : (s out left : List ℕ) {a v : Conversion} → _≡_ {A = Conversion × List ℕ} (a, left) (converted s out) → a ≡ v → converted s out .0 ≡ v
-convert-answer s out left e h = sym (ap (λ (r : Conversion × List ℕ). r .0) e) ∙ h
+pub convert-answer : (s : List ℕ) (m : ℕ) (out left : List ℕ) {a v : Conversion} → _≡_ {A = Conversion × List ℕ} (a, left) (converted s m out) → a ≡ v
+    → converted s m out .0 ≡ v
+convert-answer s m out left e h = sym (ap (λ (r : Conversion × List ℕ). r .0) e) ∙ h
 
-pub convert-told : (s out left : List ℕ) (a v : Conversion) → _≡_ {A = Conversion × List ℕ} (a, left) (converted s out) → a ≡ v
-    → {n : ℕ} → n ≡ conversionCode v → _≡_ {A = ℕ × List ℕ} (n, left) (convertedFor s out)
+pub convert-told : (s : List ℕ) (m : ℕ) (out left : List ℕ) (a v : Conversion) → _≡_ {A = Conversion × List ℕ} (a, left) (converted s m out) → a ≡ v
+    → {n : ℕ} → n ≡ conversionCode v → _≡_ {A = ℕ × List ℕ} (n, left) (convertedFor s m out)
 unfolding convertedFor
-convert-told s out left a v e h i =
-    ap₂ (λ (k : ℕ) (t : List ℕ). (k, t)) (i ∙ ap conversionCode (sym (convert-answer s out left e h))) (ap (λ (r : Conversion × List ℕ). r .1) e)
+convert-told s m out left a v e h i =
+    ap₂ (λ (k : ℕ) (t : List ℕ). (k, t)) (i ∙ ap conversionCode (sym (convert-answer s m out left e h))) (ap (λ (r : Conversion × List ℕ). r .1) e)

@@ -40,5 +40,5 @@ inspectedFor s files = cond (eqb (inspectNumber (inspected s files)) 0) (inspect
 unfoldable pub weekTestedFor : List ℕ → ℕ
 weekTestedFor s = testCode (weekTest s)
 
-unfoldable pub convertedFor : List ℕ → List ℕ → ℕ × List ℕ
-convertedFor s out = (conversionCode (converted s out .0), converted s out .1)
+unfoldable pub convertedFor : List ℕ → ℕ → List ℕ → ℕ × List ℕ
+convertedFor s m out = (conversionCode (converted s m out .0), converted s m out .1)

@@ -136,6 +136,8 @@ fn refusal_code(refusal: Refusal) -> u64
         Refusal::Length => 15,
         Refusal::Times(day) => 16 + 256 * day,
         Refusal::Minutes(day) => 17 + 256 * day,
+        Refusal::Keyholders => 29,
+        Refusal::StepDown => 30,
     }
 }
 
@@ -151,12 +153,12 @@ pub extern "C" fn desk_week_test(week: &[u8]) -> u64
     }
 }
 
-// Writes a week in the other edition: 0, or a refusal.
+// Writes a week in the other edition, with the mask where that has one: 0, or a refusal.
 #[no_mangle]
-pub extern "C" fn desk_convert(week: &[u8], out: &mut [u8]) -> u64
-    ensures { λ r. ⌜ (r, now (out .exit)) ≡ convertedFor (now (week .entry)) (now (out .entry)) ⌝ }
+pub extern "C" fn desk_convert(week: &[u8], mask: u16, out: &mut [u8]) -> u64
+    ensures { λ r. ⌜ (r, now (out .exit)) ≡ convertedFor (now (week .entry)) mask (now (out .entry)) ⌝ }
 {
-    let answer = weeks::convert(week, out);
+    let answer = weeks::convert(week, mask, out);
     match answer {
         Conversion::Converted => 0,
         Conversion::Refused(refusal) => refusal_code(refusal),

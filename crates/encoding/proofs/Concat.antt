@@ -30,7 +30,7 @@ pub run-within : (w k n : ℕ) → k < n → w * k + w ≤ w * n
 run-within w k n h = let m : w * suc k ≤ w * n = mul-le-mul-left w h in omega (arith, mul-suc w k)
 
 -- a part of a run, with more behind the run
-part-in-front : (at w : ℕ) (s more : List ℕ) → at + w ≤ length s → take w (drop at (s ++ more)) ≡ take w (drop at s)
+pub part-in-front : (at w : ℕ) (s more : List ℕ) → at + w ≤ length s → take w (drop at (s ++ more)) ≡ take w (drop at s)
 part-in-front at w s more h =
     let d : at ≤ length s = omega arith in
     let t : w ≤ length (drop at s) = simp length-drop (omega arith) in
@@ -71,9 +71,3 @@ unfolding concat
 concat-turn w k out next f e h =
     let more : w * suc k ≡ w * k + w = mul-suc w k in
     rw (add-one k, more) (h ∙ ap (λ (t : List ℕ). t ++ f k) e)
-
--- and the last one fills the run
-pub concat-end : (w k n : ℕ) (out : List ℕ) (f : ℕ → List ℕ) → n ≤ k → k ≤ n → length out ≡ w * n → take (w * k) out ≡ concat k f → out ≡ concat n f
-concat-end w k n out f h l long e =
-    let same : k ≡ n = omega arith in
-    sym (take-all (w * n) out (omega arith)) ∙ rw same at e

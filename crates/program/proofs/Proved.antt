@@ -8,7 +8,7 @@ use lib.ListN.{length, take, drop}
 use lib.Seq.{length-take-le}
 use borrow.Author.Tests.{eq-eqb}
 use Rattle.encoding.proofs.Logic.{by-test}
-use Rattle.page.specs.Layout.{pageSize, mostFiles}
+use Rattle.page.specs.Layout.{mostFiles}
 use Rattle.recovery.specs.World.{sizes, isFile}
 use Rattle.recovery.specs.Lent.{rowLength, sizesRight}
 use Rattle.recovery.proofs.Sizes.{sizes-right}

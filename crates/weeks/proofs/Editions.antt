@@ -11,9 +11,10 @@ use Rattle.encoding.proofs.Logic.{clash}
 use Rattle.encoding.proofs.Concat.{run-within}
 use Rattle.weeks.specs.declared.Edition.{Edition}
 use Rattle.weeks.specs.declared.Named.the-variants.{Known}
-use Rattle.weeks.specs.Editions.{timesAWeek, first, second, editions, size, namedIn, named, IsEdition}
+use Rattle.weeks.specs.Editions.{timesAWeek, first, second, third, editions, size, namedIn, named, IsEdition}
 
--- its number is below every refusal's; a time has one byte or two, and the limit fits them; a unit is one minute or 15; the limit is a day's 1,440 minutes
+-- its number is below every refusal's; a time has one byte or two, and the limit fits them; a unit is one minute or 15; the limit is a
+-- day's 1,440 minutes; the third alone has a mask
 pub record Sound (e : Edition) : Type 0 where
   pub low-number : e .number ≤ 14
   pub some-byte : 0 < e .width
@@ -23,6 +24,7 @@ pub record Sound (e : Edition) : Type 0 where
   pub few : e .minutes ≤ 15
   pub unit : (e .minutes ≡ 1 → ⊥) → e .minutes ≡ 15
   pub day : e .minutes * e .limit ≡ 1440
+  pub masked : (e .mask ≡ 0 → ⊥) → e ≡ third
 
 abbrev AllSound : List Edition → Type 0
 AllSound [] = Unit {0}
@@ -31,10 +33,12 @@ AllSound (e ∷ es) = Sound e × AllSound es
 all-sound : AllSound editions
 all-sound =
     let one : Sound first =
-    record { low-number = omega arith; some-byte = omega arith; narrow = omega arith; fits = omega arith; some = omega arith; few = omega arith; unit = λ h. refl; day = refl } in
+    record { low-number = omega arith; some-byte = omega arith; narrow = omega arith; fits = omega arith; some = omega arith; few = omega arith; unit = λ h. refl; day = refl; masked = λ h. absurd (h refl) } in
     let two : Sound second =
-    record { low-number = omega arith; some-byte = omega arith; narrow = omega arith; fits = omega arith; some = omega arith; few = omega arith; unit = λ h. absurd (h refl); day = refl } in
-    (one, (two, tt))
+    record { low-number = omega arith; some-byte = omega arith; narrow = omega arith; fits = omega arith; some = omega arith; few = omega arith; unit = λ h. absurd (h refl); day = refl; masked = λ h. absurd (h refl) } in
+    let three : Sound third =
+    record { low-number = omega arith; some-byte = omega arith; narrow = omega arith; fits = omega arith; some = omega arith; few = omega arith; unit = λ h. absurd (h refl); day = refl; masked = λ h. refl } in
+    (one, (two, (three, tt)))
 
 found-in : (es : List Edition) (n : ℕ) (e : Edition) → AllSound es → namedIn es n ≡ Known e → Sound e × (n ≡ size e)
 unfolding namedIn
@@ -67,11 +71,21 @@ second-edition {e} h = subst IsEdition (sym h) refl
 -- time k lies within the week
 pub time-within : (e : Edition) (k : ℕ) → k < timesAWeek → e .width * k + e .width ≤ size e
 unfolding size
-time-within e k l = run-within (e .width) k timesAWeek l
+time-within e k l = omega (arith, run-within (e .width) k timesAWeek l)
 
 pub time-small : {e : Edition} → IsEdition e → (k : ℕ) → k < timesAWeek → e .width * k + e .width ≤ 28
+time-small {e} h k l = omega (arith, run-within (e .width) k timesAWeek l, sound h .narrow)
+
+-- a mask has two bytes, and lies behind the times
+pub two-masked : {e : Edition} → IsEdition e → (e .mask ≡ 0 → ⊥) → e .mask ≡ 2
+two-masked h l = ap (λ (e : Edition). e .mask) (sound h .masked l)
+
+pub mask-within : {e : Edition} → IsEdition e → (e .mask ≡ 0 → ⊥) → e .width * timesAWeek + 2 ≡ size e
 unfolding size
-time-small {e} h k l = omega (arith, time-within e k l, sound h .narrow)
+mask-within h l = omega (arith, two-masked h l)
+
+pub mask-small : {e : Edition} → IsEdition e → e .width * timesAWeek ≤ 28
+mask-small h = omega (arith, sound h .narrow)
 
 -- a time in minutes
 pub minutes-small : {e : Edition} → IsEdition e → (t : ℕ) → t < 65536 → e .minutes * t < 1048576

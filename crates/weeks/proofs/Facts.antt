@@ -1,148 +1,196 @@
--- The converter's promises. Assumes nothing.
+-- The promises of the week test and of the converter. Assumes nothing.
 use Prim.Native.Nat.{ℕ, _%_, _≤_, _<_}
 use mathlib.Core.Path.{_≡_, refl, sym, ap, subst, _∙_}
-use mathlib.Core.Bool.{Bool, true, false, cond}
-use mathlib.Core.List.{List}
+use mathlib.Core.Bool.{Bool, true, false, _||_, cond}
+use mathlib.Core.List.{List, _++_, append-nil}
 use native.Mathlib.Omega.{arith}
-use borrow.Author.Tests.{eqb-true, eqb-false}
-use lib.Dec.{eqb}
-use lib.ListN.{length}
-use Rattle.encoding.specs.Bytes.{AreBytes}
-use Rattle.encoding.proofs.Logic.{by-test, clash}
+use native.Mathlib.Nat.{mul-div-right}
+use borrow.Author.Tests.{eqb-true, eqb-false, eq-eqb, le-leb}
+use lib.Dec.{eqb, leb}
+use lib.Count.{ones}
+use lib.ListN.{length, take}
+use lib.Seq.{take-all, drop-at}
+use Rattle.encoding.specs.Bytes.{AreBytes, number, bytes}
+use Rattle.encoding.proofs.Logic.{clash}
+use Rattle.encoding.proofs.Lowest.{lowest-is}
+use Rattle.encoding.proofs.Numbers.{number-bytes}
 use Rattle.weeks.specs.declared.Edition.{Edition}
 use Rattle.weeks.specs.declared.Named.{Named}
 use Rattle.weeks.specs.declared.Named.the-variants.{Known, Unknown}
-use Rattle.weeks.specs.declared.Refusal.{Refusal}
-use Rattle.weeks.specs.declared.Refusal.the-variants.{Length, Times, Minutes}
+use Rattle.weeks.specs.declared.Refusal.the-variants.{Length, Times, StepDown}
 use Rattle.weeks.specs.declared.WeekTest as test
-use Rattle.weeks.specs.declared.WeekTest.{WeekTest}
 use Rattle.weeks.specs.declared.Conversion as conversion
 use Rattle.weeks.specs.declared.Conversion.{Conversion}
-use Rattle.weeks.specs.Editions.{daysAWeek, timesAWeek, named, onKnown}
-use Rattle.weeks.specs.Weeks.{minute, wrongDay, unevenDay, lowestDay, inEdition}
-use Rattle.weeks.specs.Answers.{testedBy, weekTest, refused, convertedBy, converted, refusalDay}
+use Rattle.weeks.specs.Editions.{daysAWeek, timesAWeek, second, third, size, namedIn, named, onKnown}
+use Rattle.weeks.specs.Weeks.{time, minute, wrongDay, unevenDay, lowestDay, keyholders, enoughKeyholders, timeIn, timesIn, inEdition}
+use Rattle.weeks.specs.Answers.{weekTest, refused, convertedBy, converted}
 use Rattle.weeks.specs.Facts.{Facts}
 use Rattle.weeks.proofs.Editions.{Sound, sound, is-edition, length-named}
-use Rattle.encoding.proofs.Lowest.{lowest-is, lowest-within}
-use Rattle.weeks.proofs.Lines.{test-wrong, test-week, step-done, convert-unknown, convert-no-output, convert-same, convert-by}
-use Rattle.weeks.proofs.Written.{no-uneven, minute-there, right-there, all-even-there, bytes-back, length-there}
+use Rattle.weeks.proofs.Lines.{test-wrong, test-week, step-down, convert-by}
+use Rattle.weeks.proofs.Refused.{converter-refuses, tester-refuses}
+use Rattle.weeks.proofs.Steps.{Accepts, Passed, Step, step, passed-by, leaves, from-sound, to-sound, length-to, names-to, right-to, same-edition}
+use Rattle.weeks.proofs.ThirdTest.{third-exactly, third-as-second}
+use Rattle.weeks.proofs.TwoBits.{two-bits}
+use Rattle.weeks.proofs.Written.{no-uneven, minute-there, all-even-there, bytes-back, length-times, times-bytes}
 
-abbrev Accepts : Conversion × List ℕ → Type 0
-Accepts r = r .0 ≡ conversion.Conversion.Converted
+-- ---- masks
 
-not-refused : (r : Refusal) (out : List ℕ) → Accepts (refused r out) → ⊥
-not-refused r out h = clash cc
+second-named : (n : ℕ) → n ≡ size second → named n ≡ Known second
+unfolding named namedIn size
+second-named n long = rw long
 
--- ---- an accepted step
+third-named : (n : ℕ) → n ≡ size third → named n ≡ Known third
+unfolding named namedIn size
+third-named n long = rw long
 
--- it passed every check
-pub record Passed (e o : Edition) (s : List ℕ) : Type 0 where
-  pub right : lowestDay (wrongDay e s) ≡ 0
-  pub even : lowestDay (unevenDay e o s) ≡ 0
-
--- one check that refuses
-check-passed : (b : Bool) (x : Conversion × List ℕ) (r : Refusal) (out : List ℕ) → Accepts (cond b x (refused r out)) → (b ≡ true) × Accepts x
-check-passed true x r out h = (refl, h)
-check-passed false x r out h = absurd (not-refused r out h)
-
-step-passed : (e o : Edition) (s out : List ℕ) → Accepts (convertedBy e o s out) → Passed e o s
-unfolding convertedBy
-step-passed e o s out h =
-    let q = check-passed (eqb (lowestDay (wrongDay e s)) 0) _ (Times (lowestDay (wrongDay e s))) out h in
-    let t = check-passed (eqb (lowestDay (unevenDay e o s)) 0) _ (Minutes (lowestDay (unevenDay e o s))) out (q .1) in
-    record { right = eqb-true _ _ (q .0); even = eqb-true _ _ (t .0) }
-
--- its two editions, and what it leaves
-pub record Step (s out : List ℕ) : Type 0 where
-  pub from : Edition
-  pub to : Edition
-  pub is-from : named (length s) ≡ Known from
-  pub is-to : named (length out) ≡ Known to
-  pub differ : length s ≡ length out → ⊥
-  pub passed : Passed from to s
-  pub leaves : converted s out ≡ (conversion.Conversion.Converted, inEdition from to s)
-
-step : (s out : List ℕ) → Accepts (converted s out) → Step s out
-step s out h = known-from (named (length s)) refl
+-- only weeks of 30 bytes have a mask
+unmasked : (n : ℕ) {e : Edition} → named n ≡ Known e → (n ≡ size third → ⊥) → e .mask ≡ 0
+unmasked n {e} k other = go (eqb (e .mask) 0) refl
   where
-    refusal : refused Length out ≡ converted s out → ⊥
-    refusal e = not-refused Length out (ap (λ (r : Conversion × List ℕ). r .0) e ∙ h)
+    go : (b : Bool) → eqb (e .mask) 0 ≡ b → e .mask ≡ 0
+    go true t = eqb-true (e .mask) 0 t
+    go false t = absurd (other (length-named n k ∙ ap size (sound (is-edition n k) .masked (eqb-false (e .mask) 0 t))))
 
-    both : (e o : Edition) → named (length s) ≡ Known e → named (length out) ≡ Known o → (b : Bool) → eqb (length s) (length out) ≡ b → Step s out
-    both e o n k true t = absurd (refusal (convert-same s out n k (eqb-true _ _ t)))
-    both e o n k false t =
-        let d : length s ≡ length out → ⊥ = eqb-false (length s) (length out) t in
-        let i : convertedBy e o s out ≡ converted s out = convert-by s out n k d in
-        let p : Passed e o s = step-passed e o s out (ap (λ (r : Conversion × List ℕ). r .0) i ∙ h) in
-        record {
-          from = e;
-          to = o;
-          is-from = n;
-          is-to = k;
-          differ = d;
-          passed = p;
-          leaves = sym i ∙ sym (step-done e o s out refl (p .right) refl (p .even) refl);
-        }
+no-mask : (o : Edition) (m : ℕ) → o .mask ≡ 0 → enoughKeyholders o m ≡ true
+unfolding enoughKeyholders
+no-mask o m none = ap (λ (b : Bool). b || leb 2 (ones m)) (eq-eqb (o .mask) 0 none)
 
-    known-to : (e : Edition) → named (length s) ≡ Known e → (n : Named) → named (length out) ≡ n → Step s out
-    known-to e n Unknown k = absurd (refusal (convert-no-output s out n k))
-    known-to e n (Known o) k = both e o n k (eqb (length s) (length out)) refl
+-- the mask that was put behind the times is found again
+mask-there : (e : Edition) (s : List ℕ) (m : ℕ) → m < 65536 → keyholders third (inEdition e third s m) ≡ m
+unfolding keyholders inEdition
+mask-there e s m h =
+    ap (λ (t : List ℕ). number (take 2 t)) (drop-at (timesIn e third s) (bytes 2 m) 28 (length-times e third s)) ∙ number-bytes 2 m (omega arith)
 
-    known-from : (n : Named) → named (length s) ≡ n → Step s out
-    known-from Unknown n = absurd (refusal (convert-unknown s out n))
-    known-from (Known e) n = known-to e n (named (length out)) refl
+enough-there : (e o : Edition) → Sound o → (s : List ℕ) (m : ℕ) → m < 65536 → enoughKeyholders o m ≡ true
+    → enoughKeyholders o (keyholders o (inEdition e o s m)) ≡ true
+enough-there e o ho s m small h = go (eqb (o .mask) 0) refl
+  where
+    go : (b : Bool) → eqb (o .mask) 0 ≡ b → enoughKeyholders o (keyholders o (inEdition e o s m)) ≡ true
+    go true t = no-mask o (keyholders o (inEdition e o s m)) (eqb-true (o .mask) 0 t)
+    go false t =
+        let same : third ≡ o = sym (ho .masked (eqb-false (o .mask) 0 t)) in
+        subst (λ (x : Edition). enoughKeyholders x (keyholders x (inEdition e x s m)) ≡ true) same
+        (ap (enoughKeyholders third) (mask-there e s m small) ∙ subst (λ (x : Edition). enoughKeyholders x m ≡ true) (sym same) h)
 
-module _ {s out : List ℕ} (p : Step s out) where
-  leaves-bytes : converted s out .1 ≡ inEdition (p .from) (p .to) s
-  leaves-bytes = ap (λ (r : Conversion × List ℕ). r .1) (p .leaves)
+-- ---- there and back
 
-  from-sound : Sound (p .from)
-  from-sound = sound (is-edition _ (p .is-from))
-
-  to-sound : Sound (p .to)
-  to-sound = sound (is-edition _ (p .is-to))
-
-  -- what it leaves is a week of the other edition, by its length and by its days
-  names-to : named (length (inEdition (p .from) (p .to) s)) ≡ Known (p .to)
-  names-to = ap named (length-there (p .from) (p .to) s ∙ sym (length-named _ (p .is-to))) ∙ p .is-to
-
-  right-to : lowestDay (wrongDay (p .to) (inEdition (p .from) (p .to) s)) ≡ 0
-  right-to = right-there (p .from) (p .to) from-sound to-sound s (p .passed .right) (p .passed .even)
-
--- a length names one edition
-same-edition : {n : Named} {x y : Edition} → n ≡ Known x → n ≡ Known y → x ≡ y
-same-edition h k = cc
-
--- ---- the promises
-
-there-and-back : (s out again : List ℕ) → AreBytes s → length again ≡ length s → Accepts (converted s out)
-    → converted (converted s out .1) again ≡ (conversion.Conversion.Converted, s)
-there-and-back s out again b l h =
-    let p : Step s out = step s out h in
+there-and-back : (s out again : List ℕ) (m m′ : ℕ) → AreBytes s → length again ≡ length s → (length out ≡ size third → ⊥) → Accepts (converted s m out)
+    → converted (converted s m out .1) m′ again ≡ (conversion.Conversion.Converted, s)
+there-and-back s out again m m′ b l other h =
+    let p : Step s m out = step s m out h in
     let e : Edition = p .from in
-    let t : List ℕ = inEdition e (p .to) s in
-    let other : length t ≡ length again → ⊥ = λ z. p .differ (sym (sym (length-there e (p .to) s ∙ sym (length-named _ (p .is-to))) ∙ z ∙ l)) in
-    ap (λ (x : List ℕ). converted x again) (leaves-bytes p)
-    ∙ sym (convert-by t again (names-to p) (ap named l ∙ p .is-from) other)
-    ∙ sym (step-done (p .to) e t again refl (right-to p) refl (all-even-there e (p .to) (from-sound p) (to-sound p) s (p .passed .right) (p .passed .even)) refl)
-    ∙ ap (λ (x : List ℕ). (conversion.Conversion.Converted, x)) (bytes-back e (p .to) (from-sound p) (to-sound p) s (p .passed .right) (p .passed .even) b (length-named _ (p .is-from)))
+    let zero-to : p .to .mask ≡ 0 = unmasked _ (p .is-to) other in
+    let zero-from : e .mask ≡ 0 = omega (arith, p .passed .up) in
+    let way-back : Passed (p .to) e (inEdition e (p .to) s m) m′ = record {
+      up = omega arith;
+      right = right-to p;
+      enough = no-mask e m′ zero-from;
+      even = all-even-there e (p .to) (from-sound p) (to-sound p) s m (p .passed .right) (p .passed .even);
+    } in
+    ap (λ (x : List ℕ). converted x m′ again) (leaves p)
+    ∙ passed-by (inEdition e (p .to) s m) m′ again (names-to p) (ap named l ∙ p .is-from) (λ z. p .differ (sym (sym (length-to p) ∙ z ∙ l))) way-back
+    ∙ ap (λ (x : List ℕ). (conversion.Conversion.Converted, x)) (bytes-back e (p .to) (from-sound p) (to-sound p) s m (p .passed .right) (p .passed .even) b (length-named _ (p .is-from)) zero-from m′)
 
-passes-test : (o : Edition) (s out : List ℕ) → named (length out) ≡ Known o → Accepts (converted s out)
-    → weekTest (converted s out .1) ≡ test.WeekTest.Week (o .number)
-passes-test o s out k h =
-    let p : Step s out = step s out h in
-    ap weekTest (leaves-bytes p)
-    ∙ sym (test-week (p .to) (inEdition (p .from) (p .to) s) (names-to p) refl (right-to p))
+down-refused : (o : Edition) (s out : List ℕ) (m : ℕ) → length s ≡ size third → named (length out) ≡ Known o → (length s ≡ length out → ⊥)
+    → converted s m out ≡ refused StepDown out
+down-refused o s out m long k d =
+    let none : o .mask ≡ 0 = unmasked _ k (λ z. d (long ∙ sym z)) in
+    sym (step-down third o s m out (omega arith) ∙ convert-by s m out (third-named _ long) k d)
+
+-- ---- what is converted
+
+passes-test : (o : Edition) (s out : List ℕ) (m : ℕ) → m < 65536 → named (length out) ≡ Known o → Accepts (converted s m out)
+    → weekTest (converted s m out .1) ≡ test.WeekTest.Week (o .number)
+passes-test o s out m small k h =
+    let p : Step s m out = step s m out h in
+    ap weekTest (leaves p)
+    ∙ sym (test-week (p .to) (inEdition (p .from) (p .to) s m) (names-to p) refl (right-to p)
+    (enough-there (p .from) (p .to) (to-sound p) s m small (p .passed .enough)))
     ∙ ap (λ (x : Edition). test.WeekTest.Week (x .number)) (same-edition (p .is-to) k)
 
-keeps-minutes : (e o : Edition) (s out : List ℕ) → named (length s) ≡ Known e → named (length out) ≡ Known o
-    → Accepts (converted s out) → (i : ℕ) → i < timesAWeek → minute o (converted s out .1) i ≡ minute e s i
-keeps-minutes e o s out n k h i l =
-    let p : Step s out = step s out h in
-    ap (λ (x : List ℕ). minute o x i) (leaves-bytes p)
-    ∙ ap (λ (x : Edition). minute x (inEdition (p .from) (p .to) s) i) (sym (same-edition (p .is-to) k))
-    ∙ minute-there (p .from) (p .to) (from-sound p) (to-sound p) s (p .passed .right) (p .passed .even) i l
+keeps-minutes : (e o : Edition) (s out : List ℕ) (m : ℕ) → named (length s) ≡ Known e → named (length out) ≡ Known o
+    → Accepts (converted s m out) → (i : ℕ) → i < timesAWeek → minute o (converted s m out .1) i ≡ minute e s i
+keeps-minutes e o s out m n k h i l =
+    let p : Step s m out = step s m out h in
+    ap (λ (x : List ℕ). minute o x i) (leaves p)
+    ∙ ap (λ (x : Edition). minute x (inEdition (p .from) (p .to) s m) i) (sym (same-edition (p .is-to) k))
+    ∙ minute-there (p .from) (p .to) (from-sound p) (to-sound p) s m (p .passed .right) (p .passed .even) i l
     ∙ ap (λ (x : Edition). minute x s i) (same-edition (p .is-from) n)
+
+-- a step to edition 3
+module _ (s out : List ℕ) (m : ℕ) (long : length out ≡ size third) (h : Accepts (converted s m out)) where
+  p : Step s m out
+  p = step s m out h
+
+  to-third : p .to ≡ third
+  to-third = same-edition (p .is-to) (third-named _ long)
+
+  passed-third : Passed (p .from) third s m
+  passed-third = subst (λ (x : Edition). Passed (p .from) x s m) to-third (p .passed)
+
+  leaves-third : converted s m out .1 ≡ inEdition (p .from) third s m
+  leaves-third = leaves p ∙ ap (λ (x : Edition). inEdition (p .from) x s m) to-third
+
+  keeps-mask : m < 65536 → keyholders third (converted s m out .1) ≡ m
+  keeps-mask small = ap (keyholders third) leaves-third ∙ mask-there (p .from) s m small
+
+  -- from edition 2 the times stay
+  from-second : AreBytes s → length s ≡ size second → timesIn (p .from) third s ≡ s
+  unfolding timesIn timeIn size
+  from-second b l =
+      let same : p .from ≡ second = same-edition (p .is-from) (second-named _ l) in
+      ap (λ (x : Edition). timesIn x third s) same
+      ∙ times-bytes second s b l (timeIn second third s) (λ k i. ap (bytes 2) (mul-div-right (time second s k) (omega arith)))
+      ∙ take-all 28 s (omega arith)
+
+  -- from another they are those of edition 2
+  by-second : (mid : List ℕ) (m′ : ℕ) → length mid ≡ size second → (length s ≡ size second → ⊥) → converted s m′ mid .1 ≡ timesIn (p .from) third s
+  unfolding inEdition timesIn timeIn unevenDay
+  by-second mid m′ l other =
+      let none : p .from .mask ≡ 0 = unmasked _ (p .is-from) (λ z. p .differ (z ∙ sym long)) in
+      let passed : Passed (p .from) second s m′ = record {
+        up = omega arith;
+        right = passed-third .right;
+        enough = no-mask second m′ refl;
+        even = passed-third .even;
+      } in
+      ap (λ (r : Conversion × List ℕ). r .1) (passed-by s m′ mid (p .is-from) (second-named _ l) (λ z. other (z ∙ l)) passed)
+      ∙ append-nil (timesIn (p .from) second s)
+
+  goes-up : (mid : List ℕ) (m′ : ℕ) → AreBytes s → length mid ≡ size second
+      → converted s m out .1 ≡ cond (eqb (length s) (size second)) s (converted s m′ mid .1) ++ bytes (third .mask) m
+  unfolding inEdition
+  goes-up mid m′ b l = leaves-third ∙ ap (λ (t : List ℕ). t ++ bytes 2 m) (go (eqb (length s) (size second)) refl)
+    where
+      go : (c : Bool) → eqb (length s) (size second) ≡ c → timesIn (p .from) third s ≡ cond c s (converted s m′ mid .1)
+      go true t = from-second b (eqb-true _ _ t)
+      go false t = sym (by-second mid m′ l (eqb-false _ _ t))
+
+-- ---- the mask is not looked at
+
+step-unread : (e o : Edition) (s out : List ℕ) (m m′ : ℕ) → o .mask ≡ 0 → convertedBy e o s m out ≡ convertedBy e o s m′ out
+unfolding convertedBy inEdition
+step-unread e o s out m m′ none =
+    let same : bytes (o .mask) m ≡ bytes (o .mask) m′ = rw none refl in
+    rw (no-mask o m none, no-mask o m′ none, same)
+
+mask-unread : (s out : List ℕ) (m m′ : ℕ) → (length out ≡ size third → ⊥) → converted s m out ≡ converted s m′ out
+unfolding converted
+mask-unread s out m m′ other = from (named (length s))
+  where
+    to : (e : Edition) (n : Named) → named (length out) ≡ n
+        → onKnown n (λ (o : Edition). cond (eqb (length s) (length out)) (refused Length out) (convertedBy e o s m out)) (refused Length out)
+        ≡ onKnown n (λ (o : Edition). cond (eqb (length s) (length out)) (refused Length out) (convertedBy e o s m′ out)) (refused Length out)
+    to e (Known o) k = ap (λ (x : Conversion × List ℕ). cond (eqb (length s) (length out)) (refused Length out) x) (step-unread e o s out m m′ (unmasked _ k other))
+    to e Unknown k = refl
+
+    from : (n : Named)
+        → onKnown n (λ (e : Edition). onKnown (named (length out)) (λ (o : Edition). cond (eqb (length s) (length out)) (refused Length out) (convertedBy e o s m out)) (refused Length out)) (refused Length out)
+        ≡ onKnown n (λ (e : Edition). onKnown (named (length out)) (λ (o : Edition). cond (eqb (length s) (length out)) (refused Length out) (convertedBy e o s m′ out)) (refused Length out)) (refused Length out)
+    from (Known e) = to e (named (length out)) refl
+    from Unknown = refl
+
+-- ---- what is accepted
 
 -- a week of edition e that passes has no wrong day
 passed-right : (e : Edition) (s : List ℕ) → named (length s) ≡ Known e → weekTest s ≡ test.WeekTest.Week (e .number) → lowestDay (wrongDay e s) ≡ 0
@@ -152,67 +200,39 @@ passed-right e s n h = go (eqb (lowestDay (wrongDay e s)) 0) refl
     go true t = eqb-true _ _ t
     go false t = let q : test.WeekTest.Refused (Times (lowestDay (wrongDay e s))) ≡ test.WeekTest.Week (e .number) = test-wrong e s n refl (eqb-false _ _ t) ∙ h in clash cc
 
-accepts-week : (e o : Edition) (s out : List ℕ) → named (length s) ≡ Known e → named (length out) ≡ Known o → (length s ≡ length out → ⊥)
-    → weekTest s ≡ test.WeekTest.Week (e .number) → ((k : ℕ) → k < timesAWeek → minute e s k % o .minutes ≡ 0) → Accepts (converted s out)
-accepts-week e o s out n k d h even =
-    sym (ap (λ (r : Conversion × List ℕ). r .0)
-    (step-done e o s out refl (passed-right e s n h) refl (no-uneven e o s even) refl ∙ convert-by s out n k d))
-
--- ---- refusals
-
--- what a refused conversion leaves and names
-abbrev Refuses : List ℕ → Conversion × List ℕ → Type 0
-Refuses out x = (r : Refusal) → x .0 ≡ conversion.Conversion.Refused r → (x .1 ≡ out) × (refusalDay r ≤ daysAWeek)
-
-refuses : (q : Refusal) (out : List ℕ) → refusalDay q ≤ daysAWeek → Refuses out (refused q out)
-refuses q out h r e = let same : q ≡ r = cc in (refl, subst (λ (x : Refusal). refusalDay x ≤ daysAWeek) same h)
-
-step-refuses : (e o : Edition) (s out : List ℕ) → Refuses out (convertedBy e o s out)
-unfolding convertedBy
-step-refuses e o s out =
-    by-test (Refuses out) (eqb (lowestDay (wrongDay e s)) 0)
-    (λ _. by-test (Refuses out) (eqb (lowestDay (unevenDay e o s)) 0) (λ _. λ r h. clash cc)
-    (λ _. refuses (Minutes (lowestDay (unevenDay e o s))) out (lowest-within (unevenDay e o s) daysAWeek)))
-    (λ _. refuses (Times (lowestDay (wrongDay e s))) out (lowest-within (wrongDay e s) daysAWeek))
-
-converter-refuses : (s out : List ℕ) → Refuses out (converted s out)
-unfolding converted
-converter-refuses s out = from (named (length s))
+enough-for : (o : Edition) (out : List ℕ) (m : ℕ) → named (length out) ≡ Known o → (length out ≡ size third → 2 ≤ ones m) → enoughKeyholders o m ≡ true
+unfolding enoughKeyholders
+enough-for o out m k h = go (eqb (length out) (size third)) refl
   where
-    length-wrong : Refuses out (refused Length out)
-    length-wrong = refuses Length out (omega arith)
+    go : (b : Bool) → eqb (length out) (size third) ≡ b → enoughKeyholders o m ≡ true
+    go true t =
+        let long : length out ≡ size third = eqb-true _ _ t in
+        subst (λ (x : Edition). enoughKeyholders x m ≡ true) (same-edition (third-named _ long) k) (le-leb 2 (ones m) (h long))
+    go false t = no-mask o m (unmasked _ k (eqb-false _ _ t))
 
-    to : (e : Edition) (n : Named) → Refuses out (onKnown n (λ (o : Edition). cond (eqb (length s) (length out)) (refused Length out) (convertedBy e o s out)) (refused Length out))
-    to e (Known o) = by-test (Refuses out) (eqb (length s) (length out)) (λ _. length-wrong) (λ _. step-refuses e o s out)
-    to e Unknown = length-wrong
-
-    from : (n : Named) → Refuses out (onKnown n (λ (e : Edition). onKnown (named (length out)) (λ (o : Edition). cond (eqb (length s) (length out)) (refused Length out) (convertedBy e o s out)) (refused Length out)) (refused Length out))
-    from (Known e) = to e (named (length out))
-    from Unknown = length-wrong
-
-abbrev TestRefuses : WeekTest → Type 0
-TestRefuses x = (r : Refusal) → x ≡ test.WeekTest.Refused r → refusalDay r ≤ daysAWeek
-
-test-refuses : (q : Refusal) → refusalDay q ≤ daysAWeek → TestRefuses (test.WeekTest.Refused q)
-test-refuses q h r e = let same : q ≡ r = cc in subst (λ (x : Refusal). refusalDay x ≤ daysAWeek) same h
-
-tester-refuses : (s : List ℕ) → TestRefuses (weekTest s)
-unfolding weekTest testedBy
-tester-refuses s = from (named (length s))
-  where
-    from : (n : Named) → TestRefuses (onKnown n (λ (e : Edition). testedBy e s) (test.WeekTest.Refused Length))
-    from (Known e) =
-        by-test TestRefuses (eqb (lowestDay (wrongDay e s)) 0) (λ _. λ r h. clash cc) (λ _. test-refuses (Times (lowestDay (wrongDay e s))) (lowest-within (wrongDay e s) daysAWeek))
-    from Unknown = test-refuses Length (omega arith)
+accepts-week : (e o : Edition) (s out : List ℕ) (m : ℕ) → named (length s) ≡ Known e → named (length out) ≡ Known o → (length s ≡ length out → ⊥)
+    → (length s ≡ size third → ⊥) → weekTest s ≡ test.WeekTest.Week (e .number) → ((k : ℕ) → k < timesAWeek → minute e s k % o .minutes ≡ 0)
+    → (length out ≡ size third → 2 ≤ ones m) → Accepts (converted s m out)
+accepts-week e o s out m n k d other h even two =
+    let none : e .mask ≡ 0 = unmasked _ n other in
+    ap (λ (r : Conversion × List ℕ). r .0)
+    (passed-by s m out n k d (record { up = omega arith; right = passed-right e s n h; enough = enough-for o out m k two; even = no-uneven e o s even }))
 
 pub facts : Facts
 facts = record {
   back = there-and-back;
+  no-step-down = down-refused;
   passes = passes-test;
   same-minutes = keeps-minutes;
+  up = λ s mid out m m′ b l long h. goes-up s out m long h mid m′ b l;
+  same-mask = λ s out m small long h. keeps-mask s out m long h small;
+  unread = mask-unread;
   accepts = accepts-week;
-  unwritten = λ s out r h. converter-refuses s out r h .0;
+  unwritten = λ s out m r h. converter-refuses s m out r h .0;
+  third-passes = third-exactly;
+  third-refused = λ s r long. third-as-second s long r;
+  two-bits = two-bits;
   lowest = λ t d h. let r = lowest-is t daysAWeek d h in (r .0, r .1);
   tested-day = tester-refuses;
-  converted-day = λ s out r h. converter-refuses s out r h .1;
+  converted-day = λ s out m r h. converter-refuses s m out r h .1;
 }

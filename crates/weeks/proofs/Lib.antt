@@ -1,8 +1,13 @@
 pub mod Editions
 pub mod DayTests
 pub mod TimeParts
+pub mod MaskParts
 pub mod Written
 pub mod Lines
+pub mod Steps
+pub mod Refused
+pub mod TwoBits
+pub mod ThirdTest
 pub mod Facts
 pub mod NoSecondOutcome
 pub mod Examples

@@ -1,5 +1,5 @@
 -- A time read off a week and put into one: its bytes one by one, and its minutes as another edition's units. Assumes nothing.
-use Prim.Native.Nat.{ℕ, suc, _+_, _*_, _/_, _%_, _<_}
+use Prim.Native.Nat.{ℕ, suc, _+_, _*_, _/_, _%_, _≤_, _<_}
 use mathlib.Core.Path.{_≡_, refl, sym, ap, _∙_}
 use mathlib.Core.Bool.{true, false, not}
 use mathlib.Core.List.{List, [], _∷_, _++_, append-assoc}
@@ -18,19 +18,21 @@ use Rattle.weeks.specs.Weeks.{time, uneven}
 
 -- ---- read
 
+-- two bytes, the low one first
+pub two-read : (s : List ℕ) (at : ℕ) {x y : ℕ} → x ≡ getD s at 0 → y ≡ getD s (at + 1) 0 → y < 256
+    → x + y * 256 % 18446744073709551616 ≡ number (take 2 (drop at s))
+two-read s at {x} {y} low high small =
+    let next : at + 1 ≡ suc at = add-one at in
+    let last : y ≡ number (take 1 (drop (suc at) s)) = high ∙ ap (λ (i : ℕ). getD s i 0) next ∙ sym (number-byte s (suc at)) in
+    omega (arith, number-first 1 s at)
+
 pub one-byte : (e : Edition) (s : List ℕ) (k : ℕ) {x : ℕ} → e .width ≡ 1 → x ≡ getD s (e .width * k) 0 → x ≡ time e s k
 unfolding time
 one-byte e s k h r = r ∙ sym (number-byte s (e .width * k)) ∙ ap (λ (n : ℕ). number (take n (drop (e .width * k) s))) (sym h)
 
-pub two-bytes : (e : Edition) (s : List ℕ) (k : ℕ) {x y : ℕ} → e .width ≡ 2 → x ≡ getD s (e .width * k) 0 → y ≡ getD s (e .width * k + 1) 0 → y < 256
-    → x + y * 256 % 18446744073709551616 ≡ time e s k
+pub two-bytes : (e : Edition) (s : List ℕ) (k : ℕ) {x : ℕ} → e .width ≡ 2 → x ≡ number (take 2 (drop (e .width * k) s)) → x ≡ time e s k
 unfolding time
-two-bytes e s k {x} {y} h low high small =
-    let at : ℕ = e .width * k in
-    let next : at + 1 ≡ suc at = add-one at in
-    let last : y ≡ number (take 1 (drop (suc at) s)) = high ∙ ap (λ (i : ℕ). getD s i 0) next ∙ sym (number-byte s (suc at)) in
-    let both : x + y * 256 % 18446744073709551616 ≡ number (take 2 (drop at s)) = omega (arith, number-first 1 s at) in
-    both ∙ ap (λ (n : ℕ). number (take n (drop at s))) (sym h)
+two-bytes e s k h r = r ∙ ap (λ (n : ℕ). number (take n (drop (e .width * k) s))) (sym h)
 
 -- ---- units
 
@@ -69,21 +71,23 @@ units-are o m x some e f =
 
 -- ---- written
 
+pub two-written : (x at : ℕ) (out : List ℕ) → at + 2 ≤ length out
+    → take (at + 2) (set (set out at (x % 256)) (at + 1) (x / 256 % 256)) ≡ take at out ++ bytes 2 x
+two-written x at out l =
+    let end : at + 2 ≡ suc (at + 1) = omega arith in
+    let next : at + 1 ≡ suc at = add-one at in
+    let low : take (at + 1) (set out at (x % 256)) ≡ take at out ++ (x % 256 ∷ []) = rw next (take-suc-set out at (x % 256) (omega arith)) in
+    rw end
+    (take-suc-set (set out at (x % 256)) (at + 1) (x / 256 % 256) (lt-length-set out at (x % 256) (omega arith))
+    ∙ ap (λ (t : List ℕ). t ++ (x / 256 % 256 ∷ [])) low
+    ∙ append-assoc (take at out) (x % 256 ∷ []) (x / 256 % 256 ∷ []))
+
 pub put-one : (w k x : ℕ) (out : List ℕ) → w ≡ 1 → w * k < length out → take (w * k + w) (set out (w * k) (x % 256)) ≡ take (w * k) out ++ bytes w x
 put-one w k x out h l =
     let next : w * k + w ≡ suc (w * k) = omega arith in
     let one : bytes w x ≡ x % 256 ∷ [] = rw h refl in
     rw (next, one) (take-suc-set out (w * k) (x % 256) l)
 
-pub put-two : (w k x : ℕ) (out : List ℕ) → w ≡ 2 → w * k + 1 < length out
-    → take (w * k + w) (set (set out (w * k) (x % 256)) (w * k + 1) (x / 256 % 256)) ≡ take (w * k) out ++ bytes w x
-put-two w k x out h l =
-    let end : w * k + w ≡ suc (w * k + 1) = omega arith in
-    let next : w * k + 1 ≡ suc (w * k) = add-one (w * k) in
-    let both : bytes w x ≡ x % 256 ∷ x / 256 % 256 ∷ [] = rw h refl in
-    let low : take (w * k + 1) (set out (w * k) (x % 256)) ≡ take (w * k) out ++ (x % 256 ∷ []) =
-    rw next (take-suc-set out (w * k) (x % 256) (omega arith)) in
-    rw (end, both)
-    (take-suc-set (set out (w * k) (x % 256)) (w * k + 1) (x / 256 % 256) (lt-length-set out (w * k) (x % 256) l)
-    ∙ ap (λ (t : List ℕ). t ++ (x / 256 % 256 ∷ [])) low
-    ∙ append-assoc (take (w * k) out) (x % 256 ∷ []) (x / 256 % 256 ∷ []))
+pub put-two : (w k x : ℕ) (out next : List ℕ) → w ≡ 2 → take (w * k + 2) next ≡ take (w * k) out ++ bytes 2 x
+    → take (w * k + w) next ≡ take (w * k) out ++ bytes w x
+put-two w k x out next h e = ap (λ (n : ℕ). take (w * k + n) next) h ∙ e ∙ ap (λ (n : ℕ). take (w * k) out ++ bytes n x) (sym h)

@@ -2,20 +2,21 @@
 use Prim.Native.Nat.{ℕ, _+_, _*_, _-_, _/_, _%_, _≤_, _<_}
 use mathlib.Core.Path.{_≡_, sym, ap, _∙_}
 use mathlib.Core.Bool.{Bool, true, false, _||_, not}
-use mathlib.Core.List.{List, _++_}
+use mathlib.Core.List.{List, _++_, append-nil}
 use native.Mathlib.Omega.{arith}
 use native.Mathlib.Nat.{mul-le-mul-left, le-of-mul-le-mul-left, div-le-of-le-mul, div-add-mod, mul-mod-right, mul-div-right}
 use borrow.Author.Tests.{ltb-false, le-ltb, eqb-true, eq-eqb, not-false}
 use lib.Dec.{eqb, ltb}
-use lib.ListN.{length, take, drop, length-drop}
+use lib.ListN.{length, take, drop, length-append, length-drop}
 use lib.Seq.{take-all, length-take-le}
 use Rattle.encoding.specs.Bytes.{AreBytes, number, bytes}
 use Rattle.encoding.proofs.Logic.{or-false}
-use Rattle.encoding.proofs.Concat.{run-within, concat-same, concat-at, concat-parts, length-concat}
+use Rattle.encoding.specs.Concat.{concat}
+use Rattle.encoding.proofs.Concat.{run-within, part-in-front, concat-same, concat-at, concat-parts, length-concat}
 use Rattle.encoding.proofs.Numbers.{length-bytes, number-bytes, bytes-number, part-bytes}
 use Rattle.weeks.specs.declared.Edition.{Edition}
 use Rattle.weeks.specs.Editions.{timesAWeek, daysAWeek, size, IsEdition}
-use Rattle.weeks.specs.Weeks.{time, opening, closing, minute, wrongDay, uneven, unevenDay, lowestDay, timeIn, inEdition}
+use Rattle.weeks.specs.Weeks.{time, opening, closing, minute, wrongDay, uneven, unevenDay, lowestDay, timeIn, timesIn, inEdition}
 use Rattle.weeks.proofs.Editions.{Sound, sound}
 use Rattle.encoding.proofs.Lowest.{lowest-none, lowest-zero}
 use Rattle.weeks.proofs.DayTests.{each-time}
@@ -67,70 +68,91 @@ put-there e o s out k x {t} h even l i u =
     let same : uneven o (e .minutes * t) ≡ false = ap (λ (y : ℕ). uneven o (e .minutes * y)) i ∙ all-even e o s even k l in
     ap (λ (y : ℕ). take (o .width * k) out ++ bytes (o .width) y) (units-are o (e .minutes * t) x (sound h .some) u same ∙ ap (λ (y : ℕ). e .minutes * y / o .minutes) i)
 
-module _ (e o : Edition) (he : Sound e) (ho : Sound o) (s : List ℕ) (right : lowestDay (wrongDay e s) ≡ 0) (even : lowestDay (unevenDay e o s) ≡ 0) where
+-- ---- the bytes of the times
+
+pub length-times : (e o : Edition) (s : List ℕ) → length (timesIn e o s) ≡ o .width * timesAWeek
+unfolding timesIn timeIn
+length-times e o s = length-concat timesAWeek (o .width) (timeIn e o s) (λ k l. length-bytes (o .width) (minute e s k / o .minutes))
+
+pub length-there : (e o : Edition) (s : List ℕ) (m : ℕ) → length (inEdition e o s m) ≡ size o
+unfolding inEdition size
+length-there e o s m = length-append (timesIn e o s) (bytes (o .mask) m) ∙ omega (arith, length-times e o s, length-bytes (o .mask) m)
+
+-- a time as bytes is the bytes that it was read from, and all of them are those in front of the mask
+time-bytes : (e : Edition) (s : List ℕ) → AreBytes s → length s ≡ size e → (k : ℕ) → k < timesAWeek → bytes (e .width) (time e s k) ≡ take (e .width) (drop (e .width * k) s)
+unfolding time size
+time-bytes e s b long k l =
+    let w : ℕ = e .width in
+    let t : List ℕ = take w (drop (w * k) s) in
+    let room : w * k + w ≤ length s = omega (arith, run-within w k timesAWeek l) in
+    let back : w * k + w - w * k ≡ w = omega arith in
+    let size : length t ≡ w = length-take-le w (drop (w * k) s) (simp length-drop (omega arith)) in
+    ap (λ (n : ℕ). bytes n (number t)) (sym size) ∙ bytes-number t (λ i. rw back at (part-bytes s (w * k) (w * k + w) b i))
+
+pub times-bytes : (e : Edition) (s : List ℕ) → AreBytes s → length s ≡ size e → (f : ℕ → List ℕ) → ((k : ℕ) → k < timesAWeek → f k ≡ bytes (e .width) (time e s k))
+    → concat timesAWeek f ≡ take (e .width * timesAWeek) s
+times-bytes e s b long f h =
+    concat-same timesAWeek f (λ k. take (e .width) (drop (e .width * k) s)) (λ k l. h k l ∙ time-bytes e s b long k l)
+    ∙ concat-parts timesAWeek (e .width) s
+
+-- ---- a week that can be converted
+
+module _ (e o : Edition) (he : Sound e) (ho : Sound o) (s : List ℕ) (m : ℕ) (right : lowestDay (wrongDay e s) ≡ 0) (even : lowestDay (unevenDay e o s) ≡ 0) where
   within-limit : (k : ℕ) → k < timesAWeek → time e s k ≤ e .limit
   within-limit = each-time (λ (k : ℕ). time e s k ≤ e .limit)
-      (λ d l m. let r = day-right e s d (lowest-none (wrongDay e s) daysAWeek right d l m) in (r .opens, r .closes))
+      (λ d l h. let r = day-right e s d (lowest-none (wrongDay e s) daysAWeek right d l h) in (r .opens, r .closes))
 
-  even-minutes : (k : ℕ) → k < timesAWeek → minute e s k % o .minutes ≡ 0
+  pub even-minutes : (k : ℕ) → k < timesAWeek → minute e s k % o .minutes ≡ 0
   even-minutes k l = whole-units o (minute e s k) (all-even e o s even k l)
 
   units-within : (k : ℕ) → k < timesAWeek → minute e s k / o .minutes ≤ o .limit
   units-within k l =
-      let m : e .minutes * time e s k ≤ e .minutes * e .limit = mul-le-mul-left (e .minutes) (within-limit k l) in
+      let most : e .minutes * time e s k ≤ e .minutes * e .limit = mul-le-mul-left (e .minutes) (within-limit k l) in
       div-le-of-le-mul (o .minutes) (omega (arith, he .day, ho .day))
 
-  time-there : (k : ℕ) → k < timesAWeek → time o (inEdition e o s) k ≡ minute e s k / o .minutes
-  unfolding time inEdition timeIn
+  time-there : (k : ℕ) → k < timesAWeek → time o (inEdition e o s m) k ≡ minute e s k / o .minutes
+  unfolding time inEdition timesIn timeIn
   time-there k l =
-      ap number (concat-at timesAWeek (o .width) (timeIn e o s) (λ i m. length-bytes (o .width) (minute e s i / o .minutes)) k l)
+      let room : o .width * k + o .width ≤ length (timesIn e o s) = omega (arith, length-times e o s, run-within (o .width) k timesAWeek l) in
+      ap number (part-in-front (o .width * k) (o .width) (timesIn e o s) (bytes (o .mask) m) room
+      ∙ concat-at timesAWeek (o .width) (timeIn e o s) (λ i h. length-bytes (o .width) (minute e s i / o .minutes)) k l)
       ∙ number-bytes (o .width) (minute e s k / o .minutes) (omega (arith, units-within k l, ho .fits))
 
-  units-there : (k : ℕ) → k < timesAWeek → minute o (inEdition e o s) k ≡ o .minutes * (minute e s k / o .minutes)
+  units-there : (k : ℕ) → k < timesAWeek → minute o (inEdition e o s m) k ≡ o .minutes * (minute e s k / o .minutes)
   units-there k l = ap (λ (x : ℕ). o .minutes * x) (time-there k l)
 
-  pub minute-there : (k : ℕ) → k < timesAWeek → minute o (inEdition e o s) k ≡ minute e s k
+  pub minute-there : (k : ℕ) → k < timesAWeek → minute o (inEdition e o s m) k ≡ minute e s k
   minute-there k l = units-there k l ∙ omega (arith, div-add-mod (minute e s k) (o .minutes), even-minutes k l)
 
   -- two times in order stay in order
-  order-there : (i k : ℕ) → i < timesAWeek → k < timesAWeek → time e s i ≤ time e s k → time o (inEdition e o s) i ≤ time o (inEdition e o s) k
-  order-there i k l m h =
+  order-there : (i k : ℕ) → i < timesAWeek → k < timesAWeek → time e s i ≤ time e s k → time o (inEdition e o s m) i ≤ time o (inEdition e o s m) k
+  order-there i k l n h =
       let before : e .minutes * time e s i ≤ e .minutes * time e s k = mul-le-mul-left (e .minutes) h in
-      le-of-mul-le-mul-left (omega (arith, minute-there i l, minute-there k m)) (ho .some)
+      le-of-mul-le-mul-left (omega (arith, minute-there i l, minute-there k n)) (ho .some)
 
-  limit-there : (k : ℕ) → k < timesAWeek → time o (inEdition e o s) k ≤ o .limit
+  limit-there : (k : ℕ) → k < timesAWeek → time o (inEdition e o s m) k ≤ o .limit
   limit-there k l = omega (arith, time-there k l, units-within k l)
 
-  pub right-there : lowestDay (wrongDay o (inEdition e o s)) ≡ 0
-  right-there = lowest-zero (wrongDay o (inEdition e o s)) daysAWeek (λ d l m. right-day o (inEdition e o s) d (record {
+  pub right-there : lowestDay (wrongDay o (inEdition e o s m)) ≡ 0
+  right-there = lowest-zero (wrongDay o (inEdition e o s m)) daysAWeek (λ d l h. right-day o (inEdition e o s m) d (record {
     opens = limit-there (2 * d - 2) (omega arith);
     closes = limit-there (2 * d - 1) (omega arith);
-    order = order-there (2 * d - 2) (2 * d - 1) (omega arith) (omega arith) (day-right e s d (lowest-none (wrongDay e s) daysAWeek right d l m) .order);
+    order = order-there (2 * d - 2) (2 * d - 1) (omega arith) (omega arith) (day-right e s d (lowest-none (wrongDay e s) daysAWeek right d l h) .order);
   }))
 
-  pub all-even-there : lowestDay (unevenDay o e (inEdition e o s)) ≡ 0
-  all-even-there = no-uneven o e (inEdition e o s) (λ k l. ap (λ (x : ℕ). x % e .minutes) (minute-there k l) ∙ mul-mod-right (e .minutes) (time e s k))
+  pub all-even-there : lowestDay (unevenDay o e (inEdition e o s m)) ≡ 0
+  all-even-there = no-uneven o e (inEdition e o s m) (λ k l. ap (λ (x : ℕ). x % e .minutes) (minute-there k l) ∙ mul-mod-right (e .minutes) (time e s k))
 
-  -- time k, brought back: the bytes that it was read from
-  time-back : AreBytes s → length s ≡ size e → (k : ℕ) → k < timesAWeek → timeIn o e (inEdition e o s) k ≡ take (e .width) (drop (e .width * k) s)
-  unfolding timeIn time size
-  time-back b long k l =
-      let w : ℕ = e .width in
-      let t : List ℕ = take w (drop (w * k) s) in
-      let room : w * k + w ≤ length s = omega (arith, run-within w k timesAWeek l) in
-      let back : w * k + w - w * k ≡ w = omega arith in
-      let size : length t ≡ w = length-take-le w (drop (w * k) s) (simp length-drop (omega arith)) in
-      ap (λ (x : ℕ). bytes w (x / e .minutes)) (minute-there k l)
-      ∙ ap (bytes w) (mul-div-right (time e s k) (he .some))
-      ∙ ap (λ (n : ℕ). bytes n (number t)) (sym size)
-      ∙ bytes-number t (λ i. rw back at (part-bytes s (w * k) (w * k + w) b i))
+  -- time k, brought back
+  time-back : (k : ℕ) → k < timesAWeek → timeIn o e (inEdition e o s m) k ≡ bytes (e .width) (time e s k)
+  unfolding timeIn
+  time-back k l = ap (λ (x : ℕ). bytes (e .width) (x / e .minutes)) (minute-there k l) ∙ ap (bytes (e .width)) (mul-div-right (time e s k) (he .some))
 
-  pub bytes-back : AreBytes s → length s ≡ size e → inEdition o e (inEdition e o s) ≡ s
-  unfolding inEdition size
-  bytes-back b long =
-      concat-same timesAWeek (timeIn o e (inEdition e o s)) (λ k. take (e .width) (drop (e .width * k) s)) (time-back b long)
-      ∙ concat-parts timesAWeek (e .width) s ∙ take-all (e .width * timesAWeek) s (omega arith)
-
-pub length-there : (e o : Edition) (s : List ℕ) → length (inEdition e o s) ≡ size o
-unfolding inEdition timeIn size
-length-there e o s = length-concat timesAWeek (o .width) (timeIn e o s) (λ k l. length-bytes (o .width) (minute e s k / o .minutes))
+  pub bytes-back : AreBytes s → length s ≡ size e → e .mask ≡ 0 → (m′ : ℕ) → inEdition o e (inEdition e o s m) m′ ≡ s
+  unfolding inEdition timesIn size
+  bytes-back b long none m′ =
+      let times : List ℕ = timesIn o e (inEdition e o s m) in
+      ap (λ (n : ℕ). times ++ bytes n m′) none
+      ∙ append-nil times
+      ∙ times-bytes e s b long (timeIn o e (inEdition e o s m)) time-back
+      ∙ take-all (e .width * timesAWeek) s (omega arith)

@@ -1,6 +1,6 @@
--- The editions of the lock heads. An edition is one record: its number, the bytes of a time, the highest time, and the minutes of a
--- unit of time. A new edition is one more record in the list: everything else is said over the record.
-use Prim.Native.Nat.{ℕ, _*_}
+-- The editions of the lock heads. An edition is one record: its number, the bytes of a time, the highest time, the minutes of a unit of
+-- time, and the bytes of the keyholder mask. A new edition is one more record in the list: everything else is said over the record.
+use Prim.Native.Nat.{ℕ, _+_, _*_}
 use mathlib.Core.Path.{_≡_}
 use mathlib.Core.List.{List, [], _∷_}
 use mathlib.Core.Bool.{cond}
@@ -19,18 +19,22 @@ timesAWeek = 14
 
 -- quarter hours, 0 to 96
 abbrev pub first : Edition
-first = record { number = 1; width = 1; limit = 96; minutes = 15 }
+first = record { number = 1; width = 1; limit = 96; minutes = 15; mask = 0 }
 
 -- minutes, 0 to 1,440, in two bytes
 abbrev pub second : Edition
-second = record { number = 2; width = 2; limit = 1440; minutes = 1 }
+second = record { number = 2; width = 2; limit = 1440; minutes = 1; mask = 0 }
+
+-- as the second, and 16 bits for the keyholders who must attend
+abbrev pub third : Edition
+third = record { number = 3; width = 2; limit = 1440; minutes = 1; mask = 2 }
 
 abbrev pub editions : List Edition
-editions = first ∷ second ∷ []
+editions = first ∷ second ∷ third ∷ []
 
--- the bytes of an edition's week
+-- the bytes of an edition's week: its times, then its mask
 unfoldable pub size : Edition → ℕ
-size e = e .width * timesAWeek
+size e = e .width * timesAWeek + e .mask
 
 -- lengths name the editions
 unfoldable pub namedIn : List Edition → ℕ → Named

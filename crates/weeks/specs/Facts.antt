@@ -1,40 +1,81 @@
--- What the week test and the converter promise, once for all editions: the lengths of the two runs name them. Proved in
--- `proofs/Facts.antt`.
-use Prim.Native.Nat.{ℕ, suc, _%_, _≤_, _<_}
+-- What the week test and the converter promise, once for all editions: the lengths of the two runs name them. A mask has 16 bits, so it is
+-- below 65,536. Proved in `proofs/Facts.antt`.
+use Prim.Native.Nat.{ℕ, zero, suc, _/_, _%_, _≤_, _<_}
 use mathlib.Core.Path.{_≡_}
-use mathlib.Core.List.{List}
-use mathlib.Core.Bool.{Bool, true, false}
-use lib.ListN.{length}
-use Rattle.encoding.specs.Bytes.{AreBytes}
+use mathlib.Core.List.{List, _++_}
+use mathlib.Core.Bool.{Bool, true, false, cond}
+use lib.Dec.{eqb}
+use lib.Count.{ones}
+use lib.ListN.{length, take}
+use Rattle.encoding.specs.Bytes.{AreBytes, bytes}
 use Rattle.weeks.specs.declared.Edition.{Edition}
 use Rattle.weeks.specs.declared.Named.the-variants.{Known}
 use Rattle.weeks.specs.declared.Refusal.{Refusal}
+use Rattle.weeks.specs.declared.Refusal.the-variants.{StepDown}
 use Rattle.weeks.specs.declared.WeekTest.the-variants.{Week}
 use Rattle.weeks.specs.declared.WeekTest as test
 use Rattle.weeks.specs.declared.Conversion.the-variants.{Converted}
 use Rattle.weeks.specs.declared.Conversion as conversion
-use Rattle.weeks.specs.Editions.{daysAWeek, timesAWeek, named}
-use Rattle.weeks.specs.Weeks.{minute, lowestDay}
+use Rattle.weeks.specs.Editions.{daysAWeek, timesAWeek, second, third, size, named}
+use Rattle.weeks.specs.Weeks.{minute, lowestDay, keyholders}
 use Rattle.weeks.specs.Answers.{weekTest, converted, refusalDay}
 
+-- bit i of a number, from the lowest, which is bit 0
+abbrev pub bit : ℕ → ℕ → ℕ
+bit zero m = m % 2
+bit (suc i) m = bit i (m / 2)
+
+-- two keyholders
+abbrev pub TwoBits : ℕ → Type 0
+TwoBits m = (i : ℕ) × (j : ℕ) × (i < j) × (bit i m ≡ 1) × (bit j m ≡ 1)
+
 pub record Facts : Type 0 where
-  -- old to new to old, and new to old to new: where the first step is accepted, so is the second, and it gives the same bytes
-  pub back : (s out again : List ℕ) → AreBytes s → length again ≡ length s → converted s out .0 ≡ Converted
-      → converted (converted s out .1) again ≡ (Converted, s)
-  -- a converted week passes the week test as one of the other edition
-  pub passes : (o : Edition) (s out : List ℕ) → named (length out) ≡ Known o → converted s out .0 ≡ Converted
-      → weekTest (converted s out .1) ≡ Week (o .number)
-  -- and it has the same minutes
-  pub same-minutes : (e o : Edition) (s out : List ℕ) → named (length s) ≡ Known e → named (length out) ≡ Known o
-      → converted s out .0 ≡ Converted → (k : ℕ) → k < timesAWeek → minute o (converted s out .1) k ≡ minute e s k
-  -- a week that passes its test is converted, if all its minutes are whole units of the other edition
-  pub accepts : (e o : Edition) (s out : List ℕ) → named (length s) ≡ Known e → named (length out) ≡ Known o
-      → (length s ≡ length out → ⊥) → weekTest s ≡ Week (e .number) → ((k : ℕ) → k < timesAWeek → minute e s k % o .minutes ≡ 0)
-      → converted s out .0 ≡ Converted
+  -- ---- there and back
+
+  -- old to new to old, and new to old to new, whatever the masks: where the first step is accepted, so is the second, and it gives the same
+  -- bytes. An output of 30 bytes is excepted: the way back is refused 30
+  pub back : (s out again : List ℕ) (m m′ : ℕ) → AreBytes s → length again ≡ length s → (length out ≡ size third → ⊥)
+      → converted s m out .0 ≡ Converted → converted (converted s m out .1) m′ again ≡ (Converted, s)
+  -- whatever the week and the mask
+  pub no-step-down : (o : Edition) (s out : List ℕ) (m : ℕ) → length s ≡ size third → named (length out) ≡ Known o → (length s ≡ length out → ⊥)
+      → converted s m out ≡ (conversion.Conversion.Refused StepDown, out)
+  -- ---- what is converted
+
+  -- it passes the week test as a week of the other edition
+  pub passes : (o : Edition) (s out : List ℕ) (m : ℕ) → m < 65536 → named (length out) ≡ Known o → converted s m out .0 ≡ Converted
+      → weekTest (converted s m out .1) ≡ Week (o .number)
+  -- it has the same minutes
+  pub same-minutes : (e o : Edition) (s out : List ℕ) (m : ℕ) → named (length s) ≡ Known e → named (length out) ≡ Known o
+      → converted s m out .0 ≡ Converted → (k : ℕ) → k < timesAWeek → minute o (converted s m out .1) k ≡ minute e s k
+  -- up to edition 3 it is the week in edition 2, its own bytes or those that it is converted to, and behind them the caller's mask
+  pub up : (s mid out : List ℕ) (m m′ : ℕ) → AreBytes s → length mid ≡ size second → length out ≡ size third → converted s m out .0 ≡ Converted
+      → converted s m out .1 ≡ cond (eqb (length s) (size second)) s (converted s m′ mid .1) ++ bytes (third .mask) m
+  pub same-mask : (s out : List ℕ) (m : ℕ) → m < 65536 → length out ≡ size third → converted s m out .0 ≡ Converted
+      → keyholders third (converted s m out .1) ≡ m
+  -- otherwise the mask is not looked at
+  pub unread : (s out : List ℕ) (m m′ : ℕ) → (length out ≡ size third → ⊥) → converted s m out ≡ converted s m′ out
+  -- a week that passes its test is converted, if the step does not lead down, all its minutes are whole units of the other edition, and the
+  -- mask for an edition 3 has two keyholders
+  pub accepts : (e o : Edition) (s out : List ℕ) (m : ℕ) → named (length s) ≡ Known e → named (length out) ≡ Known o
+      → (length s ≡ length out → ⊥) → (length s ≡ size third → ⊥) → weekTest s ≡ Week (e .number)
+      → ((k : ℕ) → k < timesAWeek → minute e s k % o .minutes ≡ 0) → (length out ≡ size third → 2 ≤ ones m) → converted s m out .0 ≡ Converted
   -- a refused conversion writes nothing
-  pub unwritten : (s out : List ℕ) (r : Refusal) → converted s out .0 ≡ conversion.Conversion.Refused r → converted s out .1 ≡ out
-  -- a day that is named fails its test, and no lower one does
+  pub unwritten : (s out : List ℕ) (m : ℕ) (r : Refusal) → converted s m out .0 ≡ conversion.Conversion.Refused r → converted s m out .1 ≡ out
+  -- ---- the test of edition 3
+
+  -- a week passes exactly if its first 28 bytes pass as a week of edition 2, and its mask has two bits set
+  pub third-passes : (s : List ℕ) → length s ≡ size third
+      → (weekTest s ≡ Week 3 → (weekTest (take (size second) s) ≡ Week 2) × (2 ≤ ones (keyholders third s)))
+      × ((weekTest (take (size second) s) ≡ Week 2) × (2 ≤ ones (keyholders third s)) → weekTest s ≡ Week 3)
+  -- and what is refused of those bytes is refused of it
+  pub third-refused : (s : List ℕ) (r : Refusal) → length s ≡ size third → weekTest (take (size second) s) ≡ test.WeekTest.Refused r
+      → weekTest s ≡ test.WeekTest.Refused r
+  -- the count of ones is 2 or more exactly if two different bits are set
+  pub two-bits : (m : ℕ) → (2 ≤ ones m → TwoBits m) × (TwoBits m → 2 ≤ ones m)
+  -- ---- the day that is named
+
+  -- it fails its test, and no lower one does
   pub lowest : (t : ℕ → Bool) (d : ℕ) → lowestDay t ≡ suc d → (t (suc d) ≡ true) × ((k : ℕ) → 1 ≤ k → k ≤ d → t k ≡ false)
   -- and it is one of the seven
   pub tested-day : (s : List ℕ) (r : Refusal) → weekTest s ≡ test.WeekTest.Refused r → refusalDay r ≤ daysAWeek
-  pub converted-day : (s out : List ℕ) (r : Refusal) → converted s out .0 ≡ conversion.Conversion.Refused r → refusalDay r ≤ daysAWeek
+  pub converted-day : (s out : List ℕ) (m : ℕ) (r : Refusal) → converted s m out .0 ≡ conversion.Conversion.Refused r → refusalDay r ≤ daysAWeek

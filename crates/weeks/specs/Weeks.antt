@@ -1,8 +1,9 @@
--- A week read off bytes by its edition, its days tested, and the same week written in another edition.
+-- A week read off bytes by its edition, its days and its keyholders tested, and the same week written in another edition.
 use Prim.Native.Nat.{ℕ, _*_, _-_, _/_, _%_}
-use mathlib.Core.List.{List}
+use mathlib.Core.List.{List, _++_}
 use mathlib.Core.Bool.{Bool, _||_, not}
-use lib.Dec.{eqb, ltb}
+use lib.Dec.{eqb, ltb, leb}
+use lib.Count.{ones}
 use lib.ListN.{take, drop}
 use Rattle.encoding.specs.Bytes.{number, bytes}
 use Rattle.encoding.specs.Concat.{concat}
@@ -46,11 +47,25 @@ uneven o m = not (eqb (m % o .minutes) 0)
 unfoldable pub unevenDay : Edition → Edition → List ℕ → ℕ → Bool
 unevenDay e o s d = uneven o (minute e s (2 * d - 2)) || uneven o (minute e s (2 * d - 1))
 
+-- ---- keyholders
+
+-- the mask behind the times, a bit for each keyholder who must attend; 0 where the edition has none
+unfoldable pub keyholders : Edition → List ℕ → ℕ
+keyholders e s = number (take (e .mask) (drop (e .width * timesAWeek) s))
+
+-- dual custody, the two-person rule: where the edition has a mask, at least two of its bits are set
+unfoldable pub enoughKeyholders : Edition → ℕ → Bool
+enoughKeyholders e m = eqb (e .mask) 0 || leb 2 (ones m)
+
 -- ---- the same minutes in edition o
 
 -- time k, in as many bytes as o's times have
 unfoldable pub timeIn : Edition → Edition → List ℕ → ℕ → List ℕ
 timeIn e o s k = bytes (o .width) (minute e s k / o .minutes)
 
-unfoldable pub inEdition : Edition → Edition → List ℕ → List ℕ
-inEdition e o s = concat timesAWeek (timeIn e o s)
+unfoldable pub timesIn : Edition → Edition → List ℕ → List ℕ
+timesIn e o s = concat timesAWeek (timeIn e o s)
+
+-- the times, then mask m
+unfoldable pub inEdition : Edition → Edition → List ℕ → ℕ → List ℕ
+inEdition e o s m = timesIn e o s ++ bytes (o .mask) m

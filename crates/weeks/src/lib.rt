@@ -1,24 +1,31 @@
 // Weeks of opening hours as the lock heads of each edition take them: the week test, and the converter from one edition to another.
 // Every public function takes every run of bytes: none asks anything of its caller.
 mod days;
+mod masks;
 mod times;
 
 use days::find_faults;
+use masks::enough_keyholders;
+use masks::keyholders;
+use masks::put_mask;
 use times::put_time;
 use times::time_at;
 use times::units;
 ghost use mathlib.Core.Path.{_≡_};
-ghost use lib.ListN.{length};
-ghost use Rattle.weeks.specs.Editions.{first, second, size, named, IsEdition};
-ghost use Rattle.weeks.specs.Weeks.{unevenDay, lowestDay, inEdition};
+ghost use Prim.Native.Nat.{_*_};
+ghost use lib.ListN.{length, take};
+ghost use Rattle.weeks.specs.Editions.{first, second, third, timesAWeek, size, named, IsEdition};
+ghost use Rattle.weeks.specs.Weeks.{unevenDay, lowestDay, timesIn, inEdition};
 ghost use Rattle.weeks.specs.Answers.{weekTest, converted, convertedBy};
 
-// An edition of the lock heads: its number, the bytes of a time, the highest time, and the minutes of a unit of time.
+// An edition of the lock heads: its number, the bytes of a time, the highest time, the minutes of a unit of time, and the bytes of the
+// keyholder mask.
 pub struct Edition {
     pub number: u64,
     pub width: usize,
     pub limit: u64,
     pub minutes: u64,
+    pub mask: usize,
 }
 
 // The edition that a length names.
@@ -32,6 +39,8 @@ pub enum Refusal {
     Length,
     Times(u64),
     Minutes(u64),
+    Keyholders,
+    StepDown,
 }
 
 // What the week test finds: a week of the edition of this number, or a refusal.
@@ -61,6 +70,7 @@ impl Edition {
             width: 1,
             limit: 96,
             minutes: 15,
+            mask: 0,
         }
     }
 
@@ -73,6 +83,20 @@ impl Edition {
             width: 2,
             limit: 1440,
             minutes: 1,
+            mask: 0,
+        }
+    }
+
+    // As the second, and a mask of the keyholders who must attend, in two bytes.
+    fn third() -> Edition
+        ensures { λ r. ⌜ r ≡ third ⌝ }
+    {
+        Edition {
+            number: 3,
+            width: 2,
+            limit: 1440,
+            minutes: 1,
+            mask: 2,
         }
     }
 
@@ -86,11 +110,14 @@ impl Edition {
         if size == 28 {
             return Named::Known(Edition::second());
         }
+        if size == 30 {
+            return Named::Known(Edition::third());
+        }
         Named::Unknown
     }
 }
 
-// The edition of a week, or what is wrong with it: 15, then 16.
+// The edition of a week, or what is wrong with it: 15, then 16, then 29.
 pub fn week_test(week: &[u8]) -> WeekTest
     ensures { λ r. ⌜ r ≡ weekTest (now (week .entry)) ⌝ }
 {
@@ -102,13 +129,16 @@ pub fn week_test(week: &[u8]) -> WeekTest
     if found.wrong != 0 {
         return WeekTest::Refused(Refusal::Times(found.wrong));
     }
+    if !enough_keyholders(e, keyholders(e, week)) {
+        return WeekTest::Refused(Refusal::Keyholders);
+    }
     WeekTest::Week(e.number)
 }
 
-// Writes the week in another edition, which can tell all its minutes.
-fn write_week(e: Edition, o: Edition, week: &[u8], out: &mut [u8])
+// Writes the times of the week in another edition, which can tell all its minutes.
+fn write_times(e: Edition, o: Edition, week: &[u8], out: &mut [u8])
     requires { ⌜ IsEdition e × IsEdition o × (length (now week) ≡ size e) × (length (now out) ≡ size o) × (lowestDay (unevenDay e o (now week)) ≡ 0) ⌝ }
-    ensures { λ _. ⌜ now (out .exit) ≡ inEdition e o (now (week .entry)) ⌝ }
+    ensures { λ _. ⌜ take (o .width * timesAWeek) (now (out .exit)) ≡ timesIn e o (now (week .entry)) ⌝ }
 {
     let mut k: usize = 0;
     while k < Edition::TIMES {
@@ -117,25 +147,41 @@ fn write_week(e: Edition, o: Edition, week: &[u8], out: &mut [u8])
     }
 }
 
-// From one edition to another: 16, then 17.
-fn convert_by(e: Edition, o: Edition, week: &[u8], out: &mut [u8]) -> Conversion
-    requires { ⌜ IsEdition e × IsEdition o × (length (now week) ≡ size e) × (length (now out) ≡ size o) ⌝ }
-    ensures { λ r. ⌜ (r, now (out .exit)) ≡ convertedBy e o (now (week .entry)) (now (out .entry)) ⌝ }
+// And the mask behind them, where that edition has one.
+fn write_week(e: Edition, o: Edition, week: &[u8], mask: u16, out: &mut [u8])
+    requires { ⌜ IsEdition e × IsEdition o × (length (now week) ≡ size e) × (length (now out) ≡ size o) × (lowestDay (unevenDay e o (now week)) ≡ 0) ⌝ }
+    ensures { λ _. ⌜ now (out .exit) ≡ inEdition e o (now (week .entry)) mask ⌝ }
 {
+    write_times(e, o, week, out);
+    put_mask(o, mask, out);
+}
+
+// From one edition to another: 30, then 16, 29 and 17.
+fn convert_by(e: Edition, o: Edition, week: &[u8], mask: u16, out: &mut [u8]) -> Conversion
+    requires { ⌜ IsEdition e × IsEdition o × (length (now week) ≡ size e) × (length (now out) ≡ size o) ⌝ }
+    ensures { λ r. ⌜ (r, now (out .exit)) ≡ convertedBy e o (now (week .entry)) mask (now (out .entry)) ⌝ }
+{
+    if o.mask < e.mask {
+        return Conversion::Refused(Refusal::StepDown);
+    }
     let faults = find_faults(e, o, week);
     if faults.wrong != 0 {
         return Conversion::Refused(Refusal::Times(faults.wrong));
     }
+    if !enough_keyholders(o, mask) {
+        return Conversion::Refused(Refusal::Keyholders);
+    }
     if faults.uneven != 0 {
         return Conversion::Refused(Refusal::Minutes(faults.uneven));
     }
-    write_week(e, o, week, out);
+    write_week(e, o, week, mask, out);
     Conversion::Converted
 }
 
-// Writes the week into the output in the other edition, which the output's length names: 15, then 16, then 17.
-pub fn convert(week: &[u8], out: &mut [u8]) -> Conversion
-    ensures { λ r. ⌜ (r, now (out .exit)) ≡ converted (now (week .entry)) (now (out .entry)) ⌝ }
+// Writes the week into the output in the other edition, which the output's length names, with the caller's mask where that edition has
+// one: 15, then 30, 16, 29 and 17.
+pub fn convert(week: &[u8], mask: u16, out: &mut [u8]) -> Conversion
+    ensures { λ r. ⌜ (r, now (out .exit)) ≡ converted (now (week .entry)) mask (now (out .entry)) ⌝ }
 {
     let Named::Known(e) = Edition::of(week.len()) else {
         return Conversion::Refused(Refusal::Length);
@@ -146,5 +192,5 @@ pub fn convert(week: &[u8], out: &mut [u8]) -> Conversion
     if week.len() == out.len() {
         return Conversion::Refused(Refusal::Length);
     }
-    convert_by(e, o, week, out)
+    convert_by(e, o, week, mask, out)
 }

@@ -1,6 +1,6 @@
 -- Where an image of a run's sheet comes from: a write stored it there, or it was carried over, and a write stored on a sheet before one with its
 -- file, start and value, which was a version of that sheet.
-use Prim.Native.Nat.{ℕ, zero, suc, _≤_, _<_}
+use Prim.Native.Nat.{ℕ, zero, suc, _≤_}
 use mathlib.Core.Path.{_≡_, refl, sym, ap, _∙_, subst}
 use mathlib.Core.List.{List, [], _∷_, _++_, head?, append-assoc}
 use mathlib.Core.Bool.{Bool, true, false, _||_}
@@ -22,7 +22,7 @@ use Rattle.promises.specs.Runs.{Box, on, off, sheetOf, Event, calls, ope
 use Rattle.promises.specs.Promises.{IsVersion}
 use Rattle.promises.proofs.logs.Outcomes.{Lies, lies-cons}
 use Rattle.promises.proofs.logs.Logs.{known-place}
-use Rattle.promises.proofs.logs.Versions.{Among, first, next, versions-among}
+use Rattle.promises.proofs.logs.Versions.{Among, first, versions-among}
 use Rattle.promises.proofs.logs.Newest.{effective-spot}
 use Rattle.promises.proofs.worlds.SimMoves.{imageIn, version-is}
 use Rattle.promises.proofs.worlds.Visible.{shared}

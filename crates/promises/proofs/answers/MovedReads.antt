@@ -10,20 +10,19 @@ use lib.ListN.{length, take}
 use lib.Dec.{eqb, leb}
 use Rattle.encoding.proofs.Logic.{by-test, clash}
 use Rattle.page.specs.Answers.{valueIn}
-use Rattle.recovery.specs.Log.{Image, Entry, image, committed, Placed, fateOf, outcomeOf, effectiveOf}
+use Rattle.recovery.specs.Log.{Image, image, committed, Placed, fateOf, effectiveOf}
 use Rattle.recovery.specs.Sheet.{pageBytes}
-use Rattle.recovery.specs.Lent.{Left}
 use Rattle.recovery.specs.Numbers.{isRefused}
 use Rattle.recovery.specs.declared.Answer.{Answer}
 use Rattle.recovery.specs.declared.Answer.the-variants.{Refused, Value, Nothing}
 use Rattle.recovery.proofs.Spots.{entryIn}
 use Rattle.inspection.specs.Lawful.{versions}
 use Rattle.calls.specs.Calls.{read}
-use Rattle.promises.specs.Runs.{Box, on, off, sheetOf, Event, calls, callOn, answerTo, after, runs, movedIn, AllAllowed}
+use Rattle.promises.specs.Runs.{Box, on, off, sheetOf, Event, calls, answerTo, after, runs, movedIn, AllAllowed}
 use Rattle.promises.specs.Model as model
-use Rattle.promises.specs.Model.{Version, Object, Status, Model, Reply, latest, shows, hasCarried, refuses, ofPending, readVersion, reading, modelCall}
+use Rattle.promises.specs.Model.{Version, Status, Model, Reply, latest, shows, hasCarried, refuses, ofPending, readVersion, reading, modelCall}
 use Rattle.promises.specs.FromLog.{versionOf, versionIn}
-use Rattle.promises.specs.Promises.{IsEffective, IsVersion, IsCarried, Alike, neither, same, early, AnsweredAlike}
+use Rattle.promises.specs.Promises.{IsVersion, IsCarried, Alike, neither, same, early, AnsweredAlike}
 use Rattle.promises.proofs.logs.Logs.{known-place}
 use Rattle.promises.proofs.logs.Versions as found
 use Rattle.promises.proofs.logs.Versions.{version, Among, first, next, among-versions, versions-among, all-later}
@@ -34,7 +33,7 @@ use Rattle.promises.proofs.boxes.BoxPages.{effective-out}
 use Rattle.promises.proofs.boxes.BoxShown.{heard-on, effective-of, fate}
 use Rattle.promises.proofs.boxes.Found.{some-is, not-heard}
 use Rattle.promises.proofs.boxes.Settled.{Settled}
-use Rattle.promises.proofs.boxes.Lasting.{Like, Shows, not-yet, this, gone, Lasts, FloorsFrom}
+use Rattle.promises.proofs.boxes.Lasting.{Shows, not-yet, this, gone, Lasts, FloorsFrom}
 use Rattle.promises.proofs.boxes.Stable.{told-as, again, v, first-is, in-range, late, last}
 use Rattle.promises.proofs.answers.Origins.{carried-first}
 use Rattle.promises.proofs.answers.Carried.{log-version}

@@ -21,7 +21,7 @@ use Rattle.recovery.specs.declared.Answer.the-variants.{Stored}
 use Rattle.recovery.specs.Lent.{Left}
 use Rattle.calls.specs.Calls.{Call}
 use Rattle.recovery.proofs.Spots.{entry-top, entryIn}
-use Rattle.promises.specs.Runs.{Box, on, off, sheetOf, Event, calls, opens, cuts, answerTo, after, runs, Allowed, AllAllowed, blankBox, Run, moves, cutsMove, isMoved, movedIn}
+use Rattle.promises.specs.Runs.{Box, on, off, sheetOf, Event, calls, opens, cuts, answerTo, after, runs, AllAllowed, blankBox, Run, moves, cutsMove, isMoved, movedIn}
 use Rattle.promises.specs.Promises.{IsPageOf, IsWhole, Did}
 use Rattle.promises.specs.Model.{modelCall}
 use Rattle.promises.proofs.logs.Outcomes.{Lies, lies-cons}
@@ -30,7 +30,7 @@ use Rattle.promises.proofs.bytes.Stored.{bytesOf}
 use Rattle.promises.proofs.bytes.Cuts.{cutLog, partialLog}
 use Rattle.promises.proofs.boxes.BoxPages.{Solid, page-lies-in}
 use Rattle.promises.proofs.boxes.Found.{writes-page}
-use Rattle.promises.proofs.boxes.Boxes.{Reached, agrees, model-says, worldIn, isOn}
+use Rattle.promises.proofs.boxes.Boxes.{Reached, agrees, model-says, worldIn}
 use Rattle.promises.proofs.boxes.BoxRuns.{logAfter, reached-next, reached-blank, pagesAfter}
 use Rattle.promises.proofs.answers.Heard.{hears}
 

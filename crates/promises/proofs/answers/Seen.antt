@@ -26,10 +26,10 @@ use Rattle.recovery.specs.World.{fateNumber, isBlank, isCarried}
 use Rattle.recovery.specs.declared.Answer.the-variants.{Stored, Value, Told}
 use Rattle.calls.specs.Calls.{Call, begin, write, read, test, decide, rebuild}
 use Rattle.recovery.proofs.Spots.{entryIn}
-use Rattle.promises.specs.Runs.{Box, sheetOf, Event, calls, answerTo, runs, blankBox, Run, Hears}
+use Rattle.promises.specs.Runs.{Box, sheetOf, Event, calls, answerTo, runs, blankBox, Run}
 use Rattle.promises.specs.Model as model
 use Rattle.promises.specs.FromLog.{statusOf, carriedOf}
-use Rattle.promises.specs.Promises.{IsPageOf, IsVersion, Did, IsCarried, AllShow, NoneShows, WasWritten, IsWhole, Shown}
+use Rattle.promises.specs.Promises.{IsPageOf, IsVersion, Did, IsCarried, AllShow, NoneShows, WasWritten, Shown}
 use Rattle.promises.proofs.logs.Logs.{Lawful, Known, known-place, opening-at}
 use Rattle.promises.proofs.logs.Outcomes.{Lies, outcome-lies, outcome-only}
 use Rattle.promises.proofs.logs.Fates.{same-fate}

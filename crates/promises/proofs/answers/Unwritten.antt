@@ -1,8 +1,8 @@
 -- Read alike after the move: a file that is not written again has, on every sheet after, the one version that was carried over, or none.
-use Prim.Native.Nat.{ℕ, suc, max, _/_, _≤_, _<_}
+use Prim.Native.Nat.{ℕ, suc, _/_, _≤_}
 use mathlib.Core.Path.{_≡_, refl, sym, ap, _∙_, subst}
 use mathlib.Core.List.{List, [], _∷_, map}
-use mathlib.Core.Bool.{Bool, true, false, cond, not, _&&_, _||_, false≢true, true≢false}
+use mathlib.Core.Bool.{Bool, true, false, cond, not, _&&_, _||_}
 use mathlib.Core.Option.{Option, some, none}
 use native.Mathlib.Omega.{arith}
 use lib.ListN.{length}
@@ -14,20 +14,18 @@ use Rattle.recovery.specs.Log.{Image, image, Placed, fateOf, effectiveOf}
 use Rattle.recovery.specs.Lent.{Left}
 use Rattle.recovery.specs.Numbers.{isRefused}
 use Rattle.recovery.specs.declared.Answer.{Answer}
-use Rattle.recovery.specs.declared.Answer.the-variants.{Value, Nothing, Moved}
 use Rattle.inspection.specs.Lawful.{versions}
 use Rattle.calls.specs.Calls.{Call, begin, write, read, test, decide, rebuild}
 use Rattle.promises.specs.Runs.{Box, on, off, Event, calls, opens, cuts, moves, cutsMove, callOn, takesPlace, bytesOfMove, answerTo, after, runs, AllAllowed}
-use Rattle.promises.specs.Model.{Version, Object, object, Model, Reply, newest, latest, hasCarried, changed, stores, endedBy, askedAt, carriedTo, countTo, modelMoved, modelCall, modelOpened, modelCut, isOpened, readVersion}
+use Rattle.promises.specs.Model.{Version, Object, object, Model, Reply, newest, latest, hasCarried, changed, stores, endedBy, carriedTo, countTo, modelMoved, modelCall, modelOpened, modelCut, isOpened, readVersion}
 use Rattle.promises.specs.FromLog.{versionOf}
 use Rattle.promises.specs.Promises.{pageIn, writesTo, NoWrite, Alike}
 use Rattle.promises.proofs.logs.Versions.{Among, first, versions-among}
 use Rattle.promises.proofs.logs.Newest.{effective-spot}
 use Rattle.promises.proofs.worlds.LogSays.{given}
 use Rattle.promises.proofs.worlds.ModelCalls.{begins, writes, reads, tests, decides, rebuilds}
-use Rattle.promises.proofs.boxes.Boxes.{isOn, Reached, model-says}
+use Rattle.promises.proofs.boxes.Boxes.{Reached, model-says}
 use Rattle.promises.proofs.boxes.BoxPages.{effective-out}
-use Rattle.promises.proofs.boxes.BoxMoves.{freshLog}
 use Rattle.promises.proofs.boxes.BoxRuns.{pagesAfter, model-is, cut-model, reached-next, reached-on}
 use Rattle.promises.proofs.boxes.Found.{some-is, not-heard}
 use Rattle.promises.proofs.boxes.Lasting.{Shows, not-yet, this}

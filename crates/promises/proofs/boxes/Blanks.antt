@@ -6,7 +6,7 @@ use mathlib.Core.Bool.{Bool, true, false}
 use native.Mathlib.Omega.{arith}
 use lib.ListN.{length, take, drop, getD, replicate, length-replicate, List·getD-eq-default}
 use lib.Seq.{ext-getD, getD-take, getD-drop}
-use lib.Dec.{eqb, leb}
+use lib.Dec.{leb}
 use borrow.Author.Tests.{leb-true, leb-false, eq-eqb, eqb-true}
 use Rattle.encoding.specs.Bytes.{zeros}
 use Rattle.encoding.proofs.Logic.{bool-ext}
@@ -16,7 +16,7 @@ use Rattle.page.specs.Layout.{pageSize}
 use Rattle.page.specs.Answers.{tested}
 use Rattle.page.proofs.Rules.{are-in-bounds}
 use Rattle.recovery.specs.Places.{nth}
-use Rattle.recovery.specs.Log.{Entry, blank}
+use Rattle.recovery.specs.Log.{blank}
 use Rattle.recovery.specs.Sheet.{pageBytes, entryOf, decoded, seal, sealed, pages}
 use Rattle.recovery.specs.World.{endOf}
 use Rattle.recovery.specs.Lent.{pagesOf}

@@ -26,7 +26,7 @@ use Rattle.promises.proofs.bytes.Mixed.{mixed-long, mixed-none, none-ke
 use Rattle.promises.proofs.bytes.ByteCalls.{page-back}
 use Rattle.promises.proofs.boxes.Extends.{ext-refl, event-extends}
 use Rattle.promises.proofs.boxes.Boxes.{Reached, end-is, page-above}
-use Rattle.promises.proofs.boxes.BoxRuns.{reached-next, reached-on, pagesAfter}
+use Rattle.promises.proofs.boxes.BoxRuns.{reached-next, pagesAfter}
 
 -- sheets as long, with the same bytes up to a place
 pub record SameTo (q : ℕ) (s t : List ℕ) : Type 0 where

@@ -1,6 +1,6 @@
 -- A move of a box that stands for a log and a model is answered as the model answers it; refused it leaves the box so, and else a fresh sheet
 -- that stands for the model that has moved.
-use Prim.Native.Nat.{ℕ, suc, _+_, _*_, _/_, _%_, _≤_, _<_}
+use Prim.Native.Nat.{ℕ, suc, _*_, _/_, _%_, _≤_, _<_}
 use mathlib.Core.Path.{_≡_, refl, sym, ap, _∙_, subst}
 use mathlib.Core.List.{List, [], _∷_, _++_, map}
 use mathlib.Core.Bool.{Bool, true, false, cond, not, _&&_, false≢true, true≢false}
@@ -10,13 +10,13 @@ use lib.ListN.{length, drop}
 use lib.Dec.{eqb, leb}
 use borrow.Author.Tests.{eq-eqb, eqb-true, le-leb, leb-true}
 use Rattle.encoding.specs.Bytes.{zeros}
-use Rattle.encoding.proofs.Logic.{and-true, by-test, clash}
+use Rattle.encoding.proofs.Logic.{and-true, by-test}
 use Rattle.page.specs.Layout.{pageSize, mostPlaces, mostFiles}
 use Rattle.recovery.specs.Places.{nth}
 use Rattle.recovery.specs.Log.{Image, Entry, blank, Fate, unknown, committed, Placed, fateOf, outcomeOf}
 use Rattle.recovery.specs.Sheet.{pages}
-use Rattle.recovery.specs.World.{World, refuse, sizes, lentRight, fateNumber, fatesOf, undecidedOf, down, isFile}
-use Rattle.recovery.specs.Lent.{Left, rowLength, rowsOf, flat, pagesOf, lent, whole, refused}
+use Rattle.recovery.specs.World.{World, refuse, lentRight, fateNumber, down, isFile}
+use Rattle.recovery.specs.Lent.{Left, rowLength, rowsOf, flat, pagesOf, lent, refused}
 use Rattle.recovery.specs.Numbers.{isRefused}
 use Rattle.recovery.specs.declared.Answer.{Answer}
 use Rattle.recovery.specs.declared.Answer.the-variants.{Refused, Opened, Rebuilt, Stored, Value, Nothing, Told, Moved}
@@ -38,9 +38,9 @@ use Rattle.moving.proofs.FreshBytes as bytes
 use Rattle.moving.proofs.MoveRefusals.{isEarly, old-kept, fresh-kept}
 use Rattle.promises.specs.Runs.{on, off, moveOn, takesPlace, bytesOfMove}
 use Rattle.promises.specs.Model as model
-use Rattle.promises.specs.Model.{Version, Model, Reply, refuses, newest, carriedTo, askedTo, movedPages, lowestPending, modelMoved, modelMove}
+use Rattle.promises.specs.Model.{Model, Reply, refuses, newest, carriedTo, askedTo, movedPages, lowestPending, modelMoved, modelMove}
 use Rattle.promises.specs.FromLog as fromLog
-use Rattle.promises.specs.FromLog.{statusOf, versionIn, carriedOf, history}
+use Rattle.promises.specs.FromLog.{statusOf, versionIn, history}
 use Rattle.promises.proofs.logs.Logs.{test-lawful}
 use Rattle.promises.proofs.worlds.LogSays.{Says, carried-entry}
 use Rattle.promises.proofs.worlds.Sim.{Sim, lent-right}

@@ -1,23 +1,18 @@
 -- Each event, of a call, an opening or a cut, is answered as the model answers it, and leads from a box that stands for a log and a
 -- model to such a box; so a run of a sheet that began blank does.
-use Prim.Native.Nat.{ℕ, zero, suc, _-_, _*_, _/_, _%_, _≤_, _<_}
+use Prim.Native.Nat.{ℕ, _*_, _/_, _%_}
 use mathlib.Core.Path.{_≡_, refl, sym, ap, subst, _∙_}
 use mathlib.Core.List.{List, [], _∷_, _++_}
 use mathlib.Core.Bool.{Bool, true, false, cond, not, _&&_, false≢true, true≢false}
 use mathlib.Core.Option.{some}
 use native.Mathlib.Omega.{arith}
-use lib.ListN.{length, take, replicate, length-replicate, List·getD-eq-default}
+use lib.ListN.{length, replicate, length-replicate}
 use lib.Dec.{eqb, leb}
-use borrow.Author.Tests.{leb-true, leb-false}
-use Rattle.page.specs.declared.Unpacked.the-variants.{Blank}
 use Rattle.page.specs.Layout.{pageSize}
-use Rattle.page.specs.Answers.{tested}
-use Rattle.page.proofs.Rules.{are-in-bounds}
-use Rattle.recovery.specs.Places.{nth}
 use Rattle.recovery.specs.Log.{Entry, blank, fateOf, imagesOf, effective, versionsOf, tokenOf}
-use Rattle.recovery.specs.Sheet.{pageBytes, entryOf, decoded, seal, sealed, pages}
+use Rattle.recovery.specs.Sheet.{pages}
 use Rattle.recovery.specs.World.{sizes, down}
-use Rattle.recovery.proofs.Pages.{page-at-place, pages-long}
+use Rattle.recovery.proofs.Pages.{pages-long}
 use Rattle.recovery.specs.Lent.{Left}
 use Rattle.recovery.specs.Numbers.{isRefused}
 use Rattle.recovery.specs.declared.Answer.{Answer}
@@ -30,8 +25,7 @@ use Rattle.promises.specs.Model.{Model, Reply, refuses, askedTo, movedPa
 use Rattle.promises.proofs.logs.Fates.{undecided-low}
 use Rattle.promises.proofs.bytes.Stored.{bytesOf}
 use Rattle.promises.proofs.bytes.Cuts.{cutLog}
-use Rattle.promises.proofs.bytes.ByteCalls.{drop-zeros}
-use Rattle.promises.proofs.boxes.Boxes.{Bounds, bounds, isOn, At, Reached, agrees, model-says}
+use Rattle.promises.proofs.boxes.Boxes.{bounds, isOn, At, Reached, agrees, model-says}
 use Rattle.promises.proofs.boxes.BoxCalls.{called, was-cut}
 use Rattle.promises.proofs.boxes.Blanks.{zero-clean}
 use Rattle.promises.proofs.boxes.BoxMoves.{freshLog, move-says, moved-at, refused-at, bytes-are}

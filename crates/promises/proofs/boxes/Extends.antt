@@ -19,7 +19,7 @@ use Rattle.calls.specs.Calls.{Call}
 use Rattle.recovery.specs.declared.Answer.{Answer}
 use Rattle.promises.proofs.worlds.Sim.{Step, stay, add}
 use Rattle.promises.proofs.bytes.Cuts.{cutLog}
-use Rattle.promises.specs.Runs.{Box, on, off, sheetOf, Event, calls, opens, cuts, after, runs, Allowed, AllAllowed, moves, cutsMove, isMoved, movedIn}
+use Rattle.promises.specs.Runs.{Box, on, off, sheetOf, Event, calls, opens, cuts, after, runs, AllAllowed, moves, cutsMove, isMoved, movedIn}
 use Rattle.promises.proofs.bytes.Stored.{bytesOf}
 use Rattle.promises.proofs.boxes.Boxes.{Reached, agrees, log-page}
 use Rattle.promises.proofs.boxes.BoxRuns.{logAfter, reached-next, reached-on, pagesAfter, pagesOn}

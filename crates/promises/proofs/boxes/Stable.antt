@@ -20,7 +20,7 @@ use Rattle.recovery.proofs.LogFates.{undecided-known}
 use Rattle.inspection.specs.Lawful.{token}
 use Rattle.calls.specs.Calls.{write, read}
 use Rattle.promises.specs.Runs.{Box, on, off, Event, calls, moves, callOn, answerTo, after, runs, movedIn, AllAllowed}
-use Rattle.promises.specs.Model.{Version, Object, Model, Reply, refuses, withObject, askedAt, askedTo, movedPages, lowestPending, modelMoved, modelMove, newest, since, latest, shows, hasCarried, readVersion, readHistory, reading, modelCall, currentEnd, isSize}
+use Rattle.promises.specs.Model.{Version, Object, Model, Reply, refuses, withObject, askedAt, askedTo, movedPages, lowestPending, modelMoved, modelMove, newest, since, latest, shows, hasCarried, readHistory, reading, modelCall, currentEnd, isSize}
 use Rattle.promises.specs.FromLog.{versionIn}
 use Rattle.promises.proofs.logs.Logs.{Lawful, not-unknown, fate-zero}
 use Rattle.promises.proofs.logs.Chains.{token-live}

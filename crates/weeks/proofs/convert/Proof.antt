@@ -16,7 +16,7 @@ enum-told : tie.Need-enum-told
 enum-told c = search needs
 
 returns : tie.Need-returns
-returns c = convert-unknown _ _ (sym (c .before .before .of .ensures) ∙ c .enum-told .given .1)
+returns c = convert-unknown _ _ _ (sym (c .before .before .of .ensures) ∙ c .enum-told .given .1)
 
 of-requires-2 : tie.Need-of-requires-2
 of-requires-2 c κs = search needs
@@ -28,10 +28,10 @@ enum-told-2 : tie.Need-enum-told-2
 enum-told-2 c = search needs
 
 returns-2 : tie.Need-returns-2
-returns-2 c = convert-no-output _ _ (sym (c .before .before .before .before .before .before .of .ensures) ∙ c .before .before .before .before .e .given .1) (sym (c .before .before .of2 .ensures) ∙ c .enum-told2 .given .1)
+returns-2 c = convert-no-output _ _ _ (sym (c .before .before .before .before .before .before .of .ensures) ∙ c .before .before .before .before .e .given .1) (sym (c .before .before .of2 .ensures) ∙ c .enum-told2 .given .1)
 
 returns-3 : tie.Need-returns-3
-returns-3 c = convert-same _ _ (sym (c .before .before .before .before .before .before .before .before .of .ensures) ∙ c .before .before .before .before .before .before .e .given .1) (sym (c .before .before .before .before .of2 .ensures) ∙ c .before .before .o .given .1) (c .if1 .taken)
+returns-3 c = convert-same _ _ _ (sym (c .before .before .before .before .before .before .before .before .of .ensures) ∙ c .before .before .before .before .before .before .e .given .1) (sym (c .before .before .before .before .of2 .ensures) ∙ c .before .before .o .given .1) (c .if1 .taken)
 
 convert-by-requires : tie.Need-convert-by-requires
 convert-by-requires c κs =
@@ -46,7 +46,7 @@ returns-4 : tie.Need-returns-4
 returns-4 c =
     let from = sym (c .before .before .before .before .before .before .before .before .before .before .before .before .of .ensures) ∙ c .before .before .before .before .before .before .before .before .before .before .e .given .1 in
     let to = sym (c .before .before .before .before .before .before .before .before .of2 .ensures) ∙ c .before .before .before .before .before .before .o .given .1 in
-    c .before .before .convert-by .ensures ∙ convert-by _ _ from to (c .before .before .before .before .if1 .left)
+    c .before .before .convert-by .ensures ∙ convert-by _ _ _ from to (c .before .before .before .before .if1 .left)
 
 pub convert-spec : {M : Type 1} → statement M
 convert-spec =

@@ -1,84 +1,26 @@
--- `weeks::write_week`. The invariant: the times before k are written. Assumes nothing.
-use Prim.Native.Nat.{ℕ, _*_, _-_, _≤_}
-use mathlib.Core.Path.{_≡_, refl, ap, _∙_}
-use native.Mathlib.Omega.{arith}
-use native.Mathlib.Nat.{mul-zero}
-use denote.Ref.{now}
-use lib.ListN.{length, take}
-use Rattle.encoding.specs.Concat.{concat}
-use Rattle.encoding.proofs.Concat.{concat-turn, concat-end}
-use Rattle.weeks.specs.Editions.{timesAWeek, size}
-use Rattle.weeks.specs.Weeks.{timeIn, inEdition}
-use Rattle.weeks.proofs.Written.{put-there}
+-- `weeks::write_week`: the times, and the mask behind them. Assumes nothing.
+use mathlib.Core.Path.{ap, _∙_}
+use mathlib.Core.List.{_++_}
+use Rattle.encoding.specs.Bytes.{bytes}
+use Rattle.weeks.specs.Weeks.{inEdition}
 use borrow.Author.Needs.{needs}
 use Rattle.weeks.proofs.write_week.Statement.{statement}
 use Rattle.weeks.proofs.write_week.Tie as tie
 
-abbrev Inv-loop : tie.InvT-loop
-Inv-loop e o week out₀ k₀ out k =
-    (take (o .width * k) out ≡ concat k (timeIn e o week)) × (k ≤ timesAWeek) × (length out ≡ length out₀)
+write-times-requires : tie.Need-write-times-requires
+write-times-requires c κs = search needs
 
-abbrev μ-loop : tie.MeasureT-loop
-μ-loop e o week out₀ k₀ out k = timesAWeek - k
+put-mask-requires : tie.Need-put-mask-requires
+put-mask-requires c κs = search needs
 
-loop-holds : tie.Need-loop-holds Inv-loop μ-loop
-unfolding concat
-loop-holds c =
-    let a = c .before .before .args in
-    (ap (λ (n : ℕ). take n (now (a .out))) (mul-zero (a .o .width)), omega arith, refl)
-
-time-at-requires : tie.Need-time-at-requires Inv-loop μ-loop
-time-at-requires c κs = search needs
-
-units-requires : tie.Need-units-requires Inv-loop μ-loop
-units-requires c κs = search needs
-
-put-time-requires : tie.Need-put-time-requires Inv-loop μ-loop
-put-time-requires c κs = search needs
-
-add-k : tie.Need-add-k Inv-loop μ-loop
-add-k c = search needs
-
-loop-less : tie.Need-loop-less Inv-loop μ-loop
-loop-less c = search needs
-
-loop-again : tie.Need-loop-again Inv-loop μ-loop
-loop-again c =
-    let l = c .before .before .before .before .before .before .before in
-    let start = l .before .before .before in
-    let a = start .args in
-    let more = c .before .before .before .before .before .before .loop-test .taken in
-    let put = c .before .before .put-time in
-    let units = c .before .before .before .units in
-    let there = put-there (a .e) (a .o) (now (a .week)) (l .loop .out) (l .loop .k) (units .result) (start .pre .1) (start .pre .4) more (c .before .before .before .before .time-at .ensures .0) (units .ensures .0) in (
-      concat-turn (a .o .width) (l .loop .k) (l .loop .out) (put .last .1 .0) (timeIn (a .e) (a .o) (now (a .week))) (l .loop .inv .0) (put .ensures ∙ there),
-      omega (arith, more),
-      put .kept .1 .0 ∙ l .loop .inv .2,
-    )
-
-same-length : tie.Need-same-length Inv-loop μ-loop
+same-length : tie.Need-same-length
 same-length c = search needs
 
-returns : tie.Need-returns Inv-loop μ-loop
-unfolding inEdition size
+returns : tie.Need-returns
+unfolding inEdition
 returns c =
-    let l = c .before in
-    let start = l .before .before .before in
-    let a = start .args in
-    concat-end (a .o .width) (l .loop .k) timesAWeek (l .loop .out) (timeIn (a .e) (a .o) (now (a .week))) (omega arith) (omega arith) (l .loop .inv .2 ∙ start .pre .3) (l .loop .inv .0)
+    let a = c .before .before .before .before .before .before .before .before .before .before .args in
+    c .before .before .put-mask .ensures ∙ ap (λ t. t ++ bytes (a .o .mask) (a .mask)) (c .before .before .before .before .before .before .write-times .ensures)
 
 pub write-week-spec : {M : Type 1} → statement M
-write-week-spec =
-    tie.close
-    (tie.spec
-    Inv-loop
-    μ-loop
-    loop-holds
-    time-at-requires
-    units-requires
-    put-time-requires
-    add-k
-    loop-less
-    loop-again
-    same-length
-    returns)
+write-week-spec = tie.close (tie.spec write-times-requires put-mask-requires same-length returns)

@@ -28,6 +28,12 @@ mul-result-2 c = omega (arith, same-day (c .before .refusal2 .given .1) (c .befo
 add-result-2 : tie.Need-add-result-2
 add-result-2 c = omega (arith, same-day (c .before .refusal2 .given .1) (c .before .before .before .pre))
 
+enum-told-2 : tie.Need-enum-told-2
+enum-told-2 c = search needs
+
+enum-told-3 : tie.Need-enum-told-3
+enum-told-3 c = search needs
+
 returns : tie.Need-returns
 returns c = ap refusalCode (sym (c .enum-told .given .1))
 
@@ -36,6 +42,12 @@ returns-2 c = ap refusalCode (sym (c .before .refusal .given .1))
 
 returns-3 : tie.Need-returns-3
 returns-3 c = ap refusalCode (sym (c .before .refusal2 .given .1))
+
+returns-4 : tie.Need-returns-4
+returns-4 c = ap refusalCode (sym (c .enum-told2 .given .1))
+
+returns-5 : tie.Need-returns-5
+returns-5 c = ap refusalCode (sym (c .enum-told3 .given .1))
 
 pub refusal-code-spec : {M : Type 1} → statement M
 refusal-code-spec =
@@ -48,6 +60,10 @@ refusal-code-spec =
     enum-known-refusal-2
     mul-result-2
     add-result-2
+    enum-told-2
+    enum-told-3
     returns
     returns-2
-    returns-3)
+    returns-3
+    returns-4
+    returns-5)

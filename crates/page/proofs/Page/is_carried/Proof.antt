@@ -4,7 +4,6 @@ use Rattle.page.specs.Answers.{inBounds, tested, isOpeningPage, isCarrie
 use Rattle.page.proofs.Found.{carried-by}
 use denote.Ref.{now}
 use lib.ListN.{length, getD}
-use lib.Dec.{eqb}
 use borrow.Author.Tests.{eq-eqb, ne-eqb}
 use mathlib.Core.Bool.{Bool, _&&_}
 use mathlib.Core.Path.{sym, ap, _∙_}

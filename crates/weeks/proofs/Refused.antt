@@ -1,0 +1,79 @@
+-- A refused week: what a refused conversion leaves, and the day that a refusal names. Assumes nothing.
+use Prim.Native.Nat.{ℕ, _≤_}
+use mathlib.Core.Path.{_≡_, refl, subst}
+use mathlib.Core.Bool.{Bool, true, false, cond}
+use mathlib.Core.List.{List}
+use native.Mathlib.Omega.{arith}
+use lib.Dec.{eqb, leb}
+use lib.ListN.{length}
+use Rattle.encoding.proofs.Logic.{by-test, clash}
+use Rattle.encoding.proofs.Lowest.{lowest-within}
+use Rattle.weeks.specs.declared.Edition.{Edition}
+use Rattle.weeks.specs.declared.Named.{Named}
+use Rattle.weeks.specs.declared.Named.the-variants.{Known, Unknown}
+use Rattle.weeks.specs.declared.Refusal.{Refusal}
+use Rattle.weeks.specs.declared.Refusal.the-variants.{Length, Times, Minutes, Keyholders, StepDown}
+use Rattle.weeks.specs.declared.WeekTest as test
+use Rattle.weeks.specs.declared.WeekTest.{WeekTest}
+use Rattle.weeks.specs.declared.Conversion as conversion
+use Rattle.weeks.specs.declared.Conversion.{Conversion}
+use Rattle.weeks.specs.Editions.{daysAWeek, named, onKnown}
+use Rattle.weeks.specs.Weeks.{wrongDay, unevenDay, lowestDay, keyholders, enoughKeyholders}
+use Rattle.weeks.specs.Answers.{testedBy, weekTest, refused, convertedBy, converted, refusalDay}
+
+-- ---- the converter
+
+-- what a refused conversion leaves and names
+abbrev pub Refuses : List ℕ → Conversion × List ℕ → Type 0
+Refuses out x = (r : Refusal) → x .0 ≡ conversion.Conversion.Refused r → (x .1 ≡ out) × (refusalDay r ≤ daysAWeek)
+
+refuses : (q : Refusal) (out : List ℕ) → refusalDay q ≤ daysAWeek → Refuses out (refused q out)
+refuses q out h r e = let same : q ≡ r = cc in (refl, subst (λ (x : Refusal). refusalDay x ≤ daysAWeek) same h)
+
+-- one check that refuses, and those after it
+check-refuses : (b : Bool) (x : Conversion × List ℕ) (q : Refusal) (out : List ℕ) → refusalDay q ≤ daysAWeek → Refuses out x → Refuses out (cond b x (refused q out))
+check-refuses true x q out h later = later
+check-refuses false x q out h later = refuses q out h
+
+step-refuses : (e o : Edition) (s : List ℕ) (m : ℕ) (out : List ℕ) → Refuses out (convertedBy e o s m out)
+unfolding convertedBy
+step-refuses e o s m out =
+    check-refuses (leb (e .mask) (o .mask)) _ StepDown out (omega arith)
+    (check-refuses (eqb (lowestDay (wrongDay e s)) 0) _ (Times (lowestDay (wrongDay e s))) out (lowest-within (wrongDay e s) daysAWeek)
+    (check-refuses (enoughKeyholders o m) _ Keyholders out (omega arith)
+    (check-refuses (eqb (lowestDay (unevenDay e o s)) 0) _ (Minutes (lowestDay (unevenDay e o s))) out (lowest-within (unevenDay e o s) daysAWeek)
+    (λ r h. clash cc))))
+
+pub converter-refuses : (s : List ℕ) (m : ℕ) (out : List ℕ) → Refuses out (converted s m out)
+unfolding converted
+converter-refuses s m out = from (named (length s))
+  where
+    length-wrong : Refuses out (refused Length out)
+    length-wrong = refuses Length out (omega arith)
+
+    to : (e : Edition) (n : Named) → Refuses out (onKnown n (λ (o : Edition). cond (eqb (length s) (length out)) (refused Length out) (convertedBy e o s m out)) (refused Length out))
+    to e (Known o) = by-test (Refuses out) (eqb (length s) (length out)) (λ _. length-wrong) (λ _. step-refuses e o s m out)
+    to e Unknown = length-wrong
+
+    from : (n : Named) → Refuses out (onKnown n (λ (e : Edition). onKnown (named (length out)) (λ (o : Edition). cond (eqb (length s) (length out)) (refused Length out) (convertedBy e o s m out)) (refused Length out)) (refused Length out))
+    from (Known e) = to e (named (length out))
+    from Unknown = length-wrong
+
+-- ---- the week test
+
+abbrev pub TestRefuses : WeekTest → Type 0
+TestRefuses x = (r : Refusal) → x ≡ test.WeekTest.Refused r → refusalDay r ≤ daysAWeek
+
+test-refuses : (q : Refusal) → refusalDay q ≤ daysAWeek → TestRefuses (test.WeekTest.Refused q)
+test-refuses q h r e = let same : q ≡ r = cc in subst (λ (x : Refusal). refusalDay x ≤ daysAWeek) same h
+
+pub tester-refuses : (s : List ℕ) → TestRefuses (weekTest s)
+unfolding weekTest testedBy
+tester-refuses s = from (named (length s))
+  where
+    from : (n : Named) → TestRefuses (onKnown n (λ (e : Edition). testedBy e s) (test.WeekTest.Refused Length))
+    from (Known e) =
+        by-test TestRefuses (eqb (lowestDay (wrongDay e s)) 0)
+        (λ _. by-test TestRefuses (enoughKeyholders e (keyholders e s)) (λ _. λ r h. clash cc) (λ _. test-refuses Keyholders (omega arith)))
+        (λ _. test-refuses (Times (lowestDay (wrongDay e s))) (lowest-within (wrongDay e s) daysAWeek))
+    from Unknown = test-refuses Length (omega arith)
