@@ -5,12 +5,24 @@ use mathlib.Core.Bool.{Bool, true, false, _||_, cond}
 use mathlib.Core.List.{List}
 use native.Mathlib.Omega.{arith}
 use native.Mathlib.Numerals.{add-one}
-use borrow.Author.Tests.{eqb-true, eqb-false}
-use lib.Dec.{eqb}
+use borrow.Author.Tests.{eqb-true, eqb-false, ltb-true, ltb-false, lt-ltb}
+use lib.Dec.{eqb, ltb}
 use Rattle.encoding.specs.Lowest.{lowest}
 use Rattle.weeks.specs.declared.Edition.{Edition}
 use Rattle.weeks.specs.Editions.{daysAWeek, timesAWeek}
 use Rattle.weeks.specs.Weeks.{time, wrong, wrongDay, uneven, unevenDay}
+
+-- an opening above the limit is wrong by its closing too
+pub short-test : (l x y : ℕ) → (ltb l y || ltb y x) ≡ (ltb l x || ltb l y || ltb y x)
+short-test l x y = late (ltb l x) refl
+  where
+    below : (b : Bool) → ltb l y ≡ b → l < x → (b || ltb y x) ≡ true
+    below true e h = refl
+    below false e h = lt-ltb y x (omega (arith, ltb-false l y e))
+
+    late : (b : Bool) → ltb l x ≡ b → (ltb l y || ltb y x) ≡ (b || ltb l y || ltb y x)
+    late true e = below (ltb l y) refl (ltb-true l x e)
+    late false e = refl
 
 -- the times of day d + 1
 module _ (e : Edition) (s : List ℕ) (d : ℕ) {x y : ℕ} (opens : x ≡ time e s (2 * d)) (closes : y ≡ time e s (2 * d + 1)) where

@@ -16,11 +16,12 @@ pub struct Faults {
     pub uneven: u64,
 }
 
-// A time is above the limit, or the day closes before it opens.
+// A time is above the limit, or the day closes before it opens. An opening above the limit need not be looked for: then the closing is above
+// it too, or below the opening.
 fn is_wrong(e: Edition, opens: u64, closes: u64) -> bool
     ensures { λ r. ⌜ r ≡ wrong e opens closes ⌝ }
 {
-    (e.limit < opens) | (e.limit < closes) | (closes < opens)
+    (e.limit < closes) | (closes < opens)
 }
 
 // A time of edition e is no whole number of o's units.
