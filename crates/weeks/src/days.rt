@@ -32,33 +32,30 @@ fn is_uneven(e: Edition, o: Edition, t: u64) -> bool
     o.minutes * units(e, o, t) != e.minutes * t
 }
 
-// The lowest day that fails, with one day more: the first that was found stays.
-fn lowest_so_far(found: u64, fails: bool, d: usize) -> u64
-    ensures { λ r. ⌜ r ≡ cond (eqb found 0) (cond fails d 0) found ⌝ }
+// The day if it fails, or else what was found of the days above it.
+fn lower(fails: bool, d: usize, above: u64) -> u64
+    ensures { λ r. ⌜ r ≡ cond fails d above ⌝ }
 {
-    if found != 0 {
-        return found;
-    }
     if fails {
         return d as u64;
     }
-    0
+    above
 }
 
-// Both tests in one pass. It does not end at a fault: those are rare.
+// Both tests in one pass, from Sunday down, so that the last day that is found is the lowest. It does not end at a fault: those are rare.
 pub(crate) fn find_faults(e: Edition, o: Edition, week: &[u8]) -> Faults
     requires { ⌜ IsEdition e × IsEdition o × (length (now week) ≡ size e) ⌝ }
     ensures { λ r. ⌜ (r .wrong ≡ lowestDay (wrongDay e (now (week .entry)))) × (r .uneven ≡ lowestDay (unevenDay e o (now (week .entry)))) ⌝ }
 {
     let mut wrong: u64 = 0;
     let mut uneven: u64 = 0;
-    let mut d: usize = 0;
-    while d < Edition::DAYS {
-        let opens = time_at(e, week, 2 * d);
-        let closes = time_at(e, week, 2 * d + 1);
-        d += 1;
-        wrong = lowest_so_far(wrong, is_wrong(e, opens, closes), d);
-        uneven = lowest_so_far(uneven, is_uneven(e, o, opens) | is_uneven(e, o, closes), d);
+    let mut d: usize = Edition::DAYS;
+    while 0 < d {
+        let opens = time_at(e, week, 2 * d - 2);
+        let closes = time_at(e, week, 2 * d - 1);
+        wrong = lower(is_wrong(e, opens, closes), d, wrong);
+        uneven = lower(is_uneven(e, o, opens) | is_uneven(e, o, closes), d, uneven);
+        d -= 1;
     }
     Faults { wrong, uneven }
 }
