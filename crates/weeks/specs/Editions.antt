@@ -27,7 +27,7 @@ second = record { number = 2; width = 2; limit = 1440; minutes = 1; mask = 0 }
 
 -- as the second, and 16 bits for the keyholders who must attend
 abbrev pub third : Edition
-third = record { number = 3; width = 2; limit = 1440; minutes = 1; mask = 2 }
+third = record { number = 3; width = second .width; limit = second .limit; minutes = second .minutes; mask = 2 }
 
 abbrev pub editions : List Edition
 editions = first ∷ second ∷ third ∷ []

@@ -91,11 +91,12 @@ impl Edition {
     fn third() -> Edition
         ensures { λ r. ⌜ r ≡ third ⌝ }
     {
+        let second = Edition::second();
         Edition {
             number: 3,
-            width: 2,
-            limit: 1440,
-            minutes: 1,
+            width: second.width,
+            limit: second.limit,
+            minutes: second.minutes,
             mask: 2,
         }
     }

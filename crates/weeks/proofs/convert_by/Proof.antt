@@ -7,7 +7,7 @@ use Rattle.weeks.proofs.convert_by.Statement.{statement}
 use Rattle.weeks.proofs.convert_by.Tie as tie
 
 returns : tie.Need-returns
-returns c = step-down _ _ _ _ _ (c .if1 .taken)
+returns c = let a = c .before .before .before .before .before .args in step-down (a .e) (a .o) _ _ _ (c .if1 .taken)
 
 find-faults-requires : tie.Need-find-faults-requires
 find-faults-requires c κs = search needs

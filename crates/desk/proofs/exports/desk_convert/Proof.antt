@@ -22,13 +22,14 @@ same-length : tie.Need-same-length
 same-length c = search needs
 
 returns : tie.Need-returns
-returns c = convert-told _ _ _ _ _ _ (c .before .before .before .before .convert .ensures) (c .enum-told .given .1) refl
+returns c = convert-told _ (c .before .before .before .before .before .before .before .before .args .mask) _ _ _ _ (c .before .before .before .before .convert .ensures) (c .enum-told .given .1) refl
 
 same-length-2 : tie.Need-same-length-2
 same-length-2 c = search needs
 
 returns-2 : tie.Need-returns-2
-returns-2 c = convert-told _ _ _ _ _ _ (c .before .before .before .before .before .before .convert .ensures) (c .before .before .answer .given .1) (c .refusal-code .ensures)
+returns-2 c =
+    convert-told _ (c .before .before .before .before .before .before .before .before .before .before .args .mask) _ _ _ _ (c .before .before .before .before .before .before .convert .ensures) (c .before .before .answer .given .1) (c .refusal-code .ensures)
 
 pub desk-convert-spec : {M : Type 1} → statement M
 desk-convert-spec =
