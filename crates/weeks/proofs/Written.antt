@@ -102,7 +102,7 @@ module _ (e o : Edition) (he : Sound e) (ho : Sound o) (s : List ℕ) (m : ℕ) 
   within-limit = each-time (λ (k : ℕ). time e s k ≤ e .limit)
       (λ d l h. let r = day-right e s d (lowest-none (wrongDay e s) daysAWeek right d l h) in (r .opens, r .closes))
 
-  pub even-minutes : (k : ℕ) → k < timesAWeek → minute e s k % o .minutes ≡ 0
+  even-minutes : (k : ℕ) → k < timesAWeek → minute e s k % o .minutes ≡ 0
   even-minutes k l = whole-units o (minute e s k) (all-even e o s even k l)
 
   units-within : (k : ℕ) → k < timesAWeek → minute e s k / o .minutes ≤ o .limit

@@ -32,7 +32,7 @@ weekTest s = onKnown (named (length s)) (λ (e : Edition). testedBy e s) (test.W
 abbrev pub refused : Refusal → List ℕ → Conversion × List ℕ
 refused r out = (conversion.Conversion.Refused r, out)
 
--- from edition e to edition o, with the caller's mask m; a step down leads from an edition with a mask to one without
+-- from edition e to edition o, with the caller's mask m; a step down, a downgrade, leads from an edition with a mask to one without
 unfoldable pub convertedBy : Edition → Edition → List ℕ → ℕ → List ℕ → Conversion × List ℕ
 convertedBy e o s m out =
     cond (leb (e .mask) (o .mask))

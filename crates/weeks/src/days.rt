@@ -5,7 +5,6 @@ use crate::times::units;
 ghost use mathlib.Core.Bool.{cond};
 ghost use mathlib.Core.Path.{_≡_};
 ghost use Prim.Native.Nat.{_*_, _<_};
-ghost use lib.Dec.{eqb};
 ghost use lib.ListN.{length};
 ghost use Rattle.weeks.specs.Editions.{size, IsEdition};
 ghost use Rattle.weeks.specs.Weeks.{wrong, wrongDay, uneven, unevenDay, lowestDay};

@@ -1,4 +1,4 @@
-// The times of a week, byte by byte: read, brought to another edition's units, and written.
+// The bytes of a week and its times: read, brought to another edition's units, and written.
 use crate::Edition;
 ghost use mathlib.Core.Bool.{not};
 ghost use mathlib.Core.Path.{_≡_};
