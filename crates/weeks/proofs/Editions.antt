@@ -5,13 +5,14 @@ use mathlib.Core.Bool.{Bool, true, false, cond}
 use mathlib.Core.List.{List, [], _∷_}
 use native.Mathlib.Omega.{arith}
 use native.Mathlib.Nat.{mul-le-mul}
-use borrow.Author.Tests.{eqb-true}
+use borrow.Author.Tests.{eqb-true, eqb-false}
 use lib.Dec.{eqb}
-use Rattle.encoding.proofs.Logic.{clash}
+use Rattle.encoding.proofs.Logic.{by-test, clash}
 use Rattle.encoding.proofs.Concat.{run-within}
 use Rattle.weeks.specs.declared.Edition.{Edition}
-use Rattle.weeks.specs.declared.Named.the-variants.{Known}
-use Rattle.weeks.specs.Editions.{timesAWeek, first, second, third, editions, size, namedIn, named, IsEdition}
+use Rattle.weeks.specs.declared.Named.{Named}
+use Rattle.weeks.specs.declared.Named.the-variants.{Known, Unknown}
+use Rattle.weeks.specs.Editions.{timesAWeek, first, second, third, editions, size, namedIn, named, onKnown, onLengths, IsEdition}
 
 -- its number is below every refusal's; a time has one byte or two, and the limit fits them; a unit is one minute or 15; the limit is a
 -- day's 1,440 minutes; the third alone has a mask
@@ -64,9 +65,16 @@ length-named n {e} k = found n e k .1
 pub is-edition : (n : ℕ) {e : Edition} → named n ≡ Known e → IsEdition e
 is-edition n k = ap named (sym (length-named n k)) ∙ k
 
-pub second-edition : {e : Edition} → e ≡ second → IsEdition e
+pub names : {e : Edition} → IsEdition e → (n : ℕ) → n ≡ size e → named n ≡ Known e
+names h n long = ap named long ∙ h
+
+pub is-second : IsEdition second
 unfolding size namedIn named
-second-edition {e} h = subst IsEdition (sym h) refl
+is-second = refl
+
+pub is-third : IsEdition third
+unfolding size namedIn named
+is-third = refl
 
 -- time k lies within the week
 pub time-within : (e : Edition) (k : ℕ) → k < timesAWeek → e .width * k + e .width ≤ size e
@@ -93,3 +101,32 @@ minutes-small h t l = let m : t ≤ 65535 = omega arith in omega (arith, mul-le-
 
 pub wide : {e : Edition} → IsEdition e → (e .width ≡ 1 → ⊥) → e .width ≡ 2
 wide h l = omega (arith, sound h .some-byte, sound h .narrow)
+
+-- ---- by both lengths
+
+-- what holds of f for every two editions, and of d, holds of the answer
+pub by-lengths : {A : Type 0} (P : A → Type 0) (n k : ℕ) {f : Edition → Edition → A} {d : A} → P d
+    → ((e o : Edition) → named n ≡ Known e → named k ≡ Known o → (n ≡ k → ⊥) → P (f e o)) → P (onLengths n k f d)
+by-lengths P n k {f} {d} none both = from (named n) refl
+  where
+    to : (e : Edition) → named n ≡ Known e → (x : Named) → named k ≡ x → P (onKnown x (λ (o : Edition). cond (eqb n k) d (f e o)) d)
+    to e i Unknown j = none
+    to e i (Known o) j = by-test P (eqb n k) (λ _. none) (λ t. both e o i j (eqb-false n k t))
+
+    from : (x : Named) → named n ≡ x → P (onKnown x (λ (e : Edition). onKnown (named k) (λ (o : Edition). cond (eqb n k) d (f e o)) d) d)
+    from Unknown i = none
+    from (Known e) i = to e i (named k) refl
+
+-- two answers that are the same for every two editions are the same
+pub same-lengths : {A : Type 0} (n k : ℕ) (f g : Edition → Edition → A) (d : A) → ((e o : Edition) → named k ≡ Known o → f e o ≡ g e o)
+    → onLengths n k f d ≡ onLengths n k g d
+same-lengths n k f g d same = from (named n)
+  where
+    to : (e : Edition) (x : Named) → named k ≡ x → onKnown x (λ (o : Edition). cond (eqb n k) d (f e o)) d ≡ onKnown x (λ (o : Edition). cond (eqb n k) d (g e o)) d
+    to e Unknown j = refl
+    to e (Known o) j = ap (cond (eqb n k) d) (same e o j)
+
+    from : (x : Named) → onKnown x (λ (e : Edition). onKnown (named k) (λ (o : Edition). cond (eqb n k) d (f e o)) d) d
+        ≡ onKnown x (λ (e : Edition). onKnown (named k) (λ (o : Edition). cond (eqb n k) d (g e o)) d) d
+    from Unknown = refl
+    from (Known e) = to e (named k) refl

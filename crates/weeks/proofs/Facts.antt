@@ -15,17 +15,16 @@ use Rattle.encoding.proofs.Logic.{clash}
 use Rattle.encoding.proofs.Lowest.{lowest-is}
 use Rattle.encoding.proofs.Numbers.{number-bytes}
 use Rattle.weeks.specs.declared.Edition.{Edition}
-use Rattle.weeks.specs.declared.Named.{Named}
-use Rattle.weeks.specs.declared.Named.the-variants.{Known, Unknown}
+use Rattle.weeks.specs.declared.Named.the-variants.{Known}
 use Rattle.weeks.specs.declared.Refusal.the-variants.{Length, Times, StepDown}
 use Rattle.weeks.specs.declared.WeekTest as test
 use Rattle.weeks.specs.declared.Conversion as conversion
 use Rattle.weeks.specs.declared.Conversion.{Conversion}
-use Rattle.weeks.specs.Editions.{daysAWeek, timesAWeek, second, third, size, namedIn, named, onKnown}
+use Rattle.weeks.specs.Editions.{daysAWeek, timesAWeek, second, third, size, named}
 use Rattle.weeks.specs.Weeks.{time, minute, wrongDay, unevenDay, lowestDay, keyholders, enoughKeyholders, timeIn, timesIn, inEdition}
 use Rattle.weeks.specs.Answers.{weekTest, refused, convertedBy, converted}
 use Rattle.weeks.specs.Facts.{Facts}
-use Rattle.weeks.proofs.Editions.{Sound, sound, is-edition, length-named}
+use Rattle.weeks.proofs.Editions.{Sound, sound, is-edition, length-named, names, is-second, is-third, same-lengths}
 use Rattle.weeks.proofs.Lines.{test-wrong, test-week, step-down, convert-by}
 use Rattle.weeks.proofs.Refused.{converter-refuses, tester-refuses}
 use Rattle.weeks.proofs.Steps.{Accepts, Passed, Step, step, passed-by, leaves, from-sound, to-sound, length-to, names-to, right-to, same-edition}
@@ -34,14 +33,6 @@ use Rattle.weeks.proofs.TwoBits.{two-bits}
 use Rattle.weeks.proofs.Written.{no-uneven, minute-there, all-even-there, bytes-back, length-times, times-bytes}
 
 -- ---- masks
-
-second-named : (n : ℕ) → n ≡ size second → named n ≡ Known second
-unfolding named namedIn size
-second-named n long = rw long
-
-third-named : (n : ℕ) → n ≡ size third → named n ≡ Known third
-unfolding named namedIn size
-third-named n long = rw long
 
 -- only weeks of 30 bytes have a mask
 unmasked : (n : ℕ) {e : Edition} → named n ≡ Known e → (n ≡ size third → ⊥) → e .mask ≡ 0
@@ -95,7 +86,7 @@ down-refused : (o : Edition) (s out : List ℕ) (m : ℕ) → length s ≡ size 
     → converted s m out ≡ refused StepDown out
 down-refused o s out m long k d =
     let none : o .mask ≡ 0 = unmasked _ k (λ z. d (long ∙ sym z)) in
-    sym (step-down third o s m out (omega arith) ∙ convert-by s m out (third-named _ long) k d)
+    sym (step-down third o s m out (omega arith) ∙ convert-by s m out (names is-third _ long) k d)
 
 -- ---- what is converted
 
@@ -123,7 +114,7 @@ module _ (s out : List ℕ) (m : ℕ) (long : length out ≡ size third) (h : Ac
   p = step s m out h
 
   to-third : p .to ≡ third
-  to-third = same-edition (p .is-to) (third-named _ long)
+  to-third = same-edition (p .is-to) (names is-third _ long)
 
   passed-third : Passed (p .from) third s m
   passed-third = subst (λ (x : Edition). Passed (p .from) x s m) to-third (p .passed)
@@ -138,7 +129,7 @@ module _ (s out : List ℕ) (m : ℕ) (long : length out ≡ size third) (h : Ac
   from-second : AreBytes s → length s ≡ size second → timesIn (p .from) third s ≡ s
   unfolding timesIn timeIn size
   from-second b l =
-      let same : p .from ≡ second = same-edition (p .is-from) (second-named _ l) in
+      let same : p .from ≡ second = same-edition (p .is-from) (names is-second _ l) in
       ap (λ (x : Edition). timesIn x third s) same
       ∙ times-bytes second s b l (timeIn second third s) (λ k i. ap (bytes 2) (mul-div-right (time second s k) (omega arith)))
       ∙ take-all 28 s (omega arith)
@@ -154,7 +145,7 @@ module _ (s out : List ℕ) (m : ℕ) (long : length out ≡ size third) (h : Ac
         enough = no-mask second m′ refl;
         even = passed-third .even;
       } in
-      ap (λ (r : Conversion × List ℕ). r .1) (passed-by s m′ mid (p .is-from) (second-named _ l) (λ z. other (z ∙ l)) passed)
+      ap (λ (r : Conversion × List ℕ). r .1) (passed-by s m′ mid (p .is-from) (names is-second _ l) (λ z. other (z ∙ l)) passed)
       ∙ append-nil (timesIn (p .from) second s)
 
   goes-up : (mid : List ℕ) (m′ : ℕ) → AreBytes s → length mid ≡ size second
@@ -176,19 +167,9 @@ step-unread e o s out m m′ none =
 
 mask-unread : (s out : List ℕ) (m m′ : ℕ) → (length out ≡ size third → ⊥) → converted s m out ≡ converted s m′ out
 unfolding converted
-mask-unread s out m m′ other = from (named (length s))
-  where
-    to : (e : Edition) (n : Named) → named (length out) ≡ n
-        → onKnown n (λ (o : Edition). cond (eqb (length s) (length out)) (refused Length out) (convertedBy e o s m out)) (refused Length out)
-        ≡ onKnown n (λ (o : Edition). cond (eqb (length s) (length out)) (refused Length out) (convertedBy e o s m′ out)) (refused Length out)
-    to e (Known o) k = ap (λ (x : Conversion × List ℕ). cond (eqb (length s) (length out)) (refused Length out) x) (step-unread e o s out m m′ (unmasked _ k other))
-    to e Unknown k = refl
-
-    from : (n : Named)
-        → onKnown n (λ (e : Edition). onKnown (named (length out)) (λ (o : Edition). cond (eqb (length s) (length out)) (refused Length out) (convertedBy e o s m out)) (refused Length out)) (refused Length out)
-        ≡ onKnown n (λ (e : Edition). onKnown (named (length out)) (λ (o : Edition). cond (eqb (length s) (length out)) (refused Length out) (convertedBy e o s m′ out)) (refused Length out)) (refused Length out)
-    from (Known e) = to e (named (length out)) refl
-    from Unknown = refl
+mask-unread s out m m′ other =
+    same-lengths (length s) (length out) (λ (e o : Edition). convertedBy e o s m out) (λ (e o : Edition). convertedBy e o s m′ out) (refused Length out)
+    (λ e o k. step-unread e o s out m m′ (unmasked _ k other))
 
 -- ---- what is accepted
 
@@ -207,7 +188,7 @@ enough-for o out m k h = go (eqb (length out) (size third)) refl
     go : (b : Bool) → eqb (length out) (size third) ≡ b → enoughKeyholders o m ≡ true
     go true t =
         let long : length out ≡ size third = eqb-true _ _ t in
-        subst (λ (x : Edition). enoughKeyholders x m ≡ true) (same-edition (third-named _ long) k) (le-leb 2 (ones m) (h long))
+        subst (λ (x : Edition). enoughKeyholders x m ≡ true) (same-edition (names is-third _ long) k) (le-leb 2 (ones m) (h long))
     go false t = no-mask o m (unmasked _ k (eqb-false _ _ t))
 
 accepts-week : (e o : Edition) (s out : List ℕ) (m : ℕ) → named (length s) ≡ Known e → named (length out) ≡ Known o → (length s ≡ length out → ⊥)

@@ -20,6 +20,7 @@ use Rattle.weeks.specs.declared.Conversion.{Conversion}
 use Rattle.weeks.specs.Editions.{daysAWeek, named, onKnown}
 use Rattle.weeks.specs.Weeks.{wrongDay, unevenDay, lowestDay, keyholders, enoughKeyholders}
 use Rattle.weeks.specs.Answers.{testedBy, weekTest, refused, convertedBy, converted, refusalDay}
+use Rattle.weeks.proofs.Editions.{by-lengths}
 
 -- ---- the converter
 
@@ -46,18 +47,8 @@ step-refuses e o s m out =
 
 pub converter-refuses : (s : List ℕ) (m : ℕ) (out : List ℕ) → Refuses out (converted s m out)
 unfolding converted
-converter-refuses s m out = from (named (length s))
-  where
-    length-wrong : Refuses out (refused Length out)
-    length-wrong = refuses Length out (omega arith)
-
-    to : (e : Edition) (n : Named) → Refuses out (onKnown n (λ (o : Edition). cond (eqb (length s) (length out)) (refused Length out) (convertedBy e o s m out)) (refused Length out))
-    to e (Known o) = by-test (Refuses out) (eqb (length s) (length out)) (λ _. length-wrong) (λ _. step-refuses e o s m out)
-    to e Unknown = length-wrong
-
-    from : (n : Named) → Refuses out (onKnown n (λ (e : Edition). onKnown (named (length out)) (λ (o : Edition). cond (eqb (length s) (length out)) (refused Length out) (convertedBy e o s m out)) (refused Length out)) (refused Length out))
-    from (Known e) = to e (named (length out))
-    from Unknown = length-wrong
+converter-refuses s m out =
+    by-lengths (Refuses out) (length s) (length out) (refuses Length out (omega arith)) (λ e o n k d. step-refuses e o s m out)
 
 -- ---- the week test
 

@@ -3,13 +3,13 @@ use Prim.Native.Nat.{ℕ, _≤_}
 use mathlib.Core.Path.{_≡_, refl, sym, ap, _∙_}
 use mathlib.Core.Bool.{Bool, true, false, cond}
 use mathlib.Core.List.{List}
-use borrow.Author.Tests.{eqb-true, eqb-false, leb-true}
+use borrow.Author.Tests.{eqb-true, leb-true}
 use lib.Dec.{eqb, leb}
 use lib.ListN.{length}
 use Rattle.encoding.proofs.Logic.{clash}
 use Rattle.weeks.specs.declared.Edition.{Edition}
 use Rattle.weeks.specs.declared.Named.{Named}
-use Rattle.weeks.specs.declared.Named.the-variants.{Known, Unknown}
+use Rattle.weeks.specs.declared.Named.the-variants.{Known}
 use Rattle.weeks.specs.declared.Refusal.{Refusal}
 use Rattle.weeks.specs.declared.Refusal.the-variants.{Length, Times, Minutes, Keyholders, StepDown}
 use Rattle.weeks.specs.declared.Conversion as conversion
@@ -17,8 +17,8 @@ use Rattle.weeks.specs.declared.Conversion.{Conversion}
 use Rattle.weeks.specs.Editions.{named}
 use Rattle.weeks.specs.Weeks.{wrongDay, unevenDay, lowestDay, enoughKeyholders, inEdition}
 use Rattle.weeks.specs.Answers.{refused, convertedBy, converted}
-use Rattle.weeks.proofs.Editions.{Sound, sound, is-edition, length-named}
-use Rattle.weeks.proofs.Lines.{step-done, convert-unknown, convert-no-output, convert-same, convert-by}
+use Rattle.weeks.proofs.Editions.{Sound, sound, is-edition, length-named, by-lengths}
+use Rattle.weeks.proofs.Lines.{step-done, convert-by}
 use Rattle.weeks.proofs.Written.{right-there, length-there}
 
 abbrev pub Accepts : Conversion × List ℕ → Type 0
@@ -64,32 +64,10 @@ pub record Step (s : List ℕ) (m : ℕ) (out : List ℕ) : Type 0 where
   pub passed : Passed from to s m
 
 pub step : (s : List ℕ) (m : ℕ) (out : List ℕ) → Accepts (converted s m out) → Step s m out
-step s m out h = known-from (named (length s)) refl
-  where
-    refusal : refused Length out ≡ converted s m out → ⊥
-    refusal e = not-refused Length out (ap (λ (r : Conversion × List ℕ). r .0) e ∙ h)
-
-    both : (e o : Edition) → named (length s) ≡ Known e → named (length out) ≡ Known o → (b : Bool) → eqb (length s) (length out) ≡ b → Step s m out
-    both e o n k true t = absurd (refusal (convert-same s m out n k (eqb-true _ _ t)))
-    both e o n k false t =
-        let d : length s ≡ length out → ⊥ = eqb-false (length s) (length out) t in
-        let i : convertedBy e o s m out ≡ converted s m out = convert-by s m out n k d in
-        record {
-          from = e;
-          to = o;
-          is-from = n;
-          is-to = k;
-          differ = d;
-          passed = step-passed e o s m out (ap (λ (r : Conversion × List ℕ). r .0) i ∙ h);
-        }
-
-    known-to : (e : Edition) → named (length s) ≡ Known e → (n : Named) → named (length out) ≡ n → Step s m out
-    known-to e n Unknown k = absurd (refusal (convert-no-output s m out n k))
-    known-to e n (Known o) k = both e o n k (eqb (length s) (length out)) refl
-
-    known-from : (n : Named) → named (length s) ≡ n → Step s m out
-    known-from Unknown n = absurd (refusal (convert-unknown s m out n))
-    known-from (Known e) n = known-to e n (named (length out)) refl
+unfolding converted
+step s m out = by-lengths (λ (r : Conversion × List ℕ). Accepts r → Step s m out) (length s) (length out)
+    (λ h. absurd (not-refused Length out h))
+    (λ e o n k d. λ h. record { from = e; to = o; is-from = n; is-to = k; differ = d; passed = step-passed e o s m out h })
 
 module _ {s : List ℕ} {m : ℕ} {out : List ℕ} (p : Step s m out) where
   pub leaves : converted s m out .1 ≡ inEdition (p .from) (p .to) s m

@@ -11,7 +11,7 @@ use Rattle.weeks.specs.declared.WeekTest as test
 use Rattle.weeks.specs.declared.WeekTest.{WeekTest}
 use Rattle.weeks.specs.declared.Conversion as conversion
 use Rattle.weeks.specs.declared.Conversion.{Conversion}
-use Rattle.weeks.specs.Editions.{named, onKnown}
+use Rattle.weeks.specs.Editions.{named, onKnown, onLengths}
 use Rattle.weeks.specs.Weeks.{wrongDay, unevenDay, lowestDay, keyholders, enoughKeyholders, inEdition}
 
 -- ---- the week test
@@ -46,13 +46,7 @@ convertedBy e o s m out =
     (refused StepDown out)
 
 unfoldable pub converted : List ℕ → ℕ → List ℕ → Conversion × List ℕ
-converted s m out =
-    onKnown (named (length s))
-    (λ (e : Edition).
-    onKnown (named (length out))
-    (λ (o : Edition). cond (eqb (length s) (length out)) (refused Length out) (convertedBy e o s m out))
-    (refused Length out))
-    (refused Length out)
+converted s m out = onLengths (length s) (length out) (λ (e o : Edition). convertedBy e o s m out) (refused Length out)
 
 -- ---- in numbers
 

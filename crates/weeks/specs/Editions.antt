@@ -49,6 +49,10 @@ abbrev pub onKnown : {A : Type 0} → Named → (Edition → A) → A → A
 onKnown (Known e) f d = f e
 onKnown Unknown f d = d
 
+-- by both lengths: f of the editions that they name, d where one of them names none, or they are equal
+abbrev pub onLengths : {A : Type 0} → ℕ → ℕ → (Edition → Edition → A) → A → A
+onLengths n k f d = onKnown (named n) (λ (e : Edition). onKnown (named k) (λ (o : Edition). cond (eqb n k) d (f e o)) d) d
+
 -- an edition of the list
 abbrev pub IsEdition : Edition → Type 0
 IsEdition e = named (size e) ≡ Known e

@@ -30,51 +30,44 @@ abbrev pub TwoBits : ℕ → Type 0
 TwoBits m = (i : ℕ) × (j : ℕ) × (i < j) × (bit i m ≡ 1) × (bit j m ≡ 1)
 
 pub record Facts : Type 0 where
-  -- ---- there and back
-
   -- old to new to old, and new to old to new, whatever the masks: where the first step is accepted, so is the second, and it gives the same
-  -- bytes. An output of 30 bytes is excepted: the way back is refused 30
+  -- bytes. An output of 30 bytes is excepted
   pub back : (s out again : List ℕ) (m m′ : ℕ) → AreBytes s → length again ≡ length s → (length out ≡ size third → ⊥)
       → converted s m out .0 ≡ Converted → converted (converted s m out .1) m′ again ≡ (Converted, s)
-  -- whatever the week and the mask
+  -- for there no way leads back: from 30 bytes to any other edition the answer is 30, whatever the week and the mask
   pub no-step-down : (o : Edition) (s out : List ℕ) (m : ℕ) → length s ≡ size third → named (length out) ≡ Known o → (length s ≡ length out → ⊥)
       → converted s m out ≡ (conversion.Conversion.Refused StepDown, out)
-  -- ---- what is converted
-
-  -- it passes the week test as a week of the other edition
+  -- a converted week passes the week test as one of the other edition
   pub passes : (o : Edition) (s out : List ℕ) (m : ℕ) → m < 65536 → named (length out) ≡ Known o → converted s m out .0 ≡ Converted
       → weekTest (converted s m out .1) ≡ Week (o .number)
-  -- it has the same minutes
+  -- and it has the same minutes
   pub same-minutes : (e o : Edition) (s out : List ℕ) (m : ℕ) → named (length s) ≡ Known e → named (length out) ≡ Known o
       → converted s m out .0 ≡ Converted → (k : ℕ) → k < timesAWeek → minute o (converted s m out .1) k ≡ minute e s k
-  -- up to edition 3 it is the week in edition 2, its own bytes or those that it is converted to, and behind them the caller's mask
+  -- in edition 3 it is the week in edition 2, its own bytes or those that it is converted to, and behind them the caller's mask
   pub up : (s mid out : List ℕ) (m m′ : ℕ) → AreBytes s → length mid ≡ size second → length out ≡ size third → converted s m out .0 ≡ Converted
       → converted s m out .1 ≡ cond (eqb (length s) (size second)) s (converted s m′ mid .1) ++ bytes (third .mask) m
+  -- which is found there again
   pub same-mask : (s out : List ℕ) (m : ℕ) → m < 65536 → length out ≡ size third → converted s m out .0 ≡ Converted
       → keyholders third (converted s m out .1) ≡ m
-  -- otherwise the mask is not looked at
+  -- for an output of another length the mask is not looked at
   pub unread : (s out : List ℕ) (m m′ : ℕ) → (length out ≡ size third → ⊥) → converted s m out ≡ converted s m′ out
-  -- a week that passes its test is converted, if the step does not lead down, all its minutes are whole units of the other edition, and the
-  -- mask for an edition 3 has two keyholders
+  -- a week that passes its test is converted, if it is not of edition 3, all its minutes are whole units of the other edition and, for
+  -- edition 3, two bits of the mask are set
   pub accepts : (e o : Edition) (s out : List ℕ) (m : ℕ) → named (length s) ≡ Known e → named (length out) ≡ Known o
       → (length s ≡ length out → ⊥) → (length s ≡ size third → ⊥) → weekTest s ≡ Week (e .number)
       → ((k : ℕ) → k < timesAWeek → minute e s k % o .minutes ≡ 0) → (length out ≡ size third → 2 ≤ ones m) → converted s m out .0 ≡ Converted
   -- a refused conversion writes nothing
   pub unwritten : (s out : List ℕ) (m : ℕ) (r : Refusal) → converted s m out .0 ≡ conversion.Conversion.Refused r → converted s m out .1 ≡ out
-  -- ---- the test of edition 3
-
-  -- a week passes exactly if its first 28 bytes pass as a week of edition 2, and its mask has two bits set
+  -- a week of edition 3 passes its test exactly if its first 28 bytes pass as a week of edition 2, and two bits of its mask are set
   pub third-passes : (s : List ℕ) → length s ≡ size third
       → (weekTest s ≡ Week 3 → (weekTest (take (size second) s) ≡ Week 2) × (2 ≤ ones (keyholders third s)))
       × ((weekTest (take (size second) s) ≡ Week 2) × (2 ≤ ones (keyholders third s)) → weekTest s ≡ Week 3)
-  -- and what is refused of those bytes is refused of it
+  -- and where those bytes are refused, it is refused alike
   pub third-refused : (s : List ℕ) (r : Refusal) → length s ≡ size third → weekTest (take (size second) s) ≡ test.WeekTest.Refused r
       → weekTest s ≡ test.WeekTest.Refused r
   -- the count of ones is 2 or more exactly if two different bits are set
   pub two-bits : (m : ℕ) → (2 ≤ ones m → TwoBits m) × (TwoBits m → 2 ≤ ones m)
-  -- ---- the day that is named
-
-  -- it fails its test, and no lower one does
+  -- a day that is named fails its test, and no lower one does
   pub lowest : (t : ℕ → Bool) (d : ℕ) → lowestDay t ≡ suc d → (t (suc d) ≡ true) × ((k : ℕ) → 1 ≤ k → k ≤ d → t k ≡ false)
   -- and it is one of the seven
   pub tested-day : (s : List ℕ) (r : Refusal) → weekTest s ≡ test.WeekTest.Refused r → refusalDay r ≤ daysAWeek

@@ -1,8 +1,9 @@
 -- `weeks::week_test`, by its ways out. Assumes nothing.
-use mathlib.Core.Path.{sym, ap, _∙_}
+use mathlib.Core.Path.{sym, ap, subst, _∙_}
 use Rattle.encoding.proofs.Logic.{refused, passed}
+use Rattle.weeks.specs.Editions.{IsEdition}
 use Rattle.weeks.specs.Weeks.{enoughKeyholders}
-use Rattle.weeks.proofs.Editions.{is-edition, second-edition, length-named}
+use Rattle.weeks.proofs.Editions.{is-edition, is-second, length-named}
 use Rattle.weeks.proofs.Lines.{test-unknown, test-wrong, test-few, test-week}
 use borrow.Author.Needs.{needs}
 use Rattle.weeks.proofs.week_test.Statement.{statement}
@@ -26,7 +27,7 @@ second-requires c κs = search needs
 find-faults-requires : tie.Need-find-faults-requires
 find-faults-requires c κs =
     let known = sym (c .before .before .before .before .of .ensures) ∙ c .before .before .e .given .1 in
-    (is-edition _ known, second-edition (c .second .ensures), length-named _ known)
+    (is-edition _ known, subst IsEdition (sym (c .second .ensures)) is-second, length-named _ known)
 
 returns-2 : tie.Need-returns-2
 returns-2 c =
