@@ -272,7 +272,7 @@ static void fill_versions(struct sheet s) {
     }
 }
 
-/* Weeks that a head of each edition can take, each other than the one before: behind the new ones are two keyholders. */
+/* Weeks that a head of each edition can take, each other than the one before; behind each are two keyholders. */
 static void fill_weeks(struct sheet s, int is_old) {
     for (uint64_t p = 0; p < s.pages; p++) {
         plain_put(s.bytes + PAGE * p, NEW, DUAL, 3 << p % 15);

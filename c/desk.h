@@ -88,11 +88,11 @@ enum { DESK_OLD_WEEK = 14, DESK_NEW_WEEK = 28, DESK_DUAL_WEEK = 30 };
    DESK_WEEK_LENGTH      week_len is not 14, 28 or 30
    DESK_WEEK_TIMES       and the day: the lowest with a time above its limit, or that closes before it opens
    DESK_WEEK_KEYHOLDERS  edition 3: fewer than two bits of its mask are set
-   The first of them that holds is answered. */
+   The first refusal that holds is answered. */
 uint64_t desk_week_test(const uint8_t *week, size_t week_len);
 
 /* Writes a week at out in another edition, which out_len names. A quarter hour is 15 minutes; a week that is converted from edition 1 to 2 or
-   from 2 to 1, and converted back, has the same bytes. There is no way back from edition 3.
+   from 2 to 1, and converted back, has the same bytes. No conversion leads back from edition 3.
 
    mask   the keyholders who must attend, for an output of edition 3; for another it is not looked at. It has 16 bits: of a wider number C hands
           on the lowest 16 alone
@@ -103,7 +103,7 @@ uint64_t desk_week_test(const uint8_t *week, size_t week_len);
    DESK_WEEK_TIMES       and the day, as in the test
    DESK_WEEK_KEYHOLDERS  to edition 3: fewer than two bits of mask are set
    DESK_WEEK_MINUTES     and the day: to edition 1, the lowest with a minute that is no whole number of quarter hours
-   The first of them that holds is answered. Unless DESK_CONVERTED is, out is untouched. */
+   The first refusal that holds is answered. Unless DESK_CONVERTED is, out is untouched. */
 uint64_t desk_convert(const uint8_t *week, size_t week_len, uint16_t mask, uint8_t *out, size_t out_len);
 enum {
     DESK_CONVERTED = 0,

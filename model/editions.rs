@@ -81,9 +81,9 @@ fn passed(edition: Edition, bytes: &[u8]) -> Result<Hours, Refusal> {
     }
 }
 
-/// Dual custody, where the edition asks for it.
-fn attended(edition: Edition, attending: &Keyholders) -> Result<(), Refusal> {
-    if edition.has_keyholders && attending.len() < 2 {
+/// Dual custody.
+fn attended(attending: &Keyholders) -> Result<(), Refusal> {
+    if attending.len() < 2 {
         return Err(Refusal::Keyholders);
     }
     Ok(())
@@ -94,7 +94,7 @@ pub fn tested(bytes: &[u8]) -> Result<u64, Refusal> {
     let edition = edition(bytes.len()).ok_or(Refusal::Length)?;
     passed(edition, bytes)?;
     if edition.has_keyholders {
-        attended(edition, &keyholders([bytes[28], bytes[29]]))?;
+        attended(&keyholders([bytes[28], bytes[29]]))?;
     }
     Ok(edition.number)
 }
@@ -110,7 +110,9 @@ pub fn converted(bytes: &[u8], mask: u16, length: usize) -> Result<Vec<u8>, Refu
     }
     let hours = passed(from, bytes)?;
     let attending = keyholders(mask.to_le_bytes());
-    attended(to, &attending)?;
+    if to.has_keyholders {
+        attended(&attending)?;
+    }
     let cannot_tell = |minute: u32| minute / to.unit * to.unit != minute;
     if let Some(day) = lowest(hours.iter().map(|day| cannot_tell(day.0) || cannot_tell(day.1))) {
         return Err(Refusal::Minutes(day));

@@ -1,5 +1,5 @@
 /* The proved week test and converter beside the plain ones of plainweeks.h: every length, every value of every time, every mask, and random
-   weeks. Each run of bytes is lent from memory of exactly its length, so that a byte too far is found.
+   weeks. Where they are compared, each run of bytes is lent from memory of exactly its length, so that a byte too far is found.
    Prints a line for each test and 'N passed, M failed'; the seed may be given, so that a failure can be run again. */
 #include "../c/desk.h"
 #include "plainweeks.h"
@@ -99,7 +99,7 @@ static void spoil(uint8_t *week, size_t size) {
     }
 }
 
-/* Every length from 0 to 64 with every other: only two different ones of 14, 28 and 30 go further, and nothing is written. */
+/* Every length from 0 to 64 with every other: only two different ones of 14, 28 and 30 go further; else nothing is written. */
 static int every_length(void) {
     uint8_t bytes[LENGTHS];
     for (size_t n = 0; n < LENGTHS; n++)
@@ -163,12 +163,12 @@ static int every_mask(size_t size, int is_good) {
 
 /* What a week with this mask is answered, and what a step up with it: 3 and done, or 29 and nothing. */
 static int has_enough(unsigned mask, int is_enough) {
-    uint8_t week[DUAL] = {0}, out[DUAL];
+    uint8_t week[DUAL] = {0}, out[DUAL], untouched[DUAL];
     put_mask(week, mask);
+    memset(untouched, UNTOUCHED, sizeof untouched);
     for (int i = 0; i < 2; i++) {
-        memset(out, UNTOUCHED, sizeof out);
-        if (desk_convert(week, sizes[i], (uint16_t)mask, out, DUAL) != (is_enough ? 0 : 29) || out[28] != (is_enough ? mask % 256 : UNTOUCHED)
-            || out[29] != (is_enough ? mask / 256 : UNTOUCHED))
+        memcpy(out, untouched, sizeof out);
+        if (desk_convert(week, sizes[i], (uint16_t)mask, out, DUAL) != (is_enough ? 0 : 29) || memcmp(out, is_enough ? week : untouched, DUAL))
             return 0;
     }
     return desk_week_test(week, DUAL) == (is_enough ? 3 : 29);
@@ -186,7 +186,7 @@ static int bounding_masks(void) {
 }
 
 /* Every pair of days with a fault each, limit, order or minute, with and without enough keyholders, named in the order of the checks: 16 of any
-   day, then 29, then 17. */
+   day before 29 and before 17. */
 static int every_two_faults(size_t size) {
     for (int d = 0; d < DAYS; d++)
         for (int f = 0; f < DAYS; f++)

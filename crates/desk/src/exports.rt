@@ -153,7 +153,7 @@ pub extern "C" fn desk_week_test(week: &[u8]) -> u64
     }
 }
 
-// Writes a week in the other edition, with the mask where that has one: 0, or a refusal.
+// Writes a week in another edition, with the mask where that has one: 0, or a refusal.
 #[no_mangle]
 pub extern "C" fn desk_convert(week: &[u8], mask: u16, out: &mut [u8]) -> u64
     ensures { λ r. ⌜ (r, now (out .exit)) ≡ convertedFor (now (week .entry)) mask (now (out .entry)) ⌝ }

@@ -5,7 +5,7 @@ use mathlib.Core.Bool.{Bool, true, false, _||_, cond}
 use mathlib.Core.List.{List, _++_, append-nil}
 use native.Mathlib.Omega.{arith}
 use native.Mathlib.Nat.{mul-div-right}
-use borrow.Author.Tests.{eqb-true, eqb-false, eq-eqb, le-leb}
+use borrow.Author.Tests.{eqb-true, eqb-false, eq-eqb, le-leb, lt-leb}
 use lib.Dec.{eqb, leb}
 use lib.Count.{ones}
 use lib.ListN.{length, take}
@@ -16,7 +16,8 @@ use Rattle.encoding.proofs.Lowest.{lowest-is}
 use Rattle.encoding.proofs.Numbers.{number-bytes}
 use Rattle.weeks.specs.declared.Edition.{Edition}
 use Rattle.weeks.specs.declared.Named.the-variants.{Known}
-use Rattle.weeks.specs.declared.Refusal.the-variants.{Length, Times, StepDown}
+use Rattle.weeks.specs.declared.Refusal.{Refusal}
+use Rattle.weeks.specs.declared.Refusal.the-variants.{Length, Times, Keyholders, StepDown}
 use Rattle.weeks.specs.declared.WeekTest as test
 use Rattle.weeks.specs.declared.Conversion as conversion
 use Rattle.weeks.specs.declared.Conversion.{Conversion}
@@ -25,10 +26,10 @@ use Rattle.weeks.specs.Weeks.{time, minute, wrongDay, unevenDay, lowestD
 use Rattle.weeks.specs.Answers.{weekTest, refused, convertedBy, converted}
 use Rattle.weeks.specs.Facts.{Facts}
 use Rattle.weeks.proofs.Editions.{Sound, sound, is-edition, length-named, names, is-second, is-third, same-lengths}
-use Rattle.weeks.proofs.Lines.{test-wrong, test-week, step-down, convert-by}
+use Rattle.weeks.proofs.Lines.{test-wrong, test-week, step-down, step-wrong, step-few, convert-by}
 use Rattle.weeks.proofs.Refused.{converter-refuses, tester-refuses}
 use Rattle.weeks.proofs.Steps.{Accepts, Passed, Step, step, passed-by, leaves, from-sound, to-sound, length-to, names-to, right-to, same-edition}
-use Rattle.weeks.proofs.ThirdTest.{third-exactly, third-as-second}
+use Rattle.weeks.proofs.ThirdTest.{third-exactly, third-as-second, third-too-few}
 use Rattle.weeks.proofs.TwoBits.{two-bits}
 use Rattle.weeks.proofs.Written.{no-uneven, minute-there, all-even-there, bytes-back, length-times, times-bytes}
 
@@ -52,16 +53,16 @@ unfolding keyholders inEdition
 mask-there e s m h =
     ap (λ (t : List ℕ). number (take 2 t)) (drop-at (timesIn e third s) (bytes 2 m) 28 (length-times e third s)) ∙ number-bytes 2 m (omega arith)
 
-enough-there : (e o : Edition) → Sound o → (s : List ℕ) (m : ℕ) → m < 65536 → enoughKeyholders o m ≡ true
+enough-there : (e o : Edition) → Sound o → (s : List ℕ) (m : ℕ) → (o ≡ third → m < 65536) → enoughKeyholders o m ≡ true
     → enoughKeyholders o (keyholders o (inEdition e o s m)) ≡ true
 enough-there e o ho s m small h = go (eqb (o .mask) 0) refl
   where
     go : (b : Bool) → eqb (o .mask) 0 ≡ b → enoughKeyholders o (keyholders o (inEdition e o s m)) ≡ true
     go true t = no-mask o (keyholders o (inEdition e o s m)) (eqb-true (o .mask) 0 t)
     go false t =
-        let same : third ≡ o = sym (ho .masked (eqb-false (o .mask) 0 t)) in
-        subst (λ (x : Edition). enoughKeyholders x (keyholders x (inEdition e x s m)) ≡ true) same
-        (ap (enoughKeyholders third) (mask-there e s m small) ∙ subst (λ (x : Edition). enoughKeyholders x m ≡ true) (sym same) h)
+        let same : o ≡ third = ho .masked (eqb-false (o .mask) 0 t) in
+        subst (λ (x : Edition). enoughKeyholders x (keyholders x (inEdition e x s m)) ≡ true) (sym same)
+        (ap (enoughKeyholders third) (mask-there e s m (small same)) ∙ subst (λ (x : Edition). enoughKeyholders x m ≡ true) same h)
 
 -- ---- there and back
 
@@ -90,13 +91,13 @@ down-refused o s out m long k d =
 
 -- ---- what is converted
 
-passes-test : (o : Edition) (s out : List ℕ) (m : ℕ) → m < 65536 → named (length out) ≡ Known o → Accepts (converted s m out)
-    → weekTest (converted s m out .1) ≡ test.WeekTest.Week (o .number)
+passes-test : (o : Edition) (s out : List ℕ) (m : ℕ) → (length out ≡ size third → m < 65536) → named (length out) ≡ Known o
+    → Accepts (converted s m out) → weekTest (converted s m out .1) ≡ test.WeekTest.Week (o .number)
 passes-test o s out m small k h =
     let p : Step s m out = step s m out h in
     ap weekTest (leaves p)
     ∙ sym (test-week (p .to) (inEdition (p .from) (p .to) s m) (names-to p) refl (right-to p)
-    (enough-there (p .from) (p .to) (to-sound p) s m small (p .passed .enough)))
+    (enough-there (p .from) (p .to) (to-sound p) s m (λ same. small (length-named _ (p .is-to) ∙ ap size same)) (p .passed .enough)))
     ∙ ap (λ (x : Edition). test.WeekTest.Week (x .number)) (same-edition (p .is-to) k)
 
 keeps-minutes : (e o : Edition) (s out : List ℕ) (m : ℕ) → named (length s) ≡ Known e → named (length out) ≡ Known o
@@ -121,9 +122,6 @@ module _ (s out : List ℕ) (m : ℕ) (long : length out ≡ size third) (h : Ac
 
   leaves-third : converted s m out .1 ≡ inEdition (p .from) third s m
   leaves-third = leaves p ∙ ap (λ (x : Edition). inEdition (p .from) x s m) to-third
-
-  keeps-mask : m < 65536 → keyholders third (converted s m out .1) ≡ m
-  keeps-mask small = ap (keyholders third) leaves-third ∙ mask-there (p .from) s m small
 
   -- from edition 2 the times stay
   from-second : AreBytes s → length s ≡ size second → timesIn (p .from) third s ≡ s
@@ -171,15 +169,40 @@ mask-unread s out m m′ other =
     same-lengths (length s) (length out) (λ (e o : Edition). convertedBy e o s m out) (λ (e o : Edition). convertedBy e o s m′ out) (refused Length out)
     (λ e o k. step-unread e o s out m m′ (unmasked _ k other))
 
--- ---- what is accepted
+-- ---- what is refused, and what is accepted
 
--- a week of edition e that passes has no wrong day
-passed-right : (e : Edition) (s : List ℕ) → named (length s) ≡ Known e → weekTest s ≡ test.WeekTest.Week (e .number) → lowestDay (wrongDay e s) ≡ 0
-passed-right e s n h = go (eqb (lowestDay (wrongDay e s)) 0) refl
-  where
-    go : (b : Bool) → eqb (lowestDay (wrongDay e s)) 0 ≡ b → lowestDay (wrongDay e s) ≡ 0
-    go true t = eqb-true _ _ t
-    go false t = let q : test.WeekTest.Refused (Times (lowestDay (wrongDay e s))) ≡ test.WeekTest.Week (e .number) = test-wrong e s n refl (eqb-false _ _ t) ∙ h in clash cc
+-- the week test, of an edition without a mask
+module _ (e : Edition) (s : List ℕ) (n : named (length s) ≡ Known e) (other : length s ≡ size third → ⊥) where
+  none : e .mask ≡ 0
+  none = unmasked _ n other
+
+  by-days : (b : Bool) → eqb (lowestDay (wrongDay e s)) 0 ≡ b → weekTest s ≡ cond b (test.WeekTest.Week (e .number)) (test.WeekTest.Refused (Times (lowestDay (wrongDay e s))))
+  by-days true t = sym (test-week e s n refl (eqb-true _ _ t) (no-mask e (keyholders e s) none))
+  by-days false t = sym (test-wrong e s n refl (eqb-false _ _ t))
+
+  passed-right : weekTest s ≡ test.WeekTest.Week (e .number) → lowestDay (wrongDay e s) ≡ 0
+  passed-right h = go (eqb (lowestDay (wrongDay e s)) 0) refl
+    where
+      go : (b : Bool) → eqb (lowestDay (wrongDay e s)) 0 ≡ b → lowestDay (wrongDay e s) ≡ 0
+      go true t = eqb-true _ _ t
+      go false t = let q : test.WeekTest.Refused (Times (lowestDay (wrongDay e s))) ≡ test.WeekTest.Week (e .number) = sym (by-days false t) ∙ h in clash cc
+
+  refused-alike : (o : Edition) (out : List ℕ) (m : ℕ) (r : Refusal) → named (length out) ≡ Known o → (length s ≡ length out → ⊥)
+      → weekTest s ≡ test.WeekTest.Refused r → converted s m out ≡ refused r out
+  refused-alike o out m r k d h = go (eqb (lowestDay (wrongDay e s)) 0) refl
+    where
+      go : (b : Bool) → eqb (lowestDay (wrongDay e s)) 0 ≡ b → converted s m out ≡ refused r out
+      go true t = let q : test.WeekTest.Week (e .number) ≡ test.WeekTest.Refused r = sym (by-days true t) ∙ h in clash cc
+      go false t =
+          let q : test.WeekTest.Refused (Times (lowestDay (wrongDay e s))) ≡ test.WeekTest.Refused r = sym (by-days false t) ∙ h in
+          let same : Times (lowestDay (wrongDay e s)) ≡ r = cc in
+          sym (step-wrong e o s m out (omega (arith, none)) refl (eqb-false _ _ t) ∙ convert-by s m out n k d) ∙ ap (λ (x : Refusal). refused x out) same
+
+  few-refused : (out : List ℕ) (m : ℕ) → length out ≡ size third → weekTest s ≡ test.WeekTest.Week (e .number) → ones m < 2
+      → converted s m out ≡ refused Keyholders out
+  unfolding enoughKeyholders
+  few-refused out m long h l =
+      sym (step-few e third s m out (omega (arith, none)) refl (passed-right h) (lt-leb 2 (ones m) l) ∙ convert-by s m out n (names is-third _ long) (λ z. other (z ∙ long)))
 
 enough-for : (o : Edition) (out : List ℕ) (m : ℕ) → named (length out) ≡ Known o → (length out ≡ size third → 2 ≤ ones m) → enoughKeyholders o m ≡ true
 unfolding enoughKeyholders
@@ -192,12 +215,16 @@ enough-for o out m k h = go (eqb (length out) (size third)) refl
     go false t = no-mask o m (unmasked _ k (eqb-false _ _ t))
 
 accepts-week : (e o : Edition) (s out : List ℕ) (m : ℕ) → named (length s) ≡ Known e → named (length out) ≡ Known o → (length s ≡ length out → ⊥)
-    → (length s ≡ size third → ⊥) → weekTest s ≡ test.WeekTest.Week (e .number) → ((k : ℕ) → k < timesAWeek → minute e s k % o .minutes ≡ 0)
-    → (length out ≡ size third → 2 ≤ ones m) → Accepts (converted s m out)
-accepts-week e o s out m n k d other h even two =
-    let none : e .mask ≡ 0 = unmasked _ n other in
+    → (length s ≡ size third → ⊥) → weekTest s ≡ test.WeekTest.Week (e .number) → (length out ≡ size third → 2 ≤ ones m)
+    → ((k : ℕ) → k < timesAWeek → minute e s k % o .minutes ≡ 0) → Accepts (converted s m out)
+accepts-week e o s out m n k d other h two even =
     ap (λ (r : Conversion × List ℕ). r .0)
-    (passed-by s m out n k d (record { up = omega arith; right = passed-right e s n h; enough = enough-for o out m k two; even = no-uneven e o s even }))
+    (passed-by s m out n k d (record {
+      up = omega (arith, none e s n other);
+      right = passed-right e s n other h;
+      enough = enough-for o out m k two;
+      even = no-uneven e o s even;
+    }))
 
 pub facts : Facts
 facts = record {
@@ -206,12 +233,14 @@ facts = record {
   passes = passes-test;
   same-minutes = keeps-minutes;
   up = λ s mid out m m′ b l long h. goes-up s out m long h mid m′ b l;
-  same-mask = λ s out m small long h. keeps-mask s out m long h small;
   unread = mask-unread;
+  refuses = λ e o s out m r n k d other. refused-alike e s n other o out m r k d;
+  few = λ e s out m n long other. few-refused e s n other out m long;
   accepts = accepts-week;
   unwritten = λ s out m r h. converter-refuses s m out r h .0;
   third-passes = third-exactly;
   third-refused = λ s r long. third-as-second s long r;
+  third-few = third-too-few;
   two-bits = two-bits;
   lowest = λ t d h. let r = lowest-is t daysAWeek d h in (r .0, r .1);
   tested-day = tester-refuses;

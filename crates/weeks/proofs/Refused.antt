@@ -4,6 +4,7 @@ use mathlib.Core.Path.{_≡_, refl, subst}
 use mathlib.Core.Bool.{Bool, true, false, cond}
 use mathlib.Core.List.{List}
 use native.Mathlib.Omega.{arith}
+use borrow.Author.Tests.{eqb-false}
 use lib.Dec.{eqb, leb}
 use lib.ListN.{length}
 use Rattle.encoding.proofs.Logic.{by-test, clash}
@@ -20,43 +21,48 @@ use Rattle.weeks.specs.declared.Conversion.{Conversion}
 use Rattle.weeks.specs.Editions.{daysAWeek, named, onKnown}
 use Rattle.weeks.specs.Weeks.{wrongDay, unevenDay, lowestDay, keyholders, enoughKeyholders}
 use Rattle.weeks.specs.Answers.{testedBy, weekTest, refused, convertedBy, converted, refusalDay}
+use Rattle.weeks.specs.Facts.{NamesDay}
 use Rattle.weeks.proofs.Editions.{by-lengths}
 
 -- ---- the converter
 
 -- what a refused conversion leaves and names
 abbrev pub Refuses : List ℕ → Conversion × List ℕ → Type 0
-Refuses out x = (r : Refusal) → x .0 ≡ conversion.Conversion.Refused r → (x .1 ≡ out) × (refusalDay r ≤ daysAWeek)
+Refuses out x = (r : Refusal) → x .0 ≡ conversion.Conversion.Refused r → (x .1 ≡ out) × NamesDay r
 
-refuses : (q : Refusal) (out : List ℕ) → refusalDay q ≤ daysAWeek → Refuses out (refused q out)
-refuses q out h r e = let same : q ≡ r = cc in (refl, subst (λ (x : Refusal). refusalDay x ≤ daysAWeek) same h)
+refuses : (q : Refusal) (out : List ℕ) → NamesDay q → Refuses out (refused q out)
+refuses q out h r e = let same : q ≡ r = cc in (refl, subst NamesDay same h)
+
+-- a lowest day that is not 0
+is-day : (t : ℕ → Bool) → eqb (lowestDay t) 0 ≡ false → (1 ≤ lowestDay t) × (lowestDay t ≤ daysAWeek)
+is-day t e = (omega (arith, eqb-false (lowestDay t) 0 e), lowest-within t daysAWeek)
 
 -- one check that refuses, and those after it
-check-refuses : (b : Bool) (x : Conversion × List ℕ) (q : Refusal) (out : List ℕ) → refusalDay q ≤ daysAWeek → Refuses out x → Refuses out (cond b x (refused q out))
+check-refuses : (b : Bool) (x : Conversion × List ℕ) (q : Refusal) (out : List ℕ) → (b ≡ false → NamesDay q) → Refuses out x → Refuses out (cond b x (refused q out))
 check-refuses true x q out h later = later
-check-refuses false x q out h later = refuses q out h
+check-refuses false x q out h later = refuses q out (h refl)
 
 step-refuses : (e o : Edition) (s : List ℕ) (m : ℕ) (out : List ℕ) → Refuses out (convertedBy e o s m out)
 unfolding convertedBy
 step-refuses e o s m out =
-    check-refuses (leb (e .mask) (o .mask)) _ StepDown out (omega arith)
-    (check-refuses (eqb (lowestDay (wrongDay e s)) 0) _ (Times (lowestDay (wrongDay e s))) out (lowest-within (wrongDay e s) daysAWeek)
-    (check-refuses (enoughKeyholders o m) _ Keyholders out (omega arith)
-    (check-refuses (eqb (lowestDay (unevenDay e o s)) 0) _ (Minutes (lowestDay (unevenDay e o s))) out (lowest-within (unevenDay e o s) daysAWeek)
+    check-refuses (leb (e .mask) (o .mask)) _ StepDown out (λ _. tt)
+    (check-refuses (eqb (lowestDay (wrongDay e s)) 0) _ (Times (lowestDay (wrongDay e s))) out (is-day (wrongDay e s))
+    (check-refuses (enoughKeyholders o m) _ Keyholders out (λ _. tt)
+    (check-refuses (eqb (lowestDay (unevenDay e o s)) 0) _ (Minutes (lowestDay (unevenDay e o s))) out (is-day (unevenDay e o s))
     (λ r h. clash cc))))
 
 pub converter-refuses : (s : List ℕ) (m : ℕ) (out : List ℕ) → Refuses out (converted s m out)
 unfolding converted
 converter-refuses s m out =
-    by-lengths (Refuses out) (length s) (length out) (refuses Length out (omega arith)) (λ e o n k d. step-refuses e o s m out)
+    by-lengths (Refuses out) (length s) (length out) (refuses Length out tt) (λ e o n k d. step-refuses e o s m out)
 
 -- ---- the week test
 
 abbrev pub TestRefuses : WeekTest → Type 0
-TestRefuses x = (r : Refusal) → x ≡ test.WeekTest.Refused r → refusalDay r ≤ daysAWeek
+TestRefuses x = (r : Refusal) → x ≡ test.WeekTest.Refused r → NamesDay r
 
-test-refuses : (q : Refusal) → refusalDay q ≤ daysAWeek → TestRefuses (test.WeekTest.Refused q)
-test-refuses q h r e = let same : q ≡ r = cc in subst (λ (x : Refusal). refusalDay x ≤ daysAWeek) same h
+test-refuses : (q : Refusal) → NamesDay q → TestRefuses (test.WeekTest.Refused q)
+test-refuses q h r e = let same : q ≡ r = cc in subst NamesDay same h
 
 pub tester-refuses : (s : List ℕ) → TestRefuses (weekTest s)
 unfolding weekTest testedBy
@@ -65,6 +71,14 @@ tester-refuses s = from (named (length s))
     from : (n : Named) → TestRefuses (onKnown n (λ (e : Edition). testedBy e s) (test.WeekTest.Refused Length))
     from (Known e) =
         by-test TestRefuses (eqb (lowestDay (wrongDay e s)) 0)
-        (λ _. by-test TestRefuses (enoughKeyholders e (keyholders e s)) (λ _. λ r h. clash cc) (λ _. test-refuses Keyholders (omega arith)))
-        (λ _. test-refuses (Times (lowestDay (wrongDay e s))) (lowest-within (wrongDay e s) daysAWeek))
-    from Unknown = test-refuses Length (omega arith)
+        (λ _. by-test TestRefuses (enoughKeyholders e (keyholders e s)) (λ _. λ r h. clash cc) (λ _. test-refuses Keyholders tt))
+        (λ t. test-refuses (Times (lowestDay (wrongDay e s))) (is-day (wrongDay e s) t))
+    from Unknown = test-refuses Length tt
+
+-- the number that is told of it
+pub day-within : (r : Refusal) → NamesDay r → refusalDay r ≤ daysAWeek
+day-within Length h = omega arith
+day-within (Times d) h = h .1
+day-within (Minutes d) h = h .1
+day-within Keyholders h = omega arith
+day-within StepDown h = omega arith

@@ -4,7 +4,7 @@ use mathlib.Core.Path.{_≡_, refl, sym, ap, ap₂, _∙_}
 use mathlib.Core.Bool.{Bool, true, false, cond}
 use mathlib.Core.List.{List}
 use native.Mathlib.Omega.{arith}
-use borrow.Author.Tests.{leb-true, le-leb}
+use borrow.Author.Tests.{leb-true, le-leb, lt-leb}
 use lib.Dec.{eqb, leb}
 use lib.Count.{ones}
 use lib.ListN.{length, take, drop, take-append-drop}
@@ -36,6 +36,10 @@ third-only false c d h = clash cc
 third-then : (b c : Bool) (d : ℕ) → secondSays b d ≡ test.WeekTest.Week 2 → c ≡ true → thirdSays b c d ≡ test.WeekTest.Week 3
 third-then true c d h e = rw e
 third-then false c d h e = clash cc
+
+third-less : (b c : Bool) (d : ℕ) → secondSays b d ≡ test.WeekTest.Week 2 → c ≡ false → thirdSays b c d ≡ test.WeekTest.Refused Keyholders
+third-less true c d h e = rw e
+third-less false c d h e = clash cc
 
 third-alike : (b c : Bool) (d : ℕ) (r : Refusal) → secondSays b d ≡ test.WeekTest.Refused r → thirdSays b c d ≡ test.WeekTest.Refused r
 third-alike true c d r h = clash cc
@@ -90,3 +94,7 @@ module _ (s : List ℕ) (long : length s ≡ size third) where
   pub third-as-second : (r : Refusal) → weekTest (take (size second) s) ≡ test.WeekTest.Refused r → weekTest s ≡ test.WeekTest.Refused r
   unfolding front
   third-as-second r h = by-third ∙ third-alike right enough _ r (sym by-second ∙ h)
+
+  pub third-too-few : weekTest (take (size second) s) ≡ test.WeekTest.Week 2 → ones (keyholders third s) < 2 → weekTest s ≡ test.WeekTest.Refused Keyholders
+  unfolding front enough
+  third-too-few h l = by-third ∙ third-less right enough _ (sym by-second ∙ h) (lt-leb 2 _ l)

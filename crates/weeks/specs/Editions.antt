@@ -1,5 +1,5 @@
 -- The editions of the lock heads. An edition is one record: its number, the bytes of a time, the highest time, the minutes of a unit of
--- time, and the bytes of the keyholder mask. A new edition is one more record in the list: everything else is said over the record.
+-- time, and the bytes of the keyholder mask. A new edition is one more record in the list: the tests and the converter are said over the record.
 use Prim.Native.Nat.{ℕ, _+_, _*_}
 use mathlib.Core.Path.{_≡_}
 use mathlib.Core.List.{List, [], _∷_}

@@ -148,7 +148,7 @@ fn write_times(e: Edition, o: Edition, week: &[u8], out: &mut [u8])
     }
 }
 
-// And the mask behind them, where that edition has one.
+// Writes the times, and behind them the mask, where that edition has one.
 fn write_week(e: Edition, o: Edition, week: &[u8], mask: u16, out: &mut [u8])
     requires { ⌜ IsEdition e × IsEdition o × (length (now week) ≡ size e) × (length (now out) ≡ size o) × (lowestDay (unevenDay e o (now week)) ≡ 0) ⌝ }
     ensures { λ _. ⌜ now (out .exit) ≡ inEdition e o (now (week .entry)) mask ⌝ }
@@ -179,8 +179,8 @@ fn convert_by(e: Edition, o: Edition, week: &[u8], mask: u16, out: &mut [u8]) ->
     Conversion::Converted
 }
 
-// Writes the week into the output in the other edition, which the output's length names, with the caller's mask where that edition has
-// one: 15, then 30, 16, 29 and 17.
+// Writes the week into the output in another edition, which the output's length names, with the caller's mask where that edition has one:
+// 15, then 30, 16, 29 and 17.
 pub fn convert(week: &[u8], mask: u16, out: &mut [u8]) -> Conversion
     ensures { λ r. ⌜ (r, now (out .exit)) ≡ converted (now (week .entry)) mask (now (out .entry)) ⌝ }
 {

@@ -9,8 +9,7 @@ use native.Mathlib.Omega.{arith}
 use lib.ListN.{length, replicate, length-replicate}
 use lib.Dec.{eqb, leb}
 use Rattle.page.specs.Layout.{pageSize}
-use Rattle.recovery.specs.Log.{Entry, blank, fateOf, imagesOf, effective, versionsOf, tokenOf}
-use Rattle.recovery.specs.Sheet.{pages}
+use Rattle.recovery.specs.Log.{Entry, fateOf, imagesOf, effective, versionsOf, tokenOf}
 use Rattle.recovery.specs.World.{sizes, down}
 use Rattle.recovery.proofs.Pages.{pages-long}
 use Rattle.recovery.specs.Lent.{Left}
