@@ -75,10 +75,17 @@ tester-refuses s = from (named (length s))
         (λ t. test-refuses (Times (lowestDay (wrongDay e s))) (is-day (wrongDay e s) t))
     from Unknown = test-refuses Length tt
 
--- the number that is told of it
-pub day-within : (r : Refusal) → NamesDay r → refusalDay r ≤ daysAWeek
+-- ---- the day as a number
+
+day-within : (r : Refusal) → NamesDay r → refusalDay r ≤ daysAWeek
 day-within Length h = omega arith
 day-within (Times d) h = h .1
 day-within (Minutes d) h = h .1
 day-within Keyholders h = omega arith
 day-within StepDown h = omega arith
+
+pub tested-within : (s : List ℕ) (r : Refusal) → weekTest s ≡ test.WeekTest.Refused r → refusalDay r ≤ daysAWeek
+tested-within s r h = day-within r (tester-refuses s r h)
+
+pub converted-within : (s : List ℕ) (m : ℕ) (out : List ℕ) (r : Refusal) → converted s m out .0 ≡ conversion.Conversion.Refused r → refusalDay r ≤ daysAWeek
+converted-within s m out r h = day-within r (converter-refuses s m out r h .1)

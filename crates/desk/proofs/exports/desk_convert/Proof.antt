@@ -1,7 +1,6 @@
 -- `desk::exports::desk_convert`, answer by answer. Assumes nothing.
 use mathlib.Core.Path.{refl}
-use Rattle.weeks.proofs.Facts.{facts}
-use Rattle.weeks.proofs.Refused.{day-within}
+use Rattle.weeks.proofs.Refused.{converted-within}
 use Rattle.desk.proofs.Exported.{convert-told, convert-answer}
 use borrow.Author.Needs.{needs}
 use Rattle.desk.proofs.exports.desk_convert.Statement.{statement}
@@ -17,7 +16,7 @@ enum-known-answer : tie.Need-enum-known-answer
 enum-known-answer c = search needs
 
 refusal-code-requires : tie.Need-refusal-code-requires
-refusal-code-requires c κs = day-within _ (facts .converted-day _ _ _ _ (convert-answer _ _ _ _ (c .before .before .before .before .before .convert .ensures) (c .before .answer .given .1)))
+refusal-code-requires c κs = converted-within _ _ _ _ (convert-answer _ _ _ _ (c .before .before .before .before .before .convert .ensures) (c .before .answer .given .1))
 
 same-length : tie.Need-same-length
 same-length c = search needs

@@ -1,7 +1,6 @@
 -- `desk::exports::desk_week_test`, answer by answer. Assumes nothing.
 use mathlib.Core.Path.{sym, _∙_}
-use Rattle.weeks.proofs.Facts.{facts}
-use Rattle.weeks.proofs.Refused.{day-within}
+use Rattle.weeks.proofs.Refused.{tested-within}
 use Rattle.desk.proofs.Exported.{week-told}
 use borrow.Author.Needs.{needs}
 use Rattle.desk.proofs.exports.desk_week_test.Statement.{statement}
@@ -17,7 +16,7 @@ enum-known-answer-2 : tie.Need-enum-known-answer-2
 enum-known-answer-2 c = search needs
 
 refusal-code-requires : tie.Need-refusal-code-requires
-refusal-code-requires c κs = day-within _ (facts .tested-day _ _ (sym (c .before .before .before .week-test .ensures) ∙ c .before .answer2 .given .1))
+refusal-code-requires c κs = tested-within _ _ (sym (c .before .before .before .week-test .ensures) ∙ c .before .answer2 .given .1)
 
 returns : tie.Need-returns
 returns c = week-told _ _ _ (c .before .before .before .week-test .ensures) (c .before .answer .given .1)
