@@ -99,7 +99,7 @@ uint64_t desk_week_test(const uint8_t *week, size_t week_len);
 
    DESK_CONVERTED        the week is written, and passes the test of its edition
    DESK_WEEK_LENGTH      week_len or out_len is not 14, 28 or 30, or they are equal
-   DESK_WEEK_DOWN        the week is of edition 3
+   DESK_WEEK_STEP_DOWN   the week is of edition 3
    DESK_WEEK_TIMES       and the day, as in the test
    DESK_WEEK_KEYHOLDERS  to edition 3: fewer than two bits of mask are set
    DESK_WEEK_MINUTES     and the day: to edition 1, the lowest with a minute that is no whole number of quarter hours
@@ -111,7 +111,7 @@ enum {
     DESK_WEEK_TIMES = 16,
     DESK_WEEK_MINUTES = 17,
     DESK_WEEK_KEYHOLDERS = 29,
-    DESK_WEEK_DOWN = 30
+    DESK_WEEK_STEP_DOWN = 30
 };
 
 #ifdef __cplusplus

@@ -25,7 +25,7 @@ pub enum Refusal {
     Times(u64), // the day
     Minutes(u64),
     Keyholders,
-    Down,
+    StepDown,
 }
 
 impl Refusal {
@@ -36,7 +36,7 @@ impl Refusal {
             Refusal::Times(day) => 16 + 256 * day,
             Refusal::Minutes(day) => 17 + 256 * day,
             Refusal::Keyholders => 29,
-            Refusal::Down => 30,
+            Refusal::StepDown => 30,
         }
     }
 }
@@ -106,7 +106,7 @@ pub fn converted(bytes: &[u8], mask: u16, length: usize) -> Result<Vec<u8>, Refu
         return Err(Refusal::Length);
     }
     if from.number == 3 {
-        return Err(Refusal::Down);
+        return Err(Refusal::StepDown);
     }
     let hours = passed(from, bytes)?;
     let attending = keyholders(mask.to_le_bytes());

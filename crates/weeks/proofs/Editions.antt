@@ -3,11 +3,12 @@ use Prim.Native.Nat.{ℕ, _+_, _*_, _^_, _≤_, _<_}
 use mathlib.Core.Path.{_≡_, refl, ap, subst, sym, _∙_}
 use mathlib.Core.Bool.{Bool, true, false, cond}
 use mathlib.Core.List.{List, [], _∷_}
+use mathlib.Core.Logic.{_⊎_, inl, inr, ⊎-elim}
 use native.Mathlib.Omega.{arith}
 use native.Mathlib.Nat.{mul-le-mul}
 use borrow.Author.Tests.{eqb-true, eqb-false}
 use lib.Dec.{eqb}
-use Rattle.encoding.proofs.Logic.{by-test, clash}
+use Rattle.encoding.proofs.Logic.{clash}
 use Rattle.encoding.proofs.Concat.{run-within}
 use Rattle.weeks.specs.declared.Edition.{Edition}
 use Rattle.weeks.specs.declared.Named.{Named}
@@ -25,7 +26,7 @@ pub record Sound (e : Edition) : Type 0 where
   pub few : e .minutes ≤ 15
   pub unit : (e .minutes ≡ 1 → ⊥) → e .minutes ≡ 15
   pub day : e .minutes * e .limit ≡ 1440
-  pub masked : (e .mask ≡ 0 → ⊥) → e ≡ third
+  pub masked : (e .mask ≡ 0) ⊎ (e ≡ third)
 
 abbrev AllSound : List Edition → Type 0
 AllSound [] = Unit {0}
@@ -34,11 +35,11 @@ AllSound (e ∷ es) = Sound e × AllSound es
 all-sound : AllSound editions
 all-sound =
     let one : Sound first =
-    record { low-number = omega arith; some-byte = omega arith; narrow = omega arith; fits = omega arith; some = omega arith; few = omega arith; unit = λ h. refl; day = refl; masked = λ h. absurd (h refl) } in
+    record { low-number = omega arith; some-byte = omega arith; narrow = omega arith; fits = omega arith; some = omega arith; few = omega arith; unit = λ h. refl; day = refl; masked = inl refl } in
     let two : Sound second =
-    record { low-number = omega arith; some-byte = omega arith; narrow = omega arith; fits = omega arith; some = omega arith; few = omega arith; unit = λ h. absurd (h refl); day = refl; masked = λ h. absurd (h refl) } in
+    record { low-number = omega arith; some-byte = omega arith; narrow = omega arith; fits = omega arith; some = omega arith; few = omega arith; unit = λ h. absurd (h refl); day = refl; masked = inl refl } in
     let three : Sound third =
-    record { low-number = omega arith; some-byte = omega arith; narrow = omega arith; fits = omega arith; some = omega arith; few = omega arith; unit = λ h. absurd (h refl); day = refl; masked = λ h. refl } in
+    record { low-number = omega arith; some-byte = omega arith; narrow = omega arith; fits = omega arith; some = omega arith; few = omega arith; unit = λ h. absurd (h refl); day = refl; masked = inr refl } in
     (one, (two, (three, tt)))
 
 found-in : (es : List Edition) (n : ℕ) (e : Edition) → AllSound es → namedIn es n ≡ Known e → Sound e × (n ≡ size e)
@@ -86,7 +87,7 @@ time-small {e} h k l = omega (arith, run-within (e .width) k timesAWeek l, sound
 
 -- a mask has two bytes, and lies behind the times
 pub two-masked : {e : Edition} → IsEdition e → (e .mask ≡ 0 → ⊥) → e .mask ≡ 2
-two-masked h l = ap (λ (e : Edition). e .mask) (sound h .masked l)
+two-masked h l = ⊎-elim (λ z. absurd (l z)) (ap (λ (e : Edition). e .mask)) (sound h .masked)
 
 pub mask-within : {e : Edition} → IsEdition e → (e .mask ≡ 0 → ⊥) → e .width * timesAWeek + 2 ≡ size e
 unfolding size
@@ -104,29 +105,27 @@ wide h l = omega (arith, sound h .some-byte, sound h .narrow)
 
 -- ---- by both lengths
 
--- what holds of f for every two editions, and of d, holds of the answer
-pub by-lengths : {A : Type 0} (P : A → Type 0) (n k : ℕ) {f : Edition → Edition → A} {d : A} → P d
-    → ((e o : Edition) → named n ≡ Known e → named k ≡ Known o → (n ≡ k → ⊥) → P (f e o)) → P (onLengths n k f d)
-by-lengths P n k {f} {d} none both = from (named n) refl
+-- what holds of f and g for every two editions, and where there are none, holds of the answers
+pub both-lengths : {A : Type 0} (R : A → A → Type 0) (n k : ℕ) (f g : Edition → Edition → A) (d : A) → R d d
+    → ((e o : Edition) → named n ≡ Known e → named k ≡ Known o → (n ≡ k → ⊥) → R (f e o) (g e o)) → R (onLengths n k f d) (onLengths n k g d)
+both-lengths R n k f g d none both = from (named n) refl
   where
-    to : (e : Edition) → named n ≡ Known e → (x : Named) → named k ≡ x → P (onKnown x (λ (o : Edition). cond (eqb n k) d (f e o)) d)
-    to e i Unknown j = none
-    to e i (Known o) j = by-test P (eqb n k) (λ _. none) (λ t. both e o i j (eqb-false n k t))
+    apart : (b : Bool) (e o : Edition) → (b ≡ false → R (f e o) (g e o)) → R (cond b d (f e o)) (cond b d (g e o))
+    apart true e o h = none
+    apart false e o h = h refl
 
-    from : (x : Named) → named n ≡ x → P (onKnown x (λ (e : Edition). onKnown (named k) (λ (o : Edition). cond (eqb n k) d (f e o)) d) d)
+    to : (e : Edition) → named n ≡ Known e → (x : Named) → named k ≡ x
+        → R (onKnown x (λ (o : Edition). cond (eqb n k) d (f e o)) d) (onKnown x (λ (o : Edition). cond (eqb n k) d (g e o)) d)
+    to e i Unknown j = none
+    to e i (Known o) j = apart (eqb n k) e o (λ t. both e o i j (eqb-false n k t))
+
+    from : (x : Named) → named n ≡ x
+        → R (onKnown x (λ (e : Edition). onKnown (named k) (λ (o : Edition). cond (eqb n k) d (f e o)) d) d)
+        (onKnown x (λ (e : Edition). onKnown (named k) (λ (o : Edition). cond (eqb n k) d (g e o)) d) d)
     from Unknown i = none
     from (Known e) i = to e i (named k) refl
 
--- two answers that are the same for every two editions are the same
-pub same-lengths : {A : Type 0} (n k : ℕ) (f g : Edition → Edition → A) (d : A) → ((e o : Edition) → named k ≡ Known o → f e o ≡ g e o)
-    → onLengths n k f d ≡ onLengths n k g d
-same-lengths n k f g d same = from (named n)
-  where
-    to : (e : Edition) (x : Named) → named k ≡ x → onKnown x (λ (o : Edition). cond (eqb n k) d (f e o)) d ≡ onKnown x (λ (o : Edition). cond (eqb n k) d (g e o)) d
-    to e Unknown j = refl
-    to e (Known o) j = ap (cond (eqb n k) d) (same e o j)
-
-    from : (x : Named) → onKnown x (λ (e : Edition). onKnown (named k) (λ (o : Edition). cond (eqb n k) d (f e o)) d) d
-        ≡ onKnown x (λ (e : Edition). onKnown (named k) (λ (o : Edition). cond (eqb n k) d (g e o)) d) d
-    from Unknown = refl
-    from (Known e) = to e (named k) refl
+-- the same of one answer
+pub by-lengths : {A : Type 0} (P : A → Type 0) (n k : ℕ) {f : Edition → Edition → A} {d : A} → P d
+    → ((e o : Edition) → named n ≡ Known e → named k ≡ Known o → (n ≡ k → ⊥) → P (f e o)) → P (onLengths n k f d)
+by-lengths P n k {f} {d} none both = both-lengths (λ x y. P x) n k f f d none both

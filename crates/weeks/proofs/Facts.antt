@@ -3,6 +3,7 @@ use Prim.Native.Nat.{ℕ, _%_, _≤_, _<_}
 use mathlib.Core.Path.{_≡_, refl, sym, ap, subst, _∙_}
 use mathlib.Core.Bool.{Bool, true, false, _||_, cond}
 use mathlib.Core.List.{List, _++_, append-nil}
+use mathlib.Core.Logic.{⊎-elim}
 use native.Mathlib.Omega.{arith}
 use native.Mathlib.Nat.{mul-div-right}
 use borrow.Author.Tests.{eqb-true, eqb-false, eq-eqb, le-leb, lt-leb}
@@ -25,7 +26,7 @@ use Rattle.weeks.specs.Editions.{daysAWeek, timesAWeek, second, third, s
 use Rattle.weeks.specs.Weeks.{time, minute, wrongDay, unevenDay, lowestDay, keyholders, enoughKeyholders, timeIn, timesIn, inEdition}
 use Rattle.weeks.specs.Answers.{weekTest, refused, convertedBy, converted}
 use Rattle.weeks.specs.Facts.{Facts}
-use Rattle.weeks.proofs.Editions.{Sound, sound, is-edition, length-named, names, is-second, is-third, same-lengths}
+use Rattle.weeks.proofs.Editions.{Sound, sound, is-edition, length-named, names, is-second, is-third, both-lengths}
 use Rattle.weeks.proofs.Lines.{test-wrong, test-week, step-down, step-wrong, step-few, convert-by}
 use Rattle.weeks.proofs.Refused.{converter-refuses, tester-refuses}
 use Rattle.weeks.proofs.Steps.{Accepts, Passed, Step, step, passed-by, leaves, from-sound, to-sound, length-to, names-to, right-to, same-edition}
@@ -37,11 +38,7 @@ use Rattle.weeks.proofs.Written.{no-uneven, minute-there, all-even-ther
 
 -- only weeks of 30 bytes have a mask
 unmasked : (n : ℕ) {e : Edition} → named n ≡ Known e → (n ≡ size third → ⊥) → e .mask ≡ 0
-unmasked n {e} k other = go (eqb (e .mask) 0) refl
-  where
-    go : (b : Bool) → eqb (e .mask) 0 ≡ b → e .mask ≡ 0
-    go true t = eqb-true (e .mask) 0 t
-    go false t = absurd (other (length-named n k ∙ ap size (sound (is-edition n k) .masked (eqb-false (e .mask) 0 t))))
+unmasked n k other = ⊎-elim (λ z. z) (λ same. absurd (other (length-named n k ∙ ap size same))) (sound (is-edition n k) .masked)
 
 no-mask : (o : Edition) (m : ℕ) → o .mask ≡ 0 → enoughKeyholders o m ≡ true
 unfolding enoughKeyholders
@@ -55,12 +52,10 @@ mask-there e s m h =
 
 enough-there : (e o : Edition) → Sound o → (s : List ℕ) (m : ℕ) → (o ≡ third → m < 65536) → enoughKeyholders o m ≡ true
     → enoughKeyholders o (keyholders o (inEdition e o s m)) ≡ true
-enough-there e o ho s m small h = go (eqb (o .mask) 0) refl
+enough-there e o ho s m small h = ⊎-elim (no-mask o (keyholders o (inEdition e o s m))) dual (ho .masked)
   where
-    go : (b : Bool) → eqb (o .mask) 0 ≡ b → enoughKeyholders o (keyholders o (inEdition e o s m)) ≡ true
-    go true t = no-mask o (keyholders o (inEdition e o s m)) (eqb-true (o .mask) 0 t)
-    go false t =
-        let same : o ≡ third = ho .masked (eqb-false (o .mask) 0 t) in
+    dual : o ≡ third → enoughKeyholders o (keyholders o (inEdition e o s m)) ≡ true
+    dual same =
         subst (λ (x : Edition). enoughKeyholders x (keyholders x (inEdition e x s m)) ≡ true) (sym same)
         (ap (enoughKeyholders third) (mask-there e s m (small same)) ∙ subst (λ (x : Edition). enoughKeyholders x m ≡ true) same h)
 
@@ -166,8 +161,8 @@ step-unread e o s out m m′ none =
 mask-unread : (s out : List ℕ) (m m′ : ℕ) → (length out ≡ size third → ⊥) → converted s m out ≡ converted s m′ out
 unfolding converted
 mask-unread s out m m′ other =
-    same-lengths (length s) (length out) (λ (e o : Edition). convertedBy e o s m out) (λ (e o : Edition). convertedBy e o s m′ out) (refused Length out)
-    (λ e o k. step-unread e o s out m m′ (unmasked _ k other))
+    both-lengths _≡_ (length s) (length out) (λ (e o : Edition). convertedBy e o s m out) (λ (e o : Edition). convertedBy e o s m′ out) (refused Length out)
+    refl (λ e o n k d. step-unread e o s out m m′ (unmasked _ k other))
 
 -- ---- what is refused, and what is accepted
 
@@ -206,13 +201,10 @@ module _ (e : Edition) (s : List ℕ) (n : named (length s) ≡ Known e) (other 
 
 enough-for : (o : Edition) (out : List ℕ) (m : ℕ) → named (length out) ≡ Known o → (length out ≡ size third → 2 ≤ ones m) → enoughKeyholders o m ≡ true
 unfolding enoughKeyholders
-enough-for o out m k h = go (eqb (length out) (size third)) refl
+enough-for o out m k h = ⊎-elim (no-mask o m) dual (sound (is-edition _ k) .masked)
   where
-    go : (b : Bool) → eqb (length out) (size third) ≡ b → enoughKeyholders o m ≡ true
-    go true t =
-        let long : length out ≡ size third = eqb-true _ _ t in
-        subst (λ (x : Edition). enoughKeyholders x m ≡ true) (same-edition (names is-third _ long) k) (le-leb 2 (ones m) (h long))
-    go false t = no-mask o m (unmasked _ k (eqb-false _ _ t))
+    dual : o ≡ third → enoughKeyholders o m ≡ true
+    dual same = subst (λ (x : Edition). enoughKeyholders x m ≡ true) (sym same) (le-leb 2 (ones m) (h (length-named _ k ∙ ap size same)))
 
 accepts-week : (e o : Edition) (s out : List ℕ) (m : ℕ) → named (length s) ≡ Known e → named (length out) ≡ Known o → (length s ≡ length out → ⊥)
     → (length s ≡ size third → ⊥) → weekTest s ≡ test.WeekTest.Week (e .number) → (length out ≡ size third → 2 ≤ ones m)
