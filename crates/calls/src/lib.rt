@@ -2,6 +2,8 @@
 // What each call answers and leaves is in specs/. The calls take the sheet, fates, rows and state as the last call left them, trust
 // none of it, and answer with the state that the next one gets (docs/STORE.md, The calls). Their code is in the crates above:
 // `writing` (begin and write), `reading` (read), `deciding` (commit, abort and test) and `making` (any of them).
+#![tactic(auto)]
+
 mod appending;
 mod asking;
 mod refusing;

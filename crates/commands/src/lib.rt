@@ -1,4 +1,6 @@
 // The command language (docs/STORE.md): lines to commands, and replies to lines.
+#![tactic(auto)]
+
 mod parsing;
 mod printing;
 

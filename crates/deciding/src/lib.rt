@@ -1,4 +1,6 @@
 // Commit, abort and test: the outcome of an action.
+#![tactic(auto)]
+
 mod testing;
 
 ghost use Rattle.std.specs.Prelude.{true, false, cond, ◌≡◌, ◌*◌, ◌/◌, pred, length};

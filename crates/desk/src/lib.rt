@@ -1,4 +1,6 @@
 // The desk: its conversation with the store, command by command, and the functions for C.
+#![tactic(auto)]
+
 mod cutting;
 mod exports;
 mod showing;

@@ -1,5 +1,7 @@
 // Runs of bytes: little-endian numbers, zeros, copies, and the check word of a page.
 // Every public function takes every run: none asks anything of its caller.
+#![tactic(auto)]
+
 mod words;
 
 ghost use Rattle.std.specs.Prelude.{cond, ◌≡◌, ◌+◌, ◌-◌, ◌≤◌, ◌<◌, min, ◌++◌, length, take, drop, get_or, eqb};

@@ -1,6 +1,8 @@
 // For the tests and timings outside Rattle: any call as numbers (`door`), and loops over a sheet's pages for bench/ to time, the page
 // test, the quick look and packing as the layers above use them. Each loop answers how many pages passed, so that its work cannot be
 // left out.
+#![tactic(auto)]
+
 mod door;
 
 ghost use Rattle.std.specs.Prelude.{◌≡◌, ◌/◌, length};

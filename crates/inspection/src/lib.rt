@@ -1,4 +1,6 @@
 // Inspection: whether a sheet is lawful, read off its pages alone: the lowest page that is bad or does not fit those below it.
+#![tactic(auto)]
+
 mod climbing;
 
 ghost use Rattle.std.specs.Prelude.{◌≡◌};

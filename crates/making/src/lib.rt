@@ -1,4 +1,6 @@
 // One function that makes any call from begin to abort.
+#![tactic(auto)]
+
 ghost use Rattle.std.specs.Prelude.{◌≡◌};
 ghost use Rattle.recovery.specs.Lent.{left_by};
 ghost use Rattle.calls.specs.Asked.{asked};

@@ -1,5 +1,7 @@
 // Open: one pass upward over the pages finds the end, the highest bad page and the fates. The fates are kept aside, since a
 // refused opening leaves those that are lent.
+#![tactic(auto)]
+
 ghost use Rattle.std.specs.Prelude.{true, ◌≡◌, ◌*◌, ◌≤◌, length, replicate};
 ghost use Rattle.page.specs.Layout.{page_size, most_places};
 ghost use Rattle.recovery.specs.World.{undecided_of};

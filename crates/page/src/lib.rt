@@ -1,5 +1,7 @@
 // The page: document 01's table (docs/STORE.md, The page), packing fields into 64 bytes and testing 64 bytes for a page.
 // The layers above know pages only through what these functions promise and the laws of `proofs/`.
+#![tactic(auto)]
+
 ghost use Rattle.std.specs.Prelude.{true, cond, ◌++◌, ◌≡◌, ◌+◌, ◌≤◌, ◌<◌, ◌-◌, length, take, replicate};
 ghost use Rattle.encoding.specs.Bytes.{bytes, zeros, same, check};
 ghost use Rattle.page.specs.Layout.{value_at, page_size, most_places, value_size};

@@ -1,4 +1,6 @@
 // Read: the value of a file at a time, for an action or for none.
+#![tactic(auto)]
+
 ghost use Rattle.std.specs.Prelude.{true, false, ◌≡◌, ◌/◌, length};
 ghost use Rattle.page.specs.declared.Sought as sought;
 ghost use Rattle.recovery.specs.World.{is_file};

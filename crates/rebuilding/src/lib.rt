@@ -1,4 +1,6 @@
 // Rebuild: a file's row from the pages, going down from the end.
+#![tactic(auto)]
+
 ghost use Rattle.std.specs.Prelude.{◌≡◌};
 ghost use Rattle.recovery.specs.Lent.{left_by, rebuild_leaves};
 ghost use Rattle.recovery.specs.Steps.{rebuilt_with, row_from_pages, place_holds_by, action_found, token_holds_by, row_holds_by, row_holds_in, Warmed};

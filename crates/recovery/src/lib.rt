@@ -1,6 +1,8 @@
 // Recovery: what a sheet says, read off its pages alone (docs/STORE.md, The calls). Here are the definitions, the rows, and the look-ups;
 // a bare `open` asks for the highest start. Open, which finds the end, the bad pages and the fates, is the crate `opening`, and rebuild,
 // which finds a file's row, the crate `rebuilding`.
+#![tactic(auto)]
+
 mod lookup;
 mod numbering;
 mod rolling;

@@ -1,4 +1,6 @@
 // The command program: lines from standard input to the desk, and its replies to standard output, line by line.
+#![tactic(auto)]
+
 ghost use Rattle.std.specs.Prelude.{◌≡◌, suc, ◌≤◌, ◌<◌, length};
 ghost use Rattle.commands.specs.Commands.{longest};
 

@@ -1,5 +1,7 @@
 // Weeks of opening hours as the lock heads of each edition take them: the week test, and the converter from one edition to another.
 // Every public function takes every run of bytes: none asks anything of its caller.
+#![tactic(auto)]
+
 mod days;
 mod masks;
 mod times;

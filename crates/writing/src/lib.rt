@@ -1,4 +1,6 @@
 // Begin and write: a new action, and a value of a file under an action, as the file's token.
+#![tactic(auto)]
+
 mod beginning;
 
 ghost use Rattle.std.specs.Prelude.{true, ◌≡◌, ◌/◌, ◌≤◌, length};
