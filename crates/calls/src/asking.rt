@@ -1,7 +1,7 @@
 // Any call from begin to abort as a value.
 
 // A call, but for the value that a write stores. Write: file, start, action. Read: file, time, action or 0. The others: action.
-#[derive(Drop)]
+#[derive(Clone, Copy)]
 pub enum Call {
     Begin,
     Write(u64, u64, u64),

@@ -10,7 +10,7 @@ use page::Page;
 
 // What a line asks for: a bare open, open with the file count and the floor, cut with a number of bytes, or a call and the index at which a
 // write's text begins. For the other calls that is the line's length, so that they are lent no value.
-#[derive(Drop)]
+#[derive(Clone, Copy)]
 pub enum Command {
     What,
     BareOpen,
@@ -20,14 +20,14 @@ pub enum Command {
 }
 
 // A word read as a number.
-#[derive(Drop)]
+#[derive(Clone, Copy)]
 enum Number {
     Is(u64),
     Not,
 }
 
 // Three words read as numbers.
-#[derive(Drop)]
+#[derive(Clone, Copy)]
 enum Numbers {
     Are(u64, u64, u64),
     Unread,

@@ -10,7 +10,7 @@ use page::Page;
 
 // What the program answers to a line: the bytes of a cut; the end and the open count; the place of the call's page; place, start
 // and size of what a read shows, whose value is lent beside it; a fate and the place of its outcome; a refusal's number and place.
-#[derive(Drop)]
+#[derive(Clone, Copy)]
 pub enum Reply {
     What,
     Closed,

@@ -38,7 +38,7 @@ fn decide_line(sheet: &[u8], fates: &[u8], rows: &[u64], state: State, action: u
 }
 
 // An action that is decided: whether it has an opening, and whether it commits.
-#[derive(Drop)]
+#[derive(Clone, Copy)]
 struct Decision {
     action: u64,
     opened: bool,

@@ -16,7 +16,7 @@ use recovery::{ROW_LENGTH, State, highest_start, numbers_of};
 
 // What the desk keeps from line to line, beside sheet, fates and rows: whether it has a state, for how many files, and after how many
 // bytes the next append is cut; 65 if it is not.
-#[derive(Drop)]
+#[derive(Clone, Copy)]
 pub struct Desk {
     pub on: bool,
     pub files: u64,
@@ -25,14 +25,14 @@ pub struct Desk {
 }
 
 // A reply, and the desk after it.
-#[derive(Drop)]
+#[derive(Clone, Copy)]
 pub(crate) struct Turn {
     pub reply: Reply,
     pub desk: Desk,
 }
 
 // The desk after a line, and how many bytes its reply has.
-#[derive(Drop)]
+#[derive(Clone, Copy)]
 pub struct Said {
     pub desk: Desk,
     pub count: usize,

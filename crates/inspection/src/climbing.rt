@@ -14,7 +14,7 @@ use page::{Page, Unpacked};
 use recovery::{FEW_PAGES, is_blank_at, page_at};
 
 // An image: its place, its action and its start. Place 0 is none.
-#[derive(Drop)]
+#[derive(Clone, Copy)]
 struct Slot {
     place: u64,
     action: u64,

@@ -10,7 +10,7 @@ pub use climbing::inspect;
 use page::Page;
 
 // What inspect answers: refusal 1, or the lowest place that is bad or does not fit, 0 if the sheet is lawful.
-#[derive(Drop)]
+#[derive(Clone, Copy)]
 pub enum Inspected {
     Refused,
     Lowest(u64),

@@ -1,6 +1,6 @@
 -- The log of a fresh sheet, newest first: its fates, each file's one image, and that it is lawful. Assumes nothing.
 use Prim.Native.Nat.{ℕ, zero, suc, ◌+◌, ◌≤◌, ◌<◌}
-use mathlib.Core.Path.{◌≡◌, refl, ◌∙◌}
+use mathlib.Core.Path.{◌≡◌, refl, ap, sym, subst, ◌∙◌}
 use mathlib.Core.Bool.{Bool, true, false, cond}
 use mathlib.Core.List.{List, [], ◌∷◌, ◌++◌, append_assoc, append-nil}
 use mathlib.Core.Option.{Option, some, none}
@@ -55,6 +55,16 @@ count_le w f (suc k) h = go (eqb f (suc k)) refl (λ l. count_le w f k l)
 
 -- ---- the pages of the sheet from the top of the images downward
 
+-- one page more on top
+top_is : (a : List Entry) (x : Entry) (rest : List Entry)
+    → down (opening true ∷ (a ++ (x ∷ rest))) (suc (suc (length a))) ≡ x ∷ down (opening true ∷ (a ++ (x ∷ rest))) (suc (length a))
+unfolding down
+top_is a x rest = rw (get_or-append_seam a x rest blank)
+
+down_push : (a : List Entry) (x : Entry) (rest l : List Entry) (n : ℕ) → l ≡ a ++ (x ∷ rest) → n ≡ suc (length a)
+    → down (opening true ∷ l) (suc n) ≡ x ∷ down (opening true ∷ (a ++ (x ∷ rest))) (suc (length a))
+down_push a x rest l n s e = rw (s, e) (top_is a x rest)
+
 pub down_log : (w : World) (k : ℕ) (rest : List Entry) → down (opening true ∷ (versions_to w k ++ rest)) (suc (count_to w k)) ≡ log_to w k
 unfolding down log_to versions_to
 down_log w zero rest = refl
@@ -62,16 +72,17 @@ down_log w (suc k) rest = go (version_of w (suc k)) (down_log w k)
   where
     go : (v : Option Image) → ((more : List Entry) → down (opening true ∷ (versions_to w k ++ more)) (suc (count_to w k)) ≡ log_to w k)
         → down (opening true ∷ ((versions_to w k ++ carried_by v) ++ rest)) (suc (length (versions_to w k ++ carried_by v))) ≡ topped v (log_to w k)
-    go none h = rw append-nil (h rest)
+    go none h = subst (λ (l : List Entry). down (opening true ∷ (l ++ rest)) (suc (length l)) ≡ log_to w k) (sym (append-nil (versions_to w k))) (h rest)
     go (some i) h =
         let n : length (versions_to w k ++ (image (carried i) ∷ [])) ≡ suc (length (versions_to w k)) = simp length-append (omega arith) in
-        rw (n, append_assoc, get_or-append_seam (versions_to w k) (image (carried i)) rest blank, h (image (carried i) ∷ rest))
+        down_push (versions_to w k) (image (carried i)) rest _ _ (append_assoc (versions_to w k) (image (carried i) ∷ []) rest) n
+        ∙ ap (λ (l : List Entry). image (carried i) ∷ l) (h (image (carried i) ∷ rest))
 
 pub down_move : (w : World) (k : ℕ) (rest : List Entry)
     → down (opening true ∷ ((versions_to w k ++ (outcome 1 true ∷ [])) ++ rest)) (suc (suc (count_to w k))) ≡ move_log w k
-unfolding down
 down_move w k rest =
-    rw (append_assoc, get_or-append_seam (versions_to w k) (outcome 1 true) rest blank, down_log w k (outcome 1 true ∷ rest))
+    down_push (versions_to w k) (outcome 1 true) rest _ _ (append_assoc (versions_to w k) (outcome 1 true ∷ []) rest) refl
+    ∙ ap (λ (l : List Entry). outcome 1 true ∷ l) (down_log w k (outcome 1 true ∷ rest))
 
 -- a file's image stands at its place
 pub page_of_file : (w : World) (k f : ℕ) (i : Image) (rest : List Entry) → 1 ≤ f → f ≤ k → version_of w f ≡ some i

@@ -42,7 +42,7 @@ pub(crate) fn lowest_undecided(fates: &[u8], end: u64) -> u64
 
 // What the rows tell, read off in one pass: the lowest file whose row is damaged, 0 if there is none, how many rows have a current
 // place, and the largest of the floor and both ends of every row.
-#[derive(Drop)]
+#[derive(Clone, Copy)]
 pub(crate) struct Survey {
     pub damaged: u64,
     pub versions: u64,

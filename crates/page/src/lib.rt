@@ -14,7 +14,7 @@ use encoding::{
 };
 
 // The fields of a page (a log record), kind to start. The 32 bytes of the value stay beside it.
-#[derive(Drop)]
+#[derive(Clone, Copy)]
 pub struct Page {
     pub kind: u64,
     pub small: u64,
@@ -25,7 +25,7 @@ pub struct Page {
 }
 
 // What the page test finds in a part: the fields of a page that fits, by kind, or why there are none.
-#[derive(Drop)]
+#[derive(Clone, Copy)]
 pub enum Unpacked {
     Refused,
     Blank,
@@ -37,14 +37,14 @@ pub enum Unpacked {
 }
 
 // What a quick look finds: an image as it was asked for, or anything else.
-#[derive(Drop)]
+#[derive(Clone, Copy)]
 pub enum Sought {
     Image(Page),
     Other,
 }
 
 // What pack answers: the page is written, or refusal 1 or 2.
-#[derive(Drop)]
+#[derive(Clone, Copy)]
 pub enum Packing {
     Packed,
     Refused,

@@ -21,7 +21,7 @@ use recovery::{
 };
 
 // What a read of a warm row answers, and the row that it leaves.
-#[derive(Drop)]
+#[derive(Clone, Copy)]
 struct Reading {
     answer: Answer,
     row: Row,

@@ -25,7 +25,7 @@ pub use starts::highest_start;
 
 // A file's row (a cached index entry): its rebuilt mark, the place of the current version and how far it was read, the place of
 // the token, how far that one, or one that it overtook, was read, and its action. Place 0 is none, and so is action 0.
-#[derive(Drop)]
+#[derive(Clone, Copy)]
 pub struct Row {
     pub mark: u64,
     pub current: u64,
@@ -36,7 +36,7 @@ pub struct Row {
 }
 
 // The state that is kept by value: the end (the log's tail), the floor (a lower bound of starts) and the open count.
-#[derive(Drop)]
+#[derive(Clone, Copy)]
 pub struct State {
     pub end: u64,
     pub floor: u64,
@@ -45,7 +45,7 @@ pub struct State {
 
 // What a call answers: a refusal's number and place; open's end and open count; the numbers of a row after its mark; the place of
 // the call's page; place, start and length of a value; none; a fate, and the place of the newest outcome; the floor for a fresh sheet.
-#[derive(Drop)]
+#[derive(Clone, Copy)]
 pub enum Answer {
     Refused(u64, u64),
     Opened(u64, u64),
@@ -57,14 +57,14 @@ pub enum Answer {
     Moved(u64),
 }
 
-#[derive(Drop)]
+#[derive(Clone, Copy)]
 pub struct Done {
     pub answer: Answer,
     pub state: State,
 }
 
 // What the pass of open has found so far: the end, and the highest bad place up to it, 0 if there is none.
-#[derive(Drop)]
+#[derive(Clone, Copy)]
 pub struct Scan {
     pub end: u64,
     pub bad: u64,

@@ -7,7 +7,7 @@ use crate::Edition;
 use crate::times::{time_at, units};
 
 // The lowest day whose times are wrong, and the lowest with a minute that another edition cannot tell; 0 where there is none.
-#[derive(Drop)]
+#[derive(Clone, Copy)]
 pub struct Faults {
     pub wrong: u64,
     pub uneven: u64,

@@ -17,7 +17,7 @@ use times::{put_time, time_at, units};
 
 // An edition of the lock heads: its number, the bytes of a time, the highest time, the minutes of a unit of time, and the bytes of the
 // keyholder mask.
-#[derive(Drop)]
+#[derive(Clone, Copy)]
 pub struct Edition {
     pub number: u64,
     pub width: usize,
@@ -27,14 +27,14 @@ pub struct Edition {
 }
 
 // The edition that a length names.
-#[derive(Drop)]
+#[derive(Clone, Copy)]
 pub enum Named {
     Known(Edition),
     Unknown,
 }
 
 // Why a week or a conversion is refused; a day is named by its number, 1 to 7.
-#[derive(Drop)]
+#[derive(Clone, Copy)]
 pub enum Refusal {
     Length,
     Times(u64),
@@ -44,14 +44,14 @@ pub enum Refusal {
 }
 
 // What the week test finds: a week of the edition of this number, or a refusal.
-#[derive(Drop)]
+#[derive(Clone, Copy)]
 pub enum WeekTest {
     Week(u64),
     Refused(Refusal),
 }
 
 // What the converter answers: the output is written, or a refusal.
-#[derive(Drop)]
+#[derive(Clone, Copy)]
 pub enum Conversion {
     Converted,
     Refused(Refusal),
