@@ -2,20 +2,17 @@
 use Prim.Native.Nat.{ℕ, ◌≤◌, ◌<◌}
 use mathlib.Core.Path.{◌≡◌, refl, sym, ap, subst, ◌∙◌}
 use mathlib.Core.Bool.{Bool, true, false, cond, ◌&&◌, false≢true}
-use mathlib.Core.List.{List, [], ◌∷◌}
+use mathlib.Core.List.{List}
 use native.Mathlib.Omega.{arith}
 use borrow.Author.Tests.{eqb-true, eq-eqb, ne_eqb}
 use lib.Dec.{eqb}
 use lib.ListN.{length, get_or}
-use types.Run.{OneOf, miss}
-use denote.Enum.Declared.{tag_of}
 use Rattle.encoding.specs.Bytes.{zeros}
 use Rattle.encoding.proofs.Logic.{and_true, and_both, and_end, and_false}
 use Rattle.encoding.proofs.Numbers.{number_byte}
 use Rattle.page.specs.declared.Page.{Page}
 use Rattle.page.specs.declared.Unpacked.{Unpacked}
 use Rattle.page.specs.declared.Unpacked.TheVariants.{Refused, Blank, Torn, Opening, Image, Outcome, Unfit}
-use Rattle.page.specs.contracts.Unpacked.{the_type}
 use Rattle.page.specs.Layout.{value_size, page_size, small_at}
 use Rattle.page.specs.Table.{fields_of, opening_as, lowest, highest, meets_rules, is_page_of, fits, torn}
 use Rattle.page.specs.Answers.{in_bounds, by_kind, tested, is_fit_page, is_opening_page, is_carried_page, on_image, is_outcome_of}
@@ -148,28 +145,25 @@ carried_by_lem s place files = go (tested s place files) (found s place files _ 
     go (Outcome p) f = none
     go Unfit f = none
 
--- ---- what `let Unpacked::Image(p) = u else { .. }` tells in its else, or with an outcome: the tag is another's
+-- ---- what `let Unpacked::Image(p) = u else { .. }` tells in its else, or with an outcome: it is no such page
 
-abbrev pub other_tags : List ℕ
-other_tags = 0 ∷ 1 ∷ 2 ∷ 3 ∷ 5 ∷ 6 ∷ []
-
-pub off_image : {A : Type 0} (u : Unpacked) (f : Page → A) (d : A) → OneOf other_tags (tag_of the_type u) → d ≡ on_image u f d
+pub off_image : {A : Type 0} (u : Unpacked) (f : Page → A) (d : A) → ((p : Page) → u ≡ Image p → ⊥) → d ≡ on_image u f d
 off_image Refused f d k = refl
 off_image Blank f d k = refl
 off_image Torn f d k = refl
 off_image (Opening p) f d k = refl
-off_image (Image p) f d k = absurd (miss other_tags 4 tt k)
+off_image (Image p) f d k = absurd (k p refl)
 off_image (Outcome p) f d k = refl
 off_image Unfit f d k = refl
 
-pub off_outcome : (a : ℕ) (u : Unpacked) → OneOf (0 ∷ 1 ∷ 2 ∷ 3 ∷ 4 ∷ 6 ∷ []) (tag_of the_type u) → false ≡ is_outcome_of a u
+pub off_outcome : (a : ℕ) (u : Unpacked) → ((p : Page) → u ≡ Outcome p → ⊥) → false ≡ is_outcome_of a u
 unfolding is_outcome_of
 off_outcome a Refused k = refl
 off_outcome a Blank k = refl
 off_outcome a Torn k = refl
 off_outcome a (Opening p) k = refl
 off_outcome a (Image p) k = refl
-off_outcome a (Outcome p) k = absurd (miss (0 ∷ 1 ∷ 2 ∷ 3 ∷ 4 ∷ 6 ∷ []) 5 tt k)
+off_outcome a (Outcome p) k = absurd (k p refl)
 off_outcome a Unfit k = refl
 
 -- ---- the size and the kind

@@ -10,14 +10,14 @@ use borrow.Author.Tests.{eqb-true, eqb-false, ltb-true, ltb-false, ne_eqb}
 use lib.Dec.{eqb, ltb}
 use lib.ListN.{length, take, get_or, replicate, length-append, length-replicate, get_or-append}
 use lib.Seq.{take_at, take_all, get_or-append-add, get_or-take, length-take-le}
-use Rattle.encoding.specs.Bytes.{bytes, zeros, same}
+use Rattle.encoding.specs.Bytes.{zeros}
 use Rattle.encoding.proofs.Logic.{and_true, and_end, and_false, by_test}
 use Rattle.encoding.proofs.Numbers.{number_bytes, number_byte, same_refl, zeros_replicate, not_zeros}
 use Rattle.page.specs.declared.Page.{Page}
 use Rattle.page.specs.declared.Unpacked.TheVariants.{Blank, Torn, Opening, Image, Outcome, Unfit}
 use Rattle.page.specs.declared.Packing.{Packing}
 use Rattle.page.specs.Layout.{kind_at, place_at, check_at, mark_at, page_size, end_mark, value_size}
-use Rattle.page.specs.Table.{cell, head, front, closing, packed, field, fields_of, value_of, lowest, highest, within, meets_rules, is_page_of, fits, torn}
+use Rattle.page.specs.Table.{cell, head, front, closing, packed, fields_of, value_of, lowest, highest, within, meets_rules, is_page_of, fits, torn}
 use Rattle.page.specs.Answers.{in_bounds, by_kind, tested, is_fit_page, packs, cut}
 use Rattle.page.proofs.Rules.{within_both, Between, between_true, InBounds, in_bounds_lem, are_in_bounds}
 use Rattle.page.proofs.OneByte.{length_front, mark_is, fits_packed}

@@ -5,27 +5,27 @@ use Rattle.encoding.proofs.Logic.{refused, passed}
 use lib.Dec.{eqb}
 use mathlib.Core.Bool.{Bool}
 use mathlib.Core.Path.{◌≡◌, ap₂}
-use borrow.Author.Rules.{rules}
 use Rattle.page.proofs.Page.is_fit.Goals as goal
-
--- an answer by the cheap tests is the answer
-answer : (c : tie.After-shared-slice-known) (r : Bool) → r ≡ quick c.args.self c.args.part.now c.args.place c.args.files
-    → r ≡ is_page_of c.args.self c.args.part.now c.args.place c.args.files
-answer c r e =
-    let a = c.args in
-    as_page a.part.now c.requires.0 (λ i. (c.shared_slice_known-1.given i).fits) r a.self a.place a.files c.requires.2 c.requires.3 e
 
 pub returns-then-not-is_framed : goal.returns-then-not-is_framed
 unfolding quick
-returns-then-not-is_framed c = answer c _ (simp (refused c.is_framed.ensures c.if-not-is_framed.true))
+returns-then-not-is_framed c =
+    let answer : (r : Bool) → r ≡ quick c.args.self c.args.part.now c.args.place c.args.files → r ≡ is_page_of c.args.self c.args.part.now c.args.place c.args.files = λ r e. (let a = c.args in
+    as_page a.part.now c.requires.0 (λ i. (c.shared_slice_known-1.given i).fits) r a.self a.place a.files c.requires.2 c.requires.3 e) in
+    answer _ (simp (refused c.is_framed.ensures c.if-not-is_framed.true))
 
 pub returns-then-not-is_by_rules : goal.returns-then-not-is_by_rules
 unfolding quick
-returns-then-not-is_by_rules c = answer c _ (simp (passed c.is_framed.ensures c.if-not-is_framed.false, refused c.is_by_rules.ensures c.if-not-is_by_rules.true))
+returns-then-not-is_by_rules c =
+    let answer : (r : Bool) → r ≡ quick c.args.self c.args.part.now c.args.place c.args.files → r ≡ is_page_of c.args.self c.args.part.now c.args.place c.args.files = λ r e. (let a = c.args in
+    as_page a.part.now c.requires.0 (λ i. (c.shared_slice_known-1.given i).fits) r a.self a.place a.files c.requires.2 c.requires.3 e) in
+    answer _ (simp (passed c.is_framed.ensures c.if-not-is_framed.false, refused c.is_by_rules.ensures c.if-not-is_by_rules.true))
 
 pub returns : goal.returns
 unfolding quick
 returns c =
-    answer c _
+    let answer : (r : Bool) → r ≡ quick c.args.self c.args.part.now c.args.place c.args.files → r ≡ is_page_of c.args.self c.args.part.now c.args.place c.args.files = λ r e. (let a = c.args in
+    as_page a.part.now c.requires.0 (λ i. (c.shared_slice_known-1.given i).fits) r a.self a.place a.files c.requires.2 c.requires.3 e) in
+    answer _
     (simp (passed c.is_framed.ensures c.if-not-is_framed.false, passed c.is_by_rules.ensures c.if-not-is_by_rules.false)
     (ap₂ eqb c.field.ensures c.check_word.ensures))

@@ -6,7 +6,6 @@ use Rattle.encoding.proofs.Logic.{refused, passed}
 use native.Mathlib.Omega.{arith}
 use mathlib.Core.Bool.{false≢true}
 use mathlib.Core.Path.{sym, ap, ◌∙◌}
-use borrow.Author.Rules.{rules}
 use Rattle.page.proofs.Page.is_outcome_of.Goals as goal
 
 pub returns-then-not-has_kind : goal.returns-then-not-has_kind
@@ -20,8 +19,8 @@ unfolding fields_of
 returns-then-field-action c = no_outcome _ _ _ _ (λ kind action. c.if-field-action.true (c.field.ensures ∙ action))
 
 pub returns-in_default : goal.returns-in_default
-returns-in_default c = off_outcome _ _ c.in_default.keys2 ∙ ap (is_outcome_of _) c.test.ensures
+returns-in_default c = off_outcome _ _ c.in_default.not-Outcome ∙ ap (is_outcome_of _) c.test.ensures
 
 pub returns : goal.returns
 unfolding is_outcome_of
-returns c = ap (is_outcome_of _) (sym c.outcome-1.given.1 ∙ c.test.ensures)
+returns c = ap (is_outcome_of _) (sym c.in-Outcome.is ∙ c.test.ensures)

@@ -1,7 +1,6 @@
 -- `page::Page::seek`: what is passed over at once, or does not fit, is no image of this file. Assumes nothing.
 use Rattle.page.proofs.Seek.{unnamed, named_kind, named_size, unfit_of_file, this_image}
 use Rattle.encoding.proofs.Logic.{refused, passed}
-use borrow.Author.Rules.{rules}
 use Rattle.page.proofs.Page.seek.Goals as goal
 
 pub returns-then-not-names : goal.returns-then-not-names

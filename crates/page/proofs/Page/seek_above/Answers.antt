@@ -11,7 +11,6 @@ use lib.Dec.{ltb}
 use mathlib.Core.Bool.{Bool, false≢true}
 use mathlib.Core.Path.{sym, ◌∙◌}
 use borrow.Author.Tests.{ltb-true, lt-ltb}
-use borrow.Author.Rules.{rules}
 use Rattle.page.proofs.Page.seek_above.Goals as goal
 
 abbrev later : ℕ → Page → Bool

@@ -5,7 +5,6 @@ use Rattle.page.specs.Answers.{tested}
 use Rattle.encoding.proofs.Logic.{refused, passed}
 use lib.ListN.{length}
 use mathlib.Core.Path.{sym, ◌∙◌}
-use borrow.Author.Rules.{rules}
 use Rattle.page.proofs.Page.test.Goals as goal
 
 pub returns-then-not-is_in_bounds : goal.returns-then-not-is_in_bounds

@@ -1,7 +1,6 @@
 -- `page::Page::write`: each part is written after those before it. Assumes nothing.
 use Rattle.page.proofs.Written.{written}
 use mathlib.Core.Path.{◌∙◌}
-use borrow.Author.Rules.{rules}
 use Rattle.page.proofs.Page.write.Goals as goal
 
 pub returns : goal.returns
@@ -14,6 +13,6 @@ returns c =
     let r2 = c.put_run in
     let r1 = c.write_head in
     written c.args.self c.args.value.now c.args.place word.result
-    r1.new.1.0 r2.new.out r3.new.out r4.new.out r5.new.out r6.new.out
+    r1.new.out r2.new.out r3.new.out r4.new.out r5.new.out r6.new.out
     r1.ensures r2.ensures r3.ensures word.ensures r4.ensures r5.ensures r6.ensures
-    (r6.auto.out ∙ r5.auto.out ∙ r4.auto.out ∙ r3.auto.out ∙ r2.auto.out ∙ r1.auto.1.0 ∙ c.requires.1)
+    (r6.auto.out ∙ r5.auto.out ∙ r4.auto.out ∙ r3.auto.out ∙ r2.auto.out ∙ r1.auto.out ∙ c.requires.1)
