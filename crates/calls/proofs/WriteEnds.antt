@@ -4,8 +4,6 @@ use mathlib.Core.Path.{◌≡◌, refl, sym, ap, ◌∙◌}
 use mathlib.Core.Bool.{Bool, true, false, cond, ◌&&◌, ◌||◌}
 use mathlib.Core.List.{List, [], ◌∷◌}
 use native.Mathlib.Omega.{arith}
-use types.Run.{OneOf, miss}
-use denote.Enum.Declared.{tag_of}
 use lib.ListN.{length}
 use lib.Dec.{eqb, leb, ltb}
 use borrow.Author.Tests.{ne_eqb, le-leb, lt-leb, eqb-true, leb-true, ltb-true}
@@ -39,9 +37,6 @@ use Rattle.calls.proofs.WritePads.{pad_zeros}
 
 -- ---- four tests, one after the other
 
-abbrev not_stored : List ℕ
-not_stored = 0 ∷ 1 ∷ 2 ∷ 4 ∷ 5 ∷ 6 ∷ 7 ∷ []
-
 abbrev answers : ℕ → ℕ → ℕ → Bool → Bool → Bool → Bool → Answer
 answers e k n b1 b2 b3 b4 = cond b1 (cond b2 (cond b3 (cond b4 (Stored e) (Refused n 0)) (Refused 10 0)) (Refused 8 k)) (Refused 7 0)
 
@@ -51,13 +46,13 @@ four e k n b1 b2 b3 b4 g v = cond b1 (cond b2 (cond b3 (cond b4 (Stored e, g) (R
 with_world : (r a : Answer) (v : World) → r ≡ a → ◌≡◌ {A = Result} (a, v) (r, v)
 with_world r a v h = ap (λ (x : Answer). (x, v)) (sym h)
 
-four_no : (e k n : ℕ) (b1 b2 b3 b4 : Bool) (g v : World) (r : Answer) → r ≡ answers e k n b1 b2 b3 b4 → OneOf not_stored (tag_of the_type r)
+four_no : (e k n : ℕ) (b1 b2 b3 b4 : Bool) (g v : World) (r : Answer) → r ≡ answers e k n b1 b2 b3 b4 → ((place : ℕ) → r ≡ Stored place → ⊥)
     → four e k n b1 b2 b3 b4 g v ≡ (r, v)
 four_no e k n false b2 b3 b4 g v r h t = with_world r (Refused 7 0) v h
 four_no e k n true false b3 b4 g v r h t = with_world r (Refused 8 k) v h
 four_no e k n true true false b4 g v r h t = with_world r (Refused 10 0) v h
 four_no e k n true true true false g v r h t = with_world r (Refused n 0) v h
-four_no e k n true true true true g v r h t = absurd (miss not_stored 3 tt (rw h at t))
+four_no e k n true true true true g v r h t = absurd (t e h)
 
 pub record All (e : ℕ) (b1 b2 b3 b4 : Bool) (q : ℕ) : Type 0 where
   pub one : b1 ≡ true
@@ -121,7 +116,7 @@ module _ (s fs rs : List ℕ) (st : State) (h : line_one (length s) (length fs) 
             on_warm
             ∙ rw (room_by (length rs / row_length) s fs (put (rows_of rs) f r) st.end st.floor st.undecided (st.undecided + 1) (omega arith) (Stored (suc st.end), g₁))
 
-        pub write_refused : (x : Answer) → x ≡ write_answer s (length rs / row_length) st f t a r → OneOf not_stored (tag_of the_type x)
+        pub write_refused : (x : Answer) → x ≡ write_answer s (length rs / row_length) st f t a r → ((place : ℕ) → x ≡ Stored place → ⊥)
             → record { answer = x; state = st; sheet = s; fates = fs; rows = xs } ≡ call_leaves s fs rs st (write f t a v)
         unfolding write_answer store_answer row_holds_in row_holds
         write_refused x hx q =

@@ -8,8 +8,6 @@ use lib.ListN.{length, take, drop, replicate, length-replicate, length-take, len
 use lib.Seq.{take_all}
 use lib.Dec.{eqb, leb}
 use borrow.Author.Tests.{eqb-true, ne_eqb, leb-false}
-use types.Run.{OneOf, miss}
-use denote.Enum.Declared.{tag_of}
 use Rattle.commands.specs.contracts.printing.Reply.{the_type}
 use Rattle.encoding.specs.Bytes.{part}
 use Rattle.encoding.proofs.Parts.{length_part}
@@ -48,11 +46,8 @@ value_long s = go (eqb (length s) page_size) refl
 
 -- ---- a reply and its bytes
 
--- what `let Reply::Shown(..) = r else { .. }` tells in its else: the tag is another's
-abbrev pub other_tags : List ℕ
-other_tags = 0 ∷ 1 ∷ 2 ∷ 3 ∷ 4 ∷ 5 ∷ 6 ∷ 8 ∷ 9 ∷ 10 ∷ 11 ∷ 12 ∷ []
-
-none_shown : (r : Reply) (s : List ℕ) → OneOf other_tags (tag_of the_type r) → [] ≡ shown r s
+-- what `let Reply::Shown(..) = r else { .. }` tells in its else: it is no such reply
+none_shown : (r : Reply) (s : List ℕ) → ((place start size : ℕ) → r ≡ Shown place start size → ⊥) → [] ≡ shown r s
 none_shown What s k = refl
 none_shown Closed s k = refl
 none_shown Lost s k = refl
@@ -60,7 +55,7 @@ none_shown (Cut n) s k = refl
 none_shown (Opened end undecided) s k = refl
 none_shown (Begun place) s k = refl
 none_shown (Written place) s k = refl
-none_shown (Shown place start size) s k = absurd (miss other_tags 7 tt k)
+none_shown (Shown place start size) s k = absurd (k place start size refl)
 none_shown Nothing s k = refl
 none_shown (Told fate place) s k = refl
 none_shown (Committed place) s k = refl
@@ -68,7 +63,7 @@ none_shown (Aborted place) s k = refl
 none_shown (No number place) s k = refl
 
 module _ (r : Reply) (s out out' : List ℕ) (n : ℕ) where
-  pub told_other : OneOf other_tags (tag_of the_type r) → ◌≡◌ {A = ℕ × List ℕ} (n, out') (prints r [] out) → ◌≡◌ {A = ℕ × List ℕ} (n, out') (prints r (shown r s) out)
+  pub told_other : ((place start size : ℕ) → r ≡ Shown place start size → ⊥) → ◌≡◌ {A = ℕ × List ℕ} (n, out') (prints r [] out) → ◌≡◌ {A = ℕ × List ℕ} (n, out') (prints r (shown r s) out)
   told_other k q = q ∙ ap (λ v. prints r v out) (none_shown r s k)
 
   module _ (place start size : ℕ) (value : List ℕ) (e : r ≡ Shown place start size) (v : value ≡ value_in (page_bytes s place)) where

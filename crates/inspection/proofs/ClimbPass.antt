@@ -142,7 +142,7 @@ module _ (s : List ℕ) (files m p : ℕ) (u : Unpacked) (b : Bool) (hm : m ≡ 
   pub up_hit : not b ≡ true → true ≡ leb p (end_of (pages_of s files) m)
   up_hit t = sym (le-leb p (end_of (pages_of s files) m) (used_end (pages_of s files) p (refused blank_is t) m high))
 
-  pub up_miss : not b ≡ false → leb (p + 1) (end_of (pages_of s files) m) ≡ leb p (end_of (pages_of s files) m)
+  pub up_miss : b ≡ true → leb (p + 1) (end_of (pages_of s files) m) ≡ leb p (end_of (pages_of s files) m)
   up_miss t = up_more (pages_of s files) m p low (passed blank_is t)
 
 -- ---- the answer

@@ -7,8 +7,6 @@ use native.Mathlib.Numerals.{add-one}
 use lib.ListN.{get_or, set}
 use lib.Dec.{eqb, ltb}
 use borrow.Author.Tests.{eq-eqb, ne_eqb}
-use types.Run.{OneOf, miss}
-use denote.Enum.Declared.{tag_of}
 use Rattle.page.specs.contracts.Unpacked.{the_type}
 use Rattle.page.specs.declared.Page.{Page}
 use Rattle.page.specs.declared.Unpacked.{Unpacked}
@@ -75,17 +73,15 @@ range_file place Unfit t = tt
 pub fits_as : (k : Arrays) (u v : Unpacked) → u ≡ v → page_fits_in k v ≡ page_fits_in k u
 fits_as k u v e = ap (page_fits_in k) (sym e)
 
-abbrev unfit_tags : List ℕ
-unfit_tags = 0 ∷ 1 ∷ 6 ∷ []
-
-pub never_fits : (k : Arrays) (u : Unpacked) → OneOf unfit_tags (tag_of the_type u) → false ≡ page_fits_in k u
-never_fits k Refused h = refl
-never_fits k Blank h = refl
-never_fits k Torn h = absurd (miss unfit_tags 2 tt h)
-never_fits k (Opening p) h = absurd (miss unfit_tags 3 tt h)
-never_fits k (Image p) h = absurd (miss unfit_tags 4 tt h)
-never_fits k (Outcome p) h = absurd (miss unfit_tags 5 tt h)
-never_fits k Unfit h = refl
+pub never_fits : (k : Arrays) (u : Unpacked) → (u ≡ Torn → ⊥) → ((p : Page) → u ≡ Opening p → ⊥) → ((p : Page) → u ≡ Image p → ⊥)
+    → ((p : Page) → u ≡ Outcome p → ⊥) → false ≡ page_fits_in k u
+never_fits k Refused t o i d = refl
+never_fits k Blank t o i d = refl
+never_fits k Torn t o i d = absurd (t refl)
+never_fits k (Opening p) t o i d = absurd (o p refl)
+never_fits k (Image p) t o i d = absurd (i p refl)
+never_fits k (Outcome p) t o i d = absurd (d p refl)
+never_fits k Unfit t o i d = refl
 
 -- ---- what is kept
 
@@ -101,14 +97,12 @@ pub keep_outcome_is : (k : Arrays) (u : Unpacked) (p : Page) (place : ℕ) → u
     → arrays (set k.fates p.action (p.small + 1)) k.newest k.below ≡ keep_page k u place
 keep_outcome_is k u p place e = rw add-one (keep_as k u (Outcome p) place e)
 
-abbrev idle_tags : List ℕ
-idle_tags = 0 ∷ 1 ∷ 2 ∷ 6 ∷ []
-
-pub keep_idle : (k : Arrays) (u : Unpacked) (place : ℕ) → OneOf idle_tags (tag_of the_type u) → k ≡ keep_page k u place
-keep_idle k Refused place h = refl
-keep_idle k Blank place h = refl
-keep_idle k Torn place h = refl
-keep_idle k (Opening p) place h = absurd (miss idle_tags 3 tt h)
-keep_idle k (Image p) place h = absurd (miss idle_tags 4 tt h)
-keep_idle k (Outcome p) place h = absurd (miss idle_tags 5 tt h)
-keep_idle k Unfit place h = refl
+pub keep_idle : (k : Arrays) (u : Unpacked) (place : ℕ) → ((p : Page) → u ≡ Opening p → ⊥) → ((p : Page) → u ≡ Image p → ⊥)
+    → ((p : Page) → u ≡ Outcome p → ⊥) → k ≡ keep_page k u place
+keep_idle k Refused place o i d = refl
+keep_idle k Blank place o i d = refl
+keep_idle k Torn place o i d = refl
+keep_idle k (Opening p) place o i d = absurd (o p refl)
+keep_idle k (Image p) place o i d = absurd (i p refl)
+keep_idle k (Outcome p) place o i d = absurd (d p refl)
+keep_idle k Unfit place o i d = refl

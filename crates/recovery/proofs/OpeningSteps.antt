@@ -2,12 +2,9 @@
 use Prim.Native.Nat.{ℕ, ◌+◌, ◌-◌}
 use mathlib.Core.Path.{◌≡◌, refl, sym, ap, subst, ◌∙◌}
 use mathlib.Core.Bool.{Bool, cond}
-use mathlib.Core.List.{List, [], ◌∷◌}
+use mathlib.Core.List.{List}
 use lib.ListN.{get_or, set}
 use borrow.Author.Tests.{eq-eqb, ne_eqb}
-use types.Run.{OneOf, miss}
-use denote.Enum.Declared.{tag_of}
-use Rattle.page.specs.contracts.Unpacked.{the_type}
 use Rattle.page.specs.declared.Page.{Page}
 use Rattle.page.specs.declared.Unpacked.{Unpacked}
 use Rattle.page.specs.declared.Unpacked.TheVariants.{Refused, Blank, Torn, Opening, Image, Outcome, Unfit}
@@ -16,9 +13,6 @@ use Rattle.recovery.specs.declared.Scan.{Scan}
 
 pub bounded_as : (place : ℕ) (u v : Unpacked) → u ≡ v → Bounded place u → Bounded place v
 bounded_as place u v e t = subst (Bounded place) e t
-
-abbrev pub bad_tags : List ℕ
-bad_tags = 0 ∷ 6 ∷ []
 
 module _ (place : ℕ) (sc : Scan) (k : List ℕ) (u : Unpacked) where
   pub step_as : (v : Unpacked) → u ≡ v → stepped v place sc k ≡ stepped u place sc k
@@ -47,11 +41,12 @@ module _ (place : ℕ) (sc : Scan) (k : List ℕ) (u : Unpacked) where
       (ap (λ (b : Bool). cond {A = Scan × List ℕ} b (worse place, k) (good place sc, set k (p.action - 1) (p.small + 1))) (ne_eqb (get_or k (p.action - 1) 0) 0 z))
       g
 
-pub step_bad : (place : ℕ) (sc : Scan) (k : List ℕ) (u : Unpacked) → OneOf bad_tags (tag_of the_type u) → (worse place, k) ≡ stepped u place sc k
-step_bad place sc k Refused t = refl
-step_bad place sc k Blank t = absurd (miss bad_tags 1 tt t)
-step_bad place sc k Torn t = absurd (miss bad_tags 2 tt t)
-step_bad place sc k (Opening p) t = absurd (miss bad_tags 3 tt t)
-step_bad place sc k (Image p) t = absurd (miss bad_tags 4 tt t)
-step_bad place sc k (Outcome p) t = absurd (miss bad_tags 5 tt t)
-step_bad place sc k Unfit t = refl
+pub step_bad : (place : ℕ) (sc : Scan) (k : List ℕ) (u : Unpacked) → (u ≡ Blank → ⊥) → (u ≡ Torn → ⊥)
+    → ((p : Page) → u ≡ Opening p → ⊥) → ((p : Page) → u ≡ Image p → ⊥) → ((p : Page) → u ≡ Outcome p → ⊥) → (worse place, k) ≡ stepped u place sc k
+step_bad place sc k Refused b t o i d = refl
+step_bad place sc k Blank b t o i d = absurd (b refl)
+step_bad place sc k Torn b t o i d = absurd (t refl)
+step_bad place sc k (Opening p) b t o i d = absurd (o p refl)
+step_bad place sc k (Image p) b t o i d = absurd (i p refl)
+step_bad place sc k (Outcome p) b t o i d = absurd (d p refl)
+step_bad place sc k Unfit b t o i d = refl

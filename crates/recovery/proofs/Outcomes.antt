@@ -15,7 +15,7 @@ use Rattle.page.specs.Layout.{page_size}
 use Rattle.page.specs.Answers.{tested, is_outcome_of}
 use Rattle.page.proofs.Found.{outcome_is}
 use Rattle.recovery.specs.Log.{Entry, bad, outcome, outcome_step, outcome_of}
-use Rattle.recovery.specs.Sheet.{page_bytes, entry_of, is_opening, seal, decoded, sealed}
+use Rattle.recovery.specs.Sheet.{page_bytes, entry_of, is_opening, seal, decoded}
 use Rattle.recovery.specs.World.{down}
 use Rattle.recovery.specs.Steps.{outcome_in}
 use Rattle.recovery.proofs.Pages.{sealed_is, test_out}

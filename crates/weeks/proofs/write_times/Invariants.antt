@@ -1,15 +1,10 @@
 -- `weeks::write_times`. The invariant: the times before k are written. Assumes nothing.
-use Prim.Native.Nat.{ℕ, ◌*◌, ◌-◌, ◌≤◌}
-use mathlib.Core.Path.{◌≡◌, refl, ap, ◌∙◌}
-use native.Mathlib.Omega.{arith}
-use native.Mathlib.Nat.{mul-zero}
+use Prim.Native.Nat.{◌*◌, ◌-◌, ◌≤◌}
+use mathlib.Core.Path.{◌≡◌}
 use lib.ListN.{length, take}
 use Rattle.encoding.specs.Concat.{concat}
-use Rattle.encoding.proofs.Concat.{concat_turn}
 use Rattle.weeks.specs.Editions.{times_aWeek}
-use Rattle.weeks.specs.Weeks.{time_in, times_in}
-use Rattle.weeks.proofs.Written.{put_there}
-use borrow.Author.Rules.{rules}
+use Rattle.weeks.specs.Weeks.{time_in}
 use Rattle.weeks.proofs.write_times.Given as goal
 
 abbrev pub invariant-loop-k : goal.invariant-loop-k

@@ -1,10 +1,8 @@
 -- `weeks::days::find_faults`. The invariant: what was found above day d, with the days up to it, is the lowest of all. Assumes nothing.
 use Prim.Native.Nat.{◌≤◌}
 use mathlib.Core.Path.{◌≡◌}
-use native.Mathlib.Omega.{arith}
 use Rattle.weeks.specs.Weeks.{wrong_day, uneven_day, lowest_day}
-use Rattle.weeks.proofs.DayTests.{is_wrong_day, is_uneven_day, over, over_start, day_turn, over_end}
-use borrow.Author.Rules.{rules}
+use Rattle.weeks.proofs.DayTests.{over}
 use Rattle.weeks.proofs.days.find_faults.Given as goal
 
 abbrev pub invariant-loop-d : goal.invariant-loop-d

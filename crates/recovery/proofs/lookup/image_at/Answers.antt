@@ -1,0 +1,20 @@
+-- `recovery::lookup::image_at`: an image of the file, and its opening. Assumes nothing.
+use Rattle.recovery.proofs.Held.{image_none, image_unsealed, image_sealed}
+use Rattle.encoding.proofs.Logic.{refused, passed}
+use mathlib.Core.Path.{sym, ◌∙◌}
+use Rattle.recovery.proofs.lookup.image_at.Goals as goal
+
+pub returns-in_default : goal.returns-in_default
+returns-in_default c =
+    let a = c.args in
+    image_none a.files a.sheet.now a.file a.place (sym c.in_default.is ∙ c.seek_at-found.ensures)
+
+pub returns-then-not-is_opening_at : goal.returns-then-not-is_opening_at
+returns-then-not-is_opening_at c =
+    let a = c.args in
+    image_unsealed a.files a.sheet.now a.file a.place _ (sym c.in-Image.is ∙ c.seek_at-found.ensures) (refused c.is_opening_at.ensures c.if-not-is_opening_at.true)
+
+pub returns : goal.returns
+returns c =
+    let a = c.args in
+    image_sealed a.files a.sheet.now a.file a.place _ (sym c.in-Image.is ∙ c.seek_at-found.ensures) (passed c.is_opening_at.ensures c.if-not-is_opening_at.false)

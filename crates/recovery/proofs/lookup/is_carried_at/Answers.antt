@@ -1,0 +1,11 @@
+-- `recovery::lookup::is_carried_at`: of the part at the place. Assumes nothing.
+use Rattle.page.specs.Answers.{tested, is_carried_page}
+use Rattle.recovery.proofs.Lookups.{carried_decoded}
+use Rattle.recovery.proofs.Pages.{part_tested}
+use mathlib.Core.Path.{ap, ◌∙◌}
+use Rattle.recovery.proofs.lookup.is_carried_at.Goals as goal
+
+pub returns : goal.returns
+returns c =
+    let a = c.args in
+    c.is_carried.ensures ∙ ap (λ b. is_carried_page (tested b a.place a.files)) c.part_at.ensures ∙ ap is_carried_page (part_tested a.sheet.now a.place a.files) ∙ carried_decoded a.sheet.now a.place a.files

@@ -1,0 +1,12 @@
+-- `weeks::write_week`: the times, and the mask behind them. Assumes nothing.
+use mathlib.Core.Path.{ap, ◌∙◌}
+use mathlib.Core.List.{◌++◌}
+use Rattle.encoding.specs.Bytes.{bytes}
+use Rattle.weeks.specs.Weeks.{in_edition}
+use Rattle.weeks.proofs.write_week.Goals as goal
+
+pub returns : goal.returns
+unfolding in_edition
+returns c =
+    let a = c.args in
+    c.put_mask.ensures ∙ ap (λ t. t ++ bytes a.o.mask a.mask) c.write_times.ensures
