@@ -2,7 +2,7 @@
 use Prim.Native.Nat.{ℕ, suc, ◌+◌, ◌*◌, ◌/◌, ◌^◌, ◌≤◌, ◌<◌}
 use mathlib.Core.Path.{◌≡◌, refl, sym, ap, ◌∙◌}
 use mathlib.Core.Bool.{Bool, true, false, cond, ◌&&◌, ◌||◌}
-use mathlib.Core.List.{List, [], ◌∷◌}
+use mathlib.Core.List.{List}
 use native.Mathlib.Omega.{arith}
 use lib.ListN.{length}
 use lib.Dec.{eqb, leb, ltb}
@@ -20,7 +20,6 @@ use Rattle.recovery.specs.declared.Row.{Row}
 use Rattle.recovery.specs.declared.State.{State}
 use Rattle.recovery.specs.declared.Answer.{Answer}
 use Rattle.recovery.specs.declared.Answer.TheVariants.{Refused, Stored}
-use Rattle.recovery.specs.contracts.Answer.{the_type}
 use Rattle.recovery.specs.World.{World, Result, is_file, entry_at, is_image_of, place_holds, token_holds, row_holds, with_row, warm_row, refuse}
 use Rattle.recovery.specs.Lent.{row_length, rows_of, flat, lent, refused}
 use Rattle.recovery.specs.Steps.{line_one, row_holds_in, with_row_of, Warmed}

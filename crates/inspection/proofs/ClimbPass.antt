@@ -92,14 +92,14 @@ module _ (s : List ℕ) (files : ℕ) where
         page_fits : r ≡ fits_below page (log n)
         page_fits = q ∙ fits_is (log n) m k w (decoded files s) (opened (omega arith)) (page_bytes s (n + 1)) u (range_file (n + 1) u (in_range s files (n + 1) u e))
 
-        pub climb_again : not r ≡ false → (k' : Arrays) → k' ≡ keep_page k u (n + 1) → Knows (log (n + 1)) m k'
+        pub climb_again : r ≡ true → (k' : Arrays) → k' ≡ keep_page k u (n + 1) → Knows (log (n + 1)) m k'
         climb_again t k' i =
             let step : Knows (page ∷ log n) m (keep_page k u (suc (length (log n))))
             = keep (log n) m k w (decoded files s) (page_bytes s (n + 1)) u (omega (arith, place_is)) (subst (λ (x : ℕ). InRange x u) (sym place_is) (in_range s files (n + 1) u e)) (passed page_fits t) in
             let kept : Knows (page ∷ log n) m k' = subst (λ (x : Arrays). Knows (page ∷ log n) m x) (ap (keep_page k u) place_is ∙ sym i) step in
             subst (λ (l : List Entry). Knows l m k') (sym log_up) kept
 
-        pub climb_stop : not r ≡ true → n + 1 ≡ lowest_unlawful (log m)
+        pub climb_stop : r ≡ false → n + 1 ≡ lowest_unlawful (log m)
         climb_stop t =
             let here : lowest_unlawful (log (n + 1)) ≡ n + 1
             = ap lowest_unlawful log_up ∙ lowest_here page (log n) w.lawful_is (refused page_fits t) ∙ place_is in
@@ -139,7 +139,7 @@ module _ (s : List ℕ) (files m p : ℕ) (u : Unpacked) (b : Bool) (hm : m ≡ 
       ∙ sym (blank_sealed (decoded files s) (page_bytes s p) u)
       ∙ ap is_blank (sealed_is s p files u e ∙ sym (page_at_place files (length s / page_size) s p low (omega arith)))
 
-  pub up_hit : not b ≡ true → true ≡ leb p (end_of (pages_of s files) m)
+  pub up_hit : b ≡ false → true ≡ leb p (end_of (pages_of s files) m)
   up_hit t = sym (le-leb p (end_of (pages_of s files) m) (used_end (pages_of s files) p (refused blank_is t) m high))
 
   pub up_miss : b ≡ true → leb (p + 1) (end_of (pages_of s files) m) ≡ leb p (end_of (pages_of s files) m)

@@ -1,0 +1,12 @@
+-- `opening::extend`, by its two ways out. Assumes nothing.
+use borrow.Author.Tests.{lt-ltb, le-ltb}
+use Rattle.recovery.specs.OpenSteps.{good}
+use Rattle.opening.proofs.extend.Goals as goal
+
+pub returns-then-scan-place : goal.returns-then-scan-place
+unfolding good
+returns-then-scan-place c = simp (lt-ltb _ _ c.if-scan-place.true)
+
+pub returns : goal.returns
+unfolding good
+returns c = simp (le-ltb _ _ c.if-scan-place.false)
