@@ -2,7 +2,6 @@
 use native.Mathlib.Omega.{arith}
 use Rattle.encoding.proofs.Logic.{refused, passed}
 use Rattle.recovery.proofs.OpeningLaws.{open_refused}
-use borrow.Author.Rules.{rules}
 use Rattle.opening.proofs.open.Goals as goal
 
 pub returns-then-not-is_sized : goal.returns-then-not-is_sized

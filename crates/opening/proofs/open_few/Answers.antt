@@ -1,6 +1,5 @@
 -- `opening::open_few`: what it lends is zeros, as many as there are pages. Assumes nothing.
 use Rattle.recovery.proofs.OpeningRuns.{zeros_long, zeros_are}
-use borrow.Author.Rules.{rules}
 use Rattle.opening.proofs.open_few.Goals as goal
 
 pub open_with-requires : goal.open_with-requires

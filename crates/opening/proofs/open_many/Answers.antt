@@ -4,7 +4,6 @@ use Prim.Native.Nat.{◌≤◌}
 use Rattle.recovery.proofs.OpeningRuns.{zeros_long, zeros_are}
 use native.Mathlib.Omega.{arith}
 use Rattle.recovery.proofs.Sizes.{sizes_right_lem}
-use borrow.Author.Rules.{rules}
 use Rattle.opening.proofs.open_many.Goals as goal
 
 pub slice_bounds-kept-end : goal.slice_bounds-kept-end

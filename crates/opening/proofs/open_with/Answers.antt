@@ -3,7 +3,6 @@ use mathlib.Core.Path.{sym, ◌∙◌}
 use native.Mathlib.Omega.{arith}
 use Rattle.recovery.proofs.Sizes.{sizes_right_lem}
 use Rattle.recovery.proofs.OpeningLaws.{open_bad, open_unfinished, open_good}
-use borrow.Author.Rules.{rules}
 use Rattle.opening.proofs.open_with.Goals as goal
 
 pub scan_pages-scan-requires : goal.scan_pages-scan-requires

@@ -1,12 +1,11 @@
 -- `opening::scan_pages`. The invariant, `Passed`: what is found and kept after n pages. Assumes nothing.
-use mathlib.Core.Path.{◌≡◌, refl, ◌∙◌}
-use Prim.Native.Nat.{◌≤◌, ◌-◌, ◌+◌, ◌*◌}
+use mathlib.Core.Path.{refl, ◌∙◌}
+use Prim.Native.Nat.{◌+◌, ◌*◌}
 use lib.ListN.{length}
 use native.Mathlib.Omega.{arith}
 use Rattle.recovery.proofs.Pages.{test_is}
 use Rattle.recovery.proofs.OpeningFates.{bounded_at}
-use Rattle.recovery.proofs.OpeningPass.{Passed, passed_none, passed_turn, passed_all}
-use borrow.Author.Rules.{rules}
+use Rattle.recovery.proofs.OpeningPass.{passed_none, passed_turn, passed_all}
 use Rattle.opening.proofs.scan_pages.Goals as goal
 
 pub loop-n-init : goal.loop-n-init

@@ -1,12 +1,8 @@
 -- `opening::scan_pages`. The invariant, `Passed`: what is found and kept after n pages. Assumes nothing.
-use mathlib.Core.Path.{◌≡◌, refl, ◌∙◌}
-use Prim.Native.Nat.{◌≤◌, ◌-◌, ◌+◌, ◌*◌}
+use mathlib.Core.Path.{◌≡◌}
+use Prim.Native.Nat.{◌≤◌, ◌-◌}
 use lib.ListN.{length}
-use native.Mathlib.Omega.{arith}
-use Rattle.recovery.proofs.Pages.{test_is}
-use Rattle.recovery.proofs.OpeningFates.{bounded_at}
-use Rattle.recovery.proofs.OpeningPass.{Passed, passed_none, passed_turn, passed_all}
-use borrow.Author.Rules.{rules}
+use Rattle.recovery.proofs.OpeningPass.{Passed}
 use Rattle.opening.proofs.scan_pages.Given as goal
 
 abbrev pub invariant-loop-n : goal.invariant-loop-n

@@ -4,7 +4,6 @@ use Rattle.recovery.specs.declared.Done.{Done}
 use Rattle.recovery.specs.Lent.{left_by}
 use Rattle.encoding.proofs.Logic.{refused, passed}
 use mathlib.Core.Path.{ap, ◌∙◌}
-use borrow.Author.Rules.{rules}
 use Rattle.rebuilding.proofs.rebuild.Goals as goal
 
 pub returns-then-not-is_lent_right : goal.returns-then-not-is_lent_right

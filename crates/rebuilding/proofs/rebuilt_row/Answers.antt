@@ -15,8 +15,7 @@ use native.Mathlib.Nat.{not-suc-le-zero}
 use native.Mathlib.Omega.{arith}
 use mathlib.Core.Bool.{cond}
 use mathlib.Core.Path.{◌≡◌, ◌∙◌, refl, ap, sym}
-use Prim.Native.Nat.{◌≤◌, ◌*◌, ◌/◌}
-use borrow.Author.Rules.{rules}
+use Prim.Native.Nat.{◌≤◌, ◌*◌}
 use Rattle.rebuilding.proofs.rebuilt_row.Goals as goal
 
 pub loop-place-init : goal.loop-place-init

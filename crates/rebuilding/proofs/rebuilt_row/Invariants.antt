@@ -1,22 +1,8 @@
 -- `rebuilding::rebuilt_row`. The invariant: what is known from above, laid over the row of the pages below, is the row. Assumes nothing.
-use Rattle.recovery.proofs.WalkDown.{overlay, row_to, row_from_lem, pass, turn, stop, over_none, over_committed, over_token, over_kept, over_passed, over_end}
-use Rattle.recovery.proofs.Pages.{part_is}
-use Rattle.recovery.specs.Sheet.{page_bytes}
-use Rattle.page.specs.declared.Page.{Page}
-use Rattle.page.specs.declared.Sought as sought
-use Rattle.page.specs.Answers.{tested, image_of_file}
-use Rattle.page.specs.Steps.{named}
-use Rattle.page.proofs.Found.{off_image}
-use Rattle.page.proofs.Seek.{unnamed, named_image}
-use Rattle.encoding.proofs.Logic.{refused, passed}
-use lib.Dec.{eqb}
+use Rattle.recovery.proofs.WalkDown.{overlay, row_to}
 use lib.ListN.{length}
-use native.Mathlib.Nat.{not-suc-le-zero}
-use native.Mathlib.Omega.{arith}
-use mathlib.Core.Bool.{cond}
-use mathlib.Core.Path.{◌≡◌, ◌∙◌, refl, ap, sym}
-use Prim.Native.Nat.{◌≤◌, ◌*◌, ◌/◌}
-use borrow.Author.Rules.{rules}
+use mathlib.Core.Path.{◌≡◌}
+use Prim.Native.Nat.{◌≤◌, ◌/◌}
 use Rattle.rebuilding.proofs.rebuilt_row.Given as goal
 
 abbrev pub invariant-loop-place : goal.invariant-loop-place

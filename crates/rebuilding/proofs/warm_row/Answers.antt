@@ -1,6 +1,5 @@
 -- `rebuilding::warm_row`: a row that is not cold stays as it is. Assumes nothing.
 use Rattle.recovery.proofs.Leaves.{warm_same, warm_new}
-use borrow.Author.Rules.{rules}
 use Rattle.rebuilding.proofs.warm_row.Goals as goal
 
 pub returns-then-row-ne0 : goal.returns-then-row-ne0

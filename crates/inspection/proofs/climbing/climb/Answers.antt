@@ -1,14 +1,10 @@
 -- `inspection::climbing::climb`: what is kept is what the log below says (`Knows`), so a page fits it exactly if it fits the log.
 -- The measure is the pages left. Assumes nothing.
-use Prim.Native.Nat.{◌≤◌, ◌-◌, ◌+◌}
-use lib.ListN.{length}
-use mathlib.Core.Path.{◌≡◌, refl, ◌∙◌}
+use Prim.Native.Nat.{◌+◌}
+use mathlib.Core.Path.{refl, ◌∙◌}
 use native.Mathlib.Omega.{arith}
-use Rattle.recovery.specs.Lent.{pages_of}
-use Rattle.recovery.specs.World.{down}
 use Rattle.inspection.specs.ClimbSteps.{arrays}
 use Rattle.inspection.proofs.ClimbSteps.{range_file}
-use Rattle.inspection.proofs.ArraysKnow.{Knows}
 use Rattle.inspection.proofs.ClimbPass.{in_range, climb_start, climb_again, climb_stop, climb_end}
 use borrow.Author.Rules.{rules}
 use Rattle.inspection.proofs.climbing.climb.Goals as goal

@@ -1,7 +1,6 @@
 -- `inspection::climbing::climb_large`: arrays of zeros know the empty log. Assumes nothing.
 use native.Mathlib.Omega.{arith}
 use Rattle.inspection.proofs.ArraysKnow.{fresh}
-use borrow.Author.Rules.{rules}
 use Rattle.inspection.proofs.climbing.climb_large.Goals as goal
 
 pub climb-requires : goal.climb-requires

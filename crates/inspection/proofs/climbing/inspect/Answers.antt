@@ -1,7 +1,6 @@
 -- `inspection::climbing::inspect`: line 1, then the lowest place. Assumes nothing.
 use Rattle.encoding.proofs.Logic.{refused, passed}
 use Rattle.inspection.proofs.ClimbPass.{most, inspected_no, inspected_yes}
-use borrow.Author.Rules.{rules}
 use Rattle.inspection.proofs.climbing.inspect.Goals as goal
 
 pub returns-then-not-is_inspectable : goal.returns-then-not-is_inspectable

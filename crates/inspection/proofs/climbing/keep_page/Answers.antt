@@ -3,7 +3,6 @@ use mathlib.Core.Path.{◌∙◌}
 use native.Mathlib.Omega.{arith}
 use Rattle.inspection.specs.ClimbSteps.{arrays}
 use Rattle.inspection.proofs.ClimbSteps.{range_as, keep_as, keep_outcome_is, keep_idle}
-use borrow.Author.Rules.{rules}
 use Rattle.inspection.proofs.climbing.keep_page.Goals as goal
 
 pub keep_image-requires : goal.keep_image-requires

@@ -1,7 +1,6 @@
 -- `inspection::climbing::lowest`: what the climb finds up to the last page, it finds up to the end, unless it is above the end.
 -- Assumes nothing.
 use Rattle.inspection.proofs.ClimbPass.{upward_none, upward_found, upward_blank}
-use borrow.Author.Rules.{rules}
 use Rattle.inspection.proofs.climbing.lowest.Goals as goal
 
 pub returns-then-place-eq0 : goal.returns-then-place-eq0

@@ -4,7 +4,6 @@ use Prim.Native.Nat.{ℕ}
 use lib.Dec.{eqb}
 use Rattle.inspection.specs.ClimbSteps.{arrays}
 use Rattle.inspection.proofs.ClimbSteps.{file_as, fits_as, never_fits}
-use borrow.Author.Rules.{rules}
 use Rattle.inspection.proofs.climbing.page_fits.Goals as goal
 
 pub image_fits-requires : goal.image_fits-requires
