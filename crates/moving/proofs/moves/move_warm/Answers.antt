@@ -1,0 +1,50 @@
+-- `moving::moves::move_warm`: 7, 11, 12, and the move. Assumes nothing.
+use Rattle.moving.proofs.MoveEnds.{line_one_lem, versions_few, warm_damaged, warm_full, warm_used, roomy, blank_first, warm_done}
+use Rattle.calls.proofs.Ends.{lent_is}
+use borrow.Author.Tests.{not-true, not-false}
+use native.Mathlib.Omega.{arith}
+use borrow.Author.Rules.{rules}
+use Rattle.moving.proofs.moves.move_warm.Goals as goal
+
+pub survey_rows-survey-requires : goal.survey_rows-survey-requires
+survey_rows-survey-requires c =
+    let a = c.args in
+    let few = (lent_is _ _ _ _ _ (line_one_lem a.sheet.now a.fates.now a.rows.now a.state a.fresh.now c.requires).0).sizes.most_files_lem in
+    omega (arith, c.file_count-files.ensures)
+
+pub returns-then-survey-ne0 : goal.returns-then-survey-ne0
+returns-then-survey-ne0 c =
+    let a = c.args in
+    warm_damaged a.sheet.now a.fates.now a.rows.now a.state a.fresh.now c.requires _ (rw c.file_count-files.ensures at c.survey_rows-survey.ensures) c.if-survey-ne0.true _ c.refuse_at.ensures
+
+pub overflow_add-survey : goal.overflow_add-survey
+overflow_add-survey c =
+    let a = c.args in
+    let few = (lent_is _ _ _ _ _ (line_one_lem a.sheet.now a.fates.now a.rows.now a.state a.fresh.now c.requires).0).sizes.most_files_lem in
+    let most = versions_few a.sheet.now a.fates.now a.rows.now a.state a.fresh.now c.requires _ (rw c.file_count-files.ensures at c.survey_rows-survey.ensures) in
+    omega arith
+
+pub returns-then-pages-survey : goal.returns-then-pages-survey
+returns-then-pages-survey c =
+    let a = c.args in
+    warm_full a.sheet.now a.fates.now a.rows.now a.state a.fresh.now c.requires _ (rw c.file_count-files.ensures at c.survey_rows-survey.ensures) c.if-survey-ne0.false c.if-pages-survey.true _ c.refuse_at-then-pages-survey.ensures
+
+pub returns-then-not-is_unused : goal.returns-then-not-is_unused
+returns-then-not-is_unused c =
+    let a = c.args in
+    warm_used a.sheet.now a.fates.now a.rows.now a.state a.fresh.now c.requires _ (rw c.file_count-files.ensures at c.survey_rows-survey.ensures) c.if-survey-ne0.false c.if-pages-survey.false _ (rw c.file_count-files.ensures at c.is_unused.ensures) (not-true _ c.if-not-is_unused.true) _ c.refuse_at-then-not-is_unused.ensures
+
+pub store_pages-requires : goal.store_pages-requires
+store_pages-requires c =
+    let a = c.args in
+    let k = c.file_count-files.ensures in
+    let v = rw k at c.survey_rows-survey.ensures in (
+      rw k (roomy a.sheet.now a.fates.now a.rows.now a.state a.fresh.now c.requires _ v c.if-survey-ne0.false c.if-pages-survey.false),
+      rw k (blank_first a.sheet.now a.fates.now a.rows.now a.state a.fresh.now c.requires _ v c.if-survey-ne0.false c.if-pages-survey.false _ (rw k at c.is_unused.ensures) (not-false _ c.if-not-is_unused.false)),
+    )
+
+pub returns : goal.returns
+returns c =
+    let a = c.args in
+    let k = c.file_count-files.ensures in
+    warm_done a.sheet.now a.fates.now a.rows.now a.state a.fresh.now c.requires _ (rw k at c.survey_rows-survey.ensures) c.if-survey-ne0.false c.if-pages-survey.false _ (rw k at c.is_unused.ensures) (not-false _ c.if-not-is_unused.false) _ (rw k at c.store_pages.ensures)

@@ -1,0 +1,31 @@
+-- `writing::write_warm`: a refusal on a warm row, or the page and the row written. Assumes nothing.
+use mathlib.Core.Path.{sym, ◌∙◌}
+use lib.ListN.{length}
+use native.Mathlib.Omega.{arith}
+use Rattle.calls.proofs.Appends.{appended_is}
+use Rattle.calls.proofs.WriteEnds.{write_refused, append_asked, write_done}
+use Rattle.calls.proofs.Ends.{lent_is}
+use borrow.Author.Rules.{rules}
+use Rattle.writing.proofs.write_warm.Goals as goal
+
+pub pad-bytes-requires : goal.pad-bytes-requires
+pad-bytes-requires c = c.requires.2
+
+pub write_answer-answer-requires : goal.write_answer-answer-requires
+write_answer-answer-requires c =
+    let a = c.args in
+    let k = lent_is (length a.sheet.now) (length a.fates.now) (length a.rows.now) a.state.end a.state.undecided c.requires.0 in
+    (k.end_in, k.few)
+
+pub returns-in_default : goal.returns-in_default
+returns-in_default c =
+    let a = c.args in
+    write_refused a.sheet.now a.fates.now a.rows.now a.state c.requires.0 a.file a.start a.action a.value.now c.requires.1 c.requires.2 c.requires.3 _ _ c.warm_row-row.ensures c.write_answer-answer.result (rw c.file_count-files.ensures at c.write_answer-answer.ensures) c.in_default.in_default-own.keys2
+
+pub shape_of-rows : goal.shape_of-rows
+shape_of-rows c = omega (arith, c.set_row.auto, c.warm_row-row.auto)
+
+pub returns : goal.returns
+returns c =
+    let a = c.args in
+    write_done a.sheet.now a.fates.now a.rows.now a.state c.requires.0 a.file a.start a.action a.value.now c.requires.1 c.requires.2 c.requires.3 _ _ c.warm_row-row.ensures _ (rw c.file_count-files.ensures at (sym c.in-Stored.is ∙ c.write_answer-answer.ensures)) _ c.image-page.ensures _ c.written_row.ensures _ _ _ c.pad-bytes.ensures (c.append.ensures ∙ appended_is _ _ _ _ _ (rw c.file_count-files.ensures (append_asked a.sheet.now a.fates.now a.rows.now a.state c.requires.0 a.file a.start a.action a.value.now c.requires.1 c.requires.2 c.requires.3 _ _ c.warm_row-row.ensures _ (rw c.file_count-files.ensures at (sym c.in-Stored.is ∙ c.write_answer-answer.ensures)) c.ranges.start.fits _ c.image-page.ensures _ c.pad-bytes.ensures))) c.set_row.ensures
