@@ -1,5 +1,5 @@
 -- The lines that the command program takes, and the command that each one is (docs/STORE.md, The command language).
-use Rattle.std.specs.Prelude.{ℕ, ◌+◌, ◌*◌, ◌-◌, ◌^◌, List, [], ◌∷◌, Bool, true, false, ◌&&◌, cond, length, eqb, ltb, leb}
+use Rattle.std.specs.Prelude.{ℕ, ◌+◌, ◌*◌, ◌-◌, ◌^◌, List, [], ◌∷◌, Bool, true, ◌&&◌, cond, length, eqb, ltb, leb}
 use Rattle.page.specs.Layout.{page_size}
 use Rattle.encoding.specs.Bytes.{same}
 use Rattle.calls.specs.declared.asking.Call.TheVariants.{Begin, Write, Read, Test, Commit, Abort}

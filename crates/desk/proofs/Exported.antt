@@ -16,7 +16,7 @@ use Rattle.inspection.specs.Inspected.{inspected, inspect_number, inspect_place}
 use Rattle.weeks.specs.declared.Refusal.{Refusal}
 use Rattle.weeks.specs.declared.WeekTest.{WeekTest}
 use Rattle.weeks.specs.declared.Conversion.{Conversion}
-use Rattle.weeks.specs.Editions.{days_aWeek}
+use Rattle.weeks.specs.Editions.{days_a_week}
 use Rattle.weeks.specs.Answers.{week_test, converted, refusal_day, test_code, conversion_code}
 use Rattle.desk.specs.Exports.{field_count, numbered, packed_for, fields_given, tested_for, refusal_number, inspected_for, week_tested_for, converted_for}
 
@@ -65,8 +65,8 @@ inspect_told s files a v e h = ap told (sym h ∙ e)
 -- ---- weeks
 
 -- the day of the same refusal
-pub same_day : {a v : Refusal} → a ≡ v → refusal_day a ≤ days_aWeek → refusal_day v ≤ days_aWeek
-same_day e h = subst (λ (r : Refusal). refusal_day r ≤ days_aWeek) e h
+pub same_day : {a v : Refusal} → a ≡ v → refusal_day a ≤ days_a_week → refusal_day v ≤ days_a_week
+same_day e h = subst (λ (r : Refusal). refusal_day r ≤ days_a_week) e h
 
 pub week_told : (s : List ℕ) (a v : WeekTest) → a ≡ week_test s → a ≡ v → test_code v ≡ week_tested_for s
 unfolding week_tested_for

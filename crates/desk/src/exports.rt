@@ -2,7 +2,7 @@
 // is a pointer and a count there; any count is taken.
 ghost use Rattle.std.specs.Prelude.{◌≡◌, ◌≤◌, length};
 ghost use Rattle.page.specs.Answers.{pack_number, field_list};
-ghost use Rattle.weeks.specs.Editions.{days_aWeek};
+ghost use Rattle.weeks.specs.Editions.{days_a_week};
 ghost use Rattle.weeks.specs.Answers.{refusal_day, refusal_code};
 ghost use Rattle.desk.specs.Exports.{field_count, fields_given, packed_for, tested_for, inspected_for, week_tested_for, converted_for};
 
@@ -121,7 +121,7 @@ pub fn desk_inspect(sheet: &[u8], files: u64) -> u64
 
 // A refusal of a week: its number, and the day that it names above the lowest eight bits.
 fn refusal_code(refusal: Refusal) -> u64
-    requires { refusal_day refusal ≤ days_aWeek }
+    requires { refusal_day refusal ≤ days_a_week }
     ensures { result ≡ refusal_code refusal }
 {
     match refusal {

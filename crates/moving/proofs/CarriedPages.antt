@@ -24,12 +24,10 @@ use Rattle.page.proofs.Rules.{between_true}
 use Rattle.page.proofs.Found.{found, image_is}
 use Rattle.page.proofs.Obeyed.{image_rules}
 use Rattle.recovery.specs.Sheet.{page_bytes, is_opening, decoded}
-use Rattle.recovery.specs.Log.{image}
 use Rattle.recovery.specs.Steps.{part_at, sealed_image}
 use Rattle.calls.specs.Leaves.{padded, with_page, appended}
 use Rattle.calls.proofs.Appends.{appended_is}
 use Rattle.calls.proofs.ReadImages.{Met, met_at}
-use Rattle.moving.specs.Moved.{carried}
 use Rattle.moving.specs.MoveSteps.{stored_by}
 
 -- a value whose bytes past its length are 0

@@ -14,7 +14,7 @@ use Rattle.recovery.specs.declared.State.{State}
 use Rattle.recovery.specs.declared.Answer.TheVariants.{Refused, Moved}
 use Rattle.recovery.specs.Numbers.{is_refused}
 use Rattle.recovery.specs.World.{World, refuse, lent_right}
-use Rattle.recovery.specs.Lent.{row_length, flat, pages_of, state_of, lent, whole, refused}
+use Rattle.recovery.specs.Lent.{row_length, flat, pages_of, state_of, lent, whole}
 use Rattle.recovery.proofs.Leaves.{rows_back}
 use Rattle.moving.specs.Moved.{is_sheet, is_unused, lowest_undecided, lowest_damaged, warm_rows, move_pages, highest_end, Move, on_rows, moved}
 use Rattle.moving.specs.MoveLeaves.{MoveLeft, move_leaves}

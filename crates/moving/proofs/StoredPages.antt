@@ -3,7 +3,6 @@ use Prim.Native.Nat.{ℕ, zero, suc, ◌+◌, ◌*◌, ◌≤◌}
 use mathlib.Core.Path.{◌≡◌, refl, sym, ap, ◌∙◌}
 use mathlib.Core.Bool.{Bool, true, false, cond}
 use mathlib.Core.List.{List, [], ◌∷◌, ◌++◌, append_assoc, append-nil}
-use mathlib.Core.Option.{none}
 use native.Mathlib.Omega.{arith}
 use native.Mathlib.Numerals.{add-one}
 use lib.ListN.{length, take, drop, replicate, length-append}
@@ -21,7 +20,7 @@ use Rattle.page.proofs.Obeyed.{opening_rules, outcome_rules}
 use Rattle.page.proofs.Rules.{are_in_bounds}
 use Rattle.page.proofs.RoundTrip.{length_packed}
 use Rattle.recovery.specs.Sheet.{page_bytes, image_from}
-use Rattle.recovery.specs.Log.{Image, Entry, image, outcome}
+use Rattle.recovery.specs.Log.{Entry, image}
 use Rattle.recovery.specs.declared.Row.{Row}
 use Rattle.recovery.specs.Steps.{sealed_image, row_of}
 use Rattle.calls.specs.Leaves.{padded, fields_at, value_at, packed_entry, with_page, appended}

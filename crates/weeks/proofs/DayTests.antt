@@ -8,7 +8,7 @@ use borrow.Author.Tests.{eqb-true, eqb-false, ne_eqb, ltb-true, ltb-false, lt-lt
 use lib.Dec.{eqb, ltb}
 use Rattle.encoding.specs.Lowest.{lowest}
 use Rattle.weeks.specs.declared.Edition.{Edition}
-use Rattle.weeks.specs.Editions.{days_aWeek, times_aWeek}
+use Rattle.weeks.specs.Editions.{days_a_week, times_a_week}
 use Rattle.weeks.specs.Weeks.{time, wrong, wrong_day, uneven, uneven_day}
 
 -- an opening above the limit is wrong by its closing too
@@ -68,7 +68,7 @@ unfolding over lowest
 over_end t d n found l h = let z : d ≡ 0 = omega arith in rw z at h
 
 -- what holds of both times of every day holds of each time
-pub each_time : (P : ℕ → Type 0) → ((d : ℕ) → 1 ≤ d → d ≤ days_aWeek → P (2 * d - 2) × P (2 * d - 1)) → (k : ℕ) → k < times_aWeek → P k
+pub each_time : (P : ℕ → Type 0) → ((d : ℕ) → 1 ≤ d → d ≤ days_a_week → P (2 * d - 2) × P (2 * d - 1)) → (k : ℕ) → k < times_a_week → P k
 each_time P h k l = go (eqb (k % 2) 0) refl (h (k / 2 + 1) (omega arith) (omega arith))
   where
     go : (b : Bool) → eqb (k % 2) 0 ≡ b → P (2 * (k / 2 + 1) - 2) × P (2 * (k / 2 + 1) - 1) → P k

@@ -13,7 +13,7 @@ use Rattle.encoding.proofs.Concat.{run_within}
 use Rattle.weeks.specs.declared.Edition.{Edition}
 use Rattle.weeks.specs.declared.Named.{Named}
 use Rattle.weeks.specs.declared.Named.TheVariants.{Known, Unknown}
-use Rattle.weeks.specs.Editions.{times_aWeek, first, second, third, editions, size, named_in, named, on_known, on_lengths, IsEdition}
+use Rattle.weeks.specs.Editions.{times_a_week, first, second, third, editions, size, named_in, named, on_known, on_lengths, IsEdition}
 
 -- its number is below every refusal's; a time has one byte or two, and the limit fits them; a unit is one minute or 15; the limit is a
 -- day's 1,440 minutes; the third alone has a mask
@@ -78,22 +78,22 @@ unfolding size named_in named
 is_third = refl
 
 -- time k lies within the week
-pub time_within : (e : Edition) (k : ℕ) → k < times_aWeek → e.width * k + e.width ≤ size e
+pub time_within : (e : Edition) (k : ℕ) → k < times_a_week → e.width * k + e.width ≤ size e
 unfolding size
-time_within e k l = omega (arith, run_within e.width k times_aWeek l)
+time_within e k l = omega (arith, run_within e.width k times_a_week l)
 
-pub time_small : {e : Edition} → IsEdition e → (k : ℕ) → k < times_aWeek → e.width * k + e.width ≤ 28
-time_small {e} h k l = omega (arith, run_within e.width k times_aWeek l, (sound h).narrow)
+pub time_small : {e : Edition} → IsEdition e → (k : ℕ) → k < times_a_week → e.width * k + e.width ≤ 28
+time_small {e} h k l = omega (arith, run_within e.width k times_a_week l, (sound h).narrow)
 
 -- a mask has two bytes, and lies behind the times
 pub two_masked : {e : Edition} → IsEdition e → (e.mask ≡ 0 → ⊥) → e.mask ≡ 2
 two_masked h l = ⊎_elim (λ z. absurd (l z)) (ap (λ (e : Edition). e.mask)) (sound h).masked
 
-pub mask_within : {e : Edition} → IsEdition e → (e.mask ≡ 0 → ⊥) → e.width * times_aWeek + 2 ≡ size e
+pub mask_within : {e : Edition} → IsEdition e → (e.mask ≡ 0 → ⊥) → e.width * times_a_week + 2 ≡ size e
 unfolding size
 mask_within h l = omega (arith, two_masked h l)
 
-pub mask_small : {e : Edition} → IsEdition e → e.width * times_aWeek ≤ 28
+pub mask_small : {e : Edition} → IsEdition e → e.width * times_a_week ≤ 28
 mask_small h = omega (arith, (sound h).narrow)
 
 -- a time in minutes

@@ -22,7 +22,7 @@ use Rattle.weeks.specs.declared.Refusal.TheVariants.{Length, Times, Keyholders, 
 use Rattle.weeks.specs.declared.WeekTest as test
 use Rattle.weeks.specs.declared.Conversion as conversion
 use Rattle.weeks.specs.declared.Conversion.{Conversion}
-use Rattle.weeks.specs.Editions.{days_aWeek, times_aWeek, second, third, size, named}
+use Rattle.weeks.specs.Editions.{days_a_week, times_a_week, second, third, size, named}
 use Rattle.weeks.specs.Weeks.{time, minute, wrong_day, uneven_day, lowest_day, keyholders, enough_keyholders, time_in, times_in, in_edition}
 use Rattle.weeks.specs.Answers.{week_test, refused, converted_by, converted}
 use Rattle.weeks.specs.Facts.{Facts}
@@ -96,7 +96,7 @@ passes_test o s out m small k h =
     ∙ ap (λ (x : Edition). test.WeekTest.Week x.number) (same_edition p.is_to k)
 
 keeps_minutes : (e o : Edition) (s out : List ℕ) (m : ℕ) → named (length s) ≡ Known e → named (length out) ≡ Known o
-    → Accepts (converted s m out) → (i : ℕ) → i < times_aWeek → minute o (converted s m out).1 i ≡ minute e s i
+    → Accepts (converted s m out) → (i : ℕ) → i < times_a_week → minute o (converted s m out).1 i ≡ minute e s i
 keeps_minutes e o s out m n k h i l =
     let p : Step s m out = step s m out h in
     ap (λ (x : List ℕ). minute o x i) (leaves p)
@@ -208,7 +208,7 @@ enough_for o out m k h = ⊎_elim (no_mask o m) dual (sound (is_edition _ k)).ma
 
 accepts_week : (e o : Edition) (s out : List ℕ) (m : ℕ) → named (length s) ≡ Known e → named (length out) ≡ Known o → (length s ≡ length out → ⊥)
     → (length s ≡ size third → ⊥) → week_test s ≡ test.WeekTest.Week e.number → (length out ≡ size third → 2 ≤ ones m)
-    → ((k : ℕ) → k < times_aWeek → minute e s k % o.minutes ≡ 0) → Accepts (converted s m out)
+    → ((k : ℕ) → k < times_a_week → minute e s k % o.minutes ≡ 0) → Accepts (converted s m out)
 accepts_week e o s out m n k d other h two even =
     ap (λ (r : Conversion × List ℕ). r.0)
     (passed_by s m out n k d (record {
@@ -234,7 +234,7 @@ facts = record {
   third_refused = λ s r long. third_as_second s long r;
   third_few = third_too_few;
   two_bits = two_bits;
-  lowest = λ t d h. let r = lowest_is t days_aWeek d h in (r.0, r.1);
+  lowest = λ t d h. let r = lowest_is t days_a_week d h in (r.0, r.1);
   tested_day = tester_refuses;
   converted_day = λ s out m r h. (converter_refuses s m out r h).1;
 }

@@ -18,7 +18,7 @@ use Rattle.weeks.specs.declared.WeekTest as test
 use Rattle.weeks.specs.declared.WeekTest.{WeekTest}
 use Rattle.weeks.specs.declared.Conversion as conversion
 use Rattle.weeks.specs.declared.Conversion.{Conversion}
-use Rattle.weeks.specs.Editions.{days_aWeek, named, on_known}
+use Rattle.weeks.specs.Editions.{days_a_week, named, on_known}
 use Rattle.weeks.specs.Weeks.{wrong_day, uneven_day, lowest_day, keyholders, enough_keyholders}
 use Rattle.weeks.specs.Answers.{tested_by, week_test, refused, converted_by, converted, refusal_day}
 use Rattle.weeks.specs.Facts.{NamesDay}
@@ -34,8 +34,8 @@ refuses : (q : Refusal) (out : List ℕ) → NamesDay q → Refuses out (refused
 refuses q out h r e = let same : q ≡ r = cc in (refl, subst NamesDay same h)
 
 -- a lowest day that is not 0
-is_day : (t : ℕ → Bool) → eqb (lowest_day t) 0 ≡ false → (1 ≤ lowest_day t) × (lowest_day t ≤ days_aWeek)
-is_day t e = (omega (arith, eqb-false (lowest_day t) 0 e), lowest_within t days_aWeek)
+is_day : (t : ℕ → Bool) → eqb (lowest_day t) 0 ≡ false → (1 ≤ lowest_day t) × (lowest_day t ≤ days_a_week)
+is_day t e = (omega (arith, eqb-false (lowest_day t) 0 e), lowest_within t days_a_week)
 
 -- one check that refuses, and those after it
 check_refuses : (b : Bool) (x : Conversion × List ℕ) (q : Refusal) (out : List ℕ) → (b ≡ false → NamesDay q) → Refuses out x → Refuses out (cond b x (refused q out))
@@ -77,15 +77,15 @@ tester_refuses s = from (named (length s))
 
 -- ---- the day as a number
 
-day_within : (r : Refusal) → NamesDay r → refusal_day r ≤ days_aWeek
+day_within : (r : Refusal) → NamesDay r → refusal_day r ≤ days_a_week
 day_within Length h = omega arith
 day_within (Times d) h = h.1
 day_within (Minutes d) h = h.1
 day_within Keyholders h = omega arith
 day_within StepDown h = omega arith
 
-pub tested_within : (s : List ℕ) (r : Refusal) → week_test s ≡ test.WeekTest.Refused r → refusal_day r ≤ days_aWeek
+pub tested_within : (s : List ℕ) (r : Refusal) → week_test s ≡ test.WeekTest.Refused r → refusal_day r ≤ days_a_week
 tested_within s r h = day_within r (tester_refuses s r h)
 
-pub converted_within : (s : List ℕ) (m : ℕ) (out : List ℕ) (r : Refusal) → (converted s m out).0 ≡ conversion.Conversion.Refused r → refusal_day r ≤ days_aWeek
+pub converted_within : (s : List ℕ) (m : ℕ) (out : List ℕ) (r : Refusal) → (converted s m out).0 ≡ conversion.Conversion.Refused r → refusal_day r ≤ days_a_week
 converted_within s m out r h = day_within r (converter_refuses s m out r h).1

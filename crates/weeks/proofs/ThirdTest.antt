@@ -17,7 +17,7 @@ use Rattle.weeks.specs.declared.Refusal.{Refusal}
 use Rattle.weeks.specs.declared.Refusal.TheVariants.{Times, Keyholders}
 use Rattle.weeks.specs.declared.WeekTest as test
 use Rattle.weeks.specs.declared.WeekTest.{WeekTest}
-use Rattle.weeks.specs.Editions.{days_aWeek, times_aWeek, second, third, size, named_in, named}
+use Rattle.weeks.specs.Editions.{days_a_week, times_a_week, second, third, size, named_in, named}
 use Rattle.weeks.specs.Weeks.{time, wrong, wrong_day, lowest_day, keyholders, enough_keyholders}
 use Rattle.weeks.specs.Answers.{tested_by, week_test}
 
@@ -54,18 +54,18 @@ module _ (s : List ℕ) (long : length s ≡ size third) where
   unfolding front size
   length_front = length-take-le 28 s (omega arith)
 
-  time_front : (k : ℕ) → k < times_aWeek → time second front k ≡ time third s k
+  time_front : (k : ℕ) → k < times_a_week → time second front k ≡ time third s k
   unfolding front time size
   time_front k l =
       let room : 2 * k + 2 ≤ length (take 28 s) = omega (arith, length_front) in
       ap number (sym (part_in_front (2 * k) 2 (take 28 s) (drop 28 s) room) ∙ ap (λ (t : List ℕ). take 2 (drop (2 * k) t)) (take-append-drop 28 s))
 
-  day_front : (d : ℕ) → 1 ≤ d → d ≤ days_aWeek → wrong_day second front d ≡ wrong_day third s d
+  day_front : (d : ℕ) → 1 ≤ d → d ≤ days_a_week → wrong_day second front d ≡ wrong_day third s d
   unfolding wrong_day
   day_front d l h = ap₂ (wrong second) (time_front (2 * d - 2) (omega arith)) (time_front (2 * d - 1) (omega arith))
 
   lowest_front : lowest_day (wrong_day second front) ≡ lowest_day (wrong_day third s)
-  lowest_front = lowest_cong (wrong_day second front) (wrong_day third s) days_aWeek day_front
+  lowest_front = lowest_cong (wrong_day second front) (wrong_day third s) days_a_week day_front
 
   -- no wrong day, enough keyholders, and the lowest wrong day
   right : Bool

@@ -15,7 +15,7 @@ use Rattle.encoding.specs.Concat.{concat}
 use Rattle.encoding.proofs.Concat.{run_within, part_in_front, concat_same, concat_at, concat_parts, length_concat}
 use Rattle.encoding.proofs.Numbers.{length_bytes, number_bytes, bytes_number, part_bytes}
 use Rattle.weeks.specs.declared.Edition.{Edition}
-use Rattle.weeks.specs.Editions.{times_aWeek, days_aWeek, size, IsEdition}
+use Rattle.weeks.specs.Editions.{times_a_week, days_a_week, size, IsEdition}
 use Rattle.weeks.specs.Weeks.{time, opening, closing, minute, wrong_day, uneven, uneven_day, lowest_day, time_in, times_in, in_edition}
 use Rattle.weeks.proofs.Editions.{Sound, sound}
 use Rattle.encoding.proofs.Lowest.{lowest_none, lowest_zero}
@@ -50,18 +50,18 @@ whole_units o m h = eqb-true (m % o.minutes) 0 (not-false (eqb (m % o.minutes) 0
 units_whole : (o : Edition) (m : ℕ) → m % o.minutes ≡ 0 → uneven o m ≡ false
 units_whole o m h = rw (eq-eqb (m % o.minutes) 0 h)
 
-pub all_even : (e o : Edition) (s : List ℕ) → lowest_day (uneven_day e o s) ≡ 0 → (k : ℕ) → k < times_aWeek → uneven o (minute e s k) ≡ false
+pub all_even : (e o : Edition) (s : List ℕ) → lowest_day (uneven_day e o s) ≡ 0 → (k : ℕ) → k < times_a_week → uneven o (minute e s k) ≡ false
 unfolding uneven_day
 all_even e o s even = each_time (λ (k : ℕ). uneven o (minute e s k) ≡ false)
-    (λ d l m. or_false (uneven o (minute e s (2 * d - 2))) (uneven o (minute e s (2 * d - 1))) (lowest_none (uneven_day e o s) days_aWeek even d l m))
+    (λ d l m. or_false (uneven o (minute e s (2 * d - 2))) (uneven o (minute e s (2 * d - 1))) (lowest_none (uneven_day e o s) days_a_week even d l m))
 
-pub no_uneven : (e o : Edition) (s : List ℕ) → ((k : ℕ) → k < times_aWeek → minute e s k % o.minutes ≡ 0) → lowest_day (uneven_day e o s) ≡ 0
+pub no_uneven : (e o : Edition) (s : List ℕ) → ((k : ℕ) → k < times_a_week → minute e s k % o.minutes ≡ 0) → lowest_day (uneven_day e o s) ≡ 0
 unfolding uneven_day
-no_uneven e o s h = lowest_zero (uneven_day e o s) days_aWeek
+no_uneven e o s h = lowest_zero (uneven_day e o s) days_a_week
     (λ d l m. neither_or _ _ (units_whole o (minute e s (2 * d - 2)) (h (2 * d - 2) (omega arith))) (units_whole o (minute e s (2 * d - 1)) (h (2 * d - 1) (omega arith))))
 
 -- a time written behind those before it
-pub put_there : (e o : Edition) (s out : List ℕ) (k x : ℕ) {t : ℕ} → IsEdition o → lowest_day (uneven_day e o s) ≡ 0 → k < times_aWeek → t ≡ time e s k
+pub put_there : (e o : Edition) (s out : List ℕ) (k x : ℕ) {t : ℕ} → IsEdition o → lowest_day (uneven_day e o s) ≡ 0 → k < times_a_week → t ≡ time e s k
     → uneven o (e.minutes * t) ≡ not (eqb (o.minutes * x) (e.minutes * t)) → take (o.width * k) out ++ bytes o.width x ≡ take (o.width * k) out ++ time_in e o s k
 unfolding time_in
 put_there e o s out k x {t} h even l i u =
@@ -70,81 +70,81 @@ put_there e o s out k x {t} h even l i u =
 
 -- ---- the bytes of the times
 
-pub length_times : (e o : Edition) (s : List ℕ) → length (times_in e o s) ≡ o.width * times_aWeek
+pub length_times : (e o : Edition) (s : List ℕ) → length (times_in e o s) ≡ o.width * times_a_week
 unfolding times_in time_in
-length_times e o s = length_concat times_aWeek o.width (time_in e o s) (λ k l. length_bytes o.width (minute e s k / o.minutes))
+length_times e o s = length_concat times_a_week o.width (time_in e o s) (λ k l. length_bytes o.width (minute e s k / o.minutes))
 
 pub length_there : (e o : Edition) (s : List ℕ) (m : ℕ) → length (in_edition e o s m) ≡ size o
 unfolding in_edition size
 length_there e o s m = length-append (times_in e o s) (bytes o.mask m) ∙ omega (arith, length_times e o s, length_bytes o.mask m)
 
 -- a time as bytes is the bytes that it was read from, and all of them are those in front of the mask
-time_bytes : (e : Edition) (s : List ℕ) → AreBytes s → length s ≡ size e → (k : ℕ) → k < times_aWeek → bytes e.width (time e s k) ≡ take e.width (drop (e.width * k) s)
+time_bytes : (e : Edition) (s : List ℕ) → AreBytes s → length s ≡ size e → (k : ℕ) → k < times_a_week → bytes e.width (time e s k) ≡ take e.width (drop (e.width * k) s)
 unfolding time size
 time_bytes e s b long k l =
     let w : ℕ = e.width in
     let t : List ℕ = take w (drop (w * k) s) in
-    let room : w * k + w ≤ length s = omega (arith, run_within w k times_aWeek l) in
+    let room : w * k + w ≤ length s = omega (arith, run_within w k times_a_week l) in
     let back : w * k + w - w * k ≡ w = omega arith in
     let size : length t ≡ w = length-take-le w (drop (w * k) s) (simp length-drop (omega arith)) in
     ap (λ (n : ℕ). bytes n (number t)) (sym size) ∙ bytes_number t (λ i. rw back at (part_bytes s (w * k) (w * k + w) b i))
 
-pub times_bytes : (e : Edition) (s : List ℕ) → AreBytes s → length s ≡ size e → (f : ℕ → List ℕ) → ((k : ℕ) → k < times_aWeek → f k ≡ bytes e.width (time e s k))
-    → concat times_aWeek f ≡ take (e.width * times_aWeek) s
+pub times_bytes : (e : Edition) (s : List ℕ) → AreBytes s → length s ≡ size e → (f : ℕ → List ℕ) → ((k : ℕ) → k < times_a_week → f k ≡ bytes e.width (time e s k))
+    → concat times_a_week f ≡ take (e.width * times_a_week) s
 times_bytes e s b long f h =
-    concat_same times_aWeek f (λ k. take e.width (drop (e.width * k) s)) (λ k l. h k l ∙ time_bytes e s b long k l)
-    ∙ concat_parts times_aWeek e.width s
+    concat_same times_a_week f (λ k. take e.width (drop (e.width * k) s)) (λ k l. h k l ∙ time_bytes e s b long k l)
+    ∙ concat_parts times_a_week e.width s
 
 -- ---- a week that can be converted
 
 module _ (e o : Edition) (he : Sound e) (ho : Sound o) (s : List ℕ) (m : ℕ) (right : lowest_day (wrong_day e s) ≡ 0) (even : lowest_day (uneven_day e o s) ≡ 0) where
-  within_limit : (k : ℕ) → k < times_aWeek → time e s k ≤ e.limit
+  within_limit : (k : ℕ) → k < times_a_week → time e s k ≤ e.limit
   within_limit = each_time (λ (k : ℕ). time e s k ≤ e.limit)
-      (λ d l h. let r = day_right e s d (lowest_none (wrong_day e s) days_aWeek right d l h) in (r.opens, r.closes))
+      (λ d l h. let r = day_right e s d (lowest_none (wrong_day e s) days_a_week right d l h) in (r.opens, r.closes))
 
-  even_minutes : (k : ℕ) → k < times_aWeek → minute e s k % o.minutes ≡ 0
+  even_minutes : (k : ℕ) → k < times_a_week → minute e s k % o.minutes ≡ 0
   even_minutes k l = whole_units o (minute e s k) (all_even e o s even k l)
 
-  units_within : (k : ℕ) → k < times_aWeek → minute e s k / o.minutes ≤ o.limit
+  units_within : (k : ℕ) → k < times_a_week → minute e s k / o.minutes ≤ o.limit
   units_within k l =
       let most : e.minutes * time e s k ≤ e.minutes * e.limit = mul-le-mul_left e.minutes (within_limit k l) in
       div-le_of_le-mul o.minutes (omega (arith, he.day, ho.day))
 
-  time_there : (k : ℕ) → k < times_aWeek → time o (in_edition e o s m) k ≡ minute e s k / o.minutes
+  time_there : (k : ℕ) → k < times_a_week → time o (in_edition e o s m) k ≡ minute e s k / o.minutes
   unfolding time in_edition times_in time_in
   time_there k l =
-      let room : o.width * k + o.width ≤ length (times_in e o s) = omega (arith, length_times e o s, run_within o.width k times_aWeek l) in
+      let room : o.width * k + o.width ≤ length (times_in e o s) = omega (arith, length_times e o s, run_within o.width k times_a_week l) in
       ap number (part_in_front (o.width * k) o.width (times_in e o s) (bytes o.mask m) room
-      ∙ concat_at times_aWeek o.width (time_in e o s) (λ i h. length_bytes o.width (minute e s i / o.minutes)) k l)
+      ∙ concat_at times_a_week o.width (time_in e o s) (λ i h. length_bytes o.width (minute e s i / o.minutes)) k l)
       ∙ number_bytes o.width (minute e s k / o.minutes) (omega (arith, units_within k l, ho.fits))
 
-  units_there : (k : ℕ) → k < times_aWeek → minute o (in_edition e o s m) k ≡ o.minutes * (minute e s k / o.minutes)
+  units_there : (k : ℕ) → k < times_a_week → minute o (in_edition e o s m) k ≡ o.minutes * (minute e s k / o.minutes)
   units_there k l = ap (λ (x : ℕ). o.minutes * x) (time_there k l)
 
-  pub minute_there : (k : ℕ) → k < times_aWeek → minute o (in_edition e o s m) k ≡ minute e s k
+  pub minute_there : (k : ℕ) → k < times_a_week → minute o (in_edition e o s m) k ≡ minute e s k
   minute_there k l = units_there k l ∙ omega (arith, div-add-mod (minute e s k) o.minutes, even_minutes k l)
 
   -- two times in order stay in order
-  order_there : (i k : ℕ) → i < times_aWeek → k < times_aWeek → time e s i ≤ time e s k → time o (in_edition e o s m) i ≤ time o (in_edition e o s m) k
+  order_there : (i k : ℕ) → i < times_a_week → k < times_a_week → time e s i ≤ time e s k → time o (in_edition e o s m) i ≤ time o (in_edition e o s m) k
   order_there i k l n h =
       let before : e.minutes * time e s i ≤ e.minutes * time e s k = mul-le-mul_left e.minutes h in
       le_of_mul-le-mul_left (omega (arith, minute_there i l, minute_there k n)) ho.some
 
-  limit_there : (k : ℕ) → k < times_aWeek → time o (in_edition e o s m) k ≤ o.limit
+  limit_there : (k : ℕ) → k < times_a_week → time o (in_edition e o s m) k ≤ o.limit
   limit_there k l = omega (arith, time_there k l, units_within k l)
 
   pub right_there : lowest_day (wrong_day o (in_edition e o s m)) ≡ 0
-  right_there = lowest_zero (wrong_day o (in_edition e o s m)) days_aWeek (λ d l h. right_day o (in_edition e o s m) d (record {
+  right_there = lowest_zero (wrong_day o (in_edition e o s m)) days_a_week (λ d l h. right_day o (in_edition e o s m) d (record {
     opens = limit_there (2 * d - 2) (omega arith);
     closes = limit_there (2 * d - 1) (omega arith);
-    order = order_there (2 * d - 2) (2 * d - 1) (omega arith) (omega arith) (day_right e s d (lowest_none (wrong_day e s) days_aWeek right d l h)).order;
+    order = order_there (2 * d - 2) (2 * d - 1) (omega arith) (omega arith) (day_right e s d (lowest_none (wrong_day e s) days_a_week right d l h)).order;
   }))
 
   pub all_even_there : lowest_day (uneven_day o e (in_edition e o s m)) ≡ 0
   all_even_there = no_uneven o e (in_edition e o s m) (λ k l. ap (λ (x : ℕ). x % e.minutes) (minute_there k l) ∙ mul-mod_right e.minutes (time e s k))
 
   -- time k, brought back
-  time_back : (k : ℕ) → k < times_aWeek → time_in o e (in_edition e o s m) k ≡ bytes e.width (time e s k)
+  time_back : (k : ℕ) → k < times_a_week → time_in o e (in_edition e o s m) k ≡ bytes e.width (time e s k)
   unfolding time_in
   time_back k l = ap (λ (x : ℕ). bytes e.width (x / e.minutes)) (minute_there k l) ∙ ap (bytes e.width) (mul-div_right (time e s k) he.some)
 
@@ -155,4 +155,4 @@ module _ (e o : Edition) (he : Sound e) (ho : Sound o) (s : List ℕ) (m : ℕ) 
       ap (λ (n : ℕ). times ++ bytes n m') none
       ∙ append-nil times
       ∙ times_bytes e s b long (time_in o e (in_edition e o s m)) time_back
-      ∙ take_all (e.width * times_aWeek) s (omega arith)
+      ∙ take_all (e.width * times_a_week) s (omega arith)

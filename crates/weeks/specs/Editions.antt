@@ -6,12 +6,12 @@ use Rattle.weeks.specs.declared.Named.{Named}
 use Rattle.weeks.specs.declared.Named.TheVariants.{Known, Unknown}
 
 -- Monday, day 1, to Sunday
-abbrev pub days_aWeek : ℕ
-days_aWeek = 7
+abbrev pub days_a_week : ℕ
+days_a_week = 7
 
 -- an opening and a closing each
-abbrev pub times_aWeek : ℕ
-times_aWeek = 14
+abbrev pub times_a_week : ℕ
+times_a_week = 14
 
 -- quarter hours, 0 to 96
 abbrev pub first : Edition
@@ -30,7 +30,7 @@ editions = first ∷ second ∷ third ∷ []
 
 -- the bytes of an edition's week: its times, then its mask
 unfoldable pub size : Edition → ℕ
-size e = e.width * times_aWeek + e.mask
+size e = e.width * times_a_week + e.mask
 
 -- lengths name the editions
 unfoldable pub named_in : List Edition → ℕ → Named

@@ -11,7 +11,7 @@ use Rattle.weeks.specs.declared.WeekTest.TheVariants.{Week}
 use Rattle.weeks.specs.declared.WeekTest as test
 use Rattle.weeks.specs.declared.Conversion.TheVariants.{Converted}
 use Rattle.weeks.specs.declared.Conversion as conversion
-use Rattle.weeks.specs.Editions.{days_aWeek, times_aWeek, second, third, size, named}
+use Rattle.weeks.specs.Editions.{days_a_week, times_a_week, second, third, size, named}
 use Rattle.weeks.specs.Weeks.{minute, lowest_day, keyholders}
 use Rattle.weeks.specs.Answers.{week_test, converted}
 
@@ -27,8 +27,8 @@ TwoBits m = (i : ℕ) × (j : ℕ) × (i < j) × (bit i m ≡ 1) × (bit j m ≡
 -- where a refusal names a day, it is one of the seven
 abbrev pub NamesDay : Refusal → Type 0
 NamesDay Length = Unit {0}
-NamesDay (Times d) = (1 ≤ d) × (d ≤ days_aWeek)
-NamesDay (Minutes d) = (1 ≤ d) × (d ≤ days_aWeek)
+NamesDay (Times d) = (1 ≤ d) × (d ≤ days_a_week)
+NamesDay (Minutes d) = (1 ≤ d) × (d ≤ days_a_week)
 NamesDay Keyholders = Unit {0}
 NamesDay StepDown = Unit {0}
 
@@ -45,7 +45,7 @@ pub record Facts : Type 0 where
       → (converted s m out).0 ≡ Converted → week_test (converted s m out).1 ≡ Week o.number
   -- and it has the same minutes
   pub same_minutes : (e o : Edition) (s out : List ℕ) (m : ℕ) → named (length s) ≡ Known e → named (length out) ≡ Known o
-      → (converted s m out).0 ≡ Converted → (k : ℕ) → k < times_aWeek → minute o (converted s m out).1 k ≡ minute e s k
+      → (converted s m out).0 ≡ Converted → (k : ℕ) → k < times_a_week → minute o (converted s m out).1 k ≡ minute e s k
   -- in edition 3 it is the week in edition 2, its own bytes or those that it is converted to, and behind them the caller's mask
   pub up : (s mid out : List ℕ) (m m' : ℕ) → AreBytes s → length mid ≡ size second → length out ≡ size third → (converted s m out).0 ≡ Converted
       → (converted s m out).1 ≡ cond (eqb (length s) (size second)) s (converted s m' mid).1 ++ bytes third.mask m
@@ -61,7 +61,7 @@ pub record Facts : Type 0 where
   -- else it is converted, if all its minutes are whole units of the output's edition
   pub accepts : (e o : Edition) (s out : List ℕ) (m : ℕ) → named (length s) ≡ Known e → named (length out) ≡ Known o
       → (length s ≡ length out → ⊥) → (length s ≡ size third → ⊥) → week_test s ≡ Week e.number
-      → (length out ≡ size third → 2 ≤ ones m) → ((k : ℕ) → k < times_aWeek → minute e s k % o.minutes ≡ 0) → (converted s m out).0 ≡ Converted
+      → (length out ≡ size third → 2 ≤ ones m) → ((k : ℕ) → k < times_a_week → minute e s k % o.minutes ≡ 0) → (converted s m out).0 ≡ Converted
   -- a refused conversion writes nothing
   pub unwritten : (s out : List ℕ) (m : ℕ) (r : Refusal) → (converted s m out).0 ≡ conversion.Conversion.Refused r → (converted s m out).1 ≡ out
   -- a week of edition 3 passes its test exactly if its first 28 bytes pass as a week of edition 2, and two bits of its mask are set

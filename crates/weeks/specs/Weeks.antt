@@ -5,7 +5,7 @@ use Rattle.encoding.specs.Bytes.{number, bytes}
 use Rattle.encoding.specs.Concat.{concat}
 use Rattle.encoding.specs.Lowest.{lowest}
 use Rattle.weeks.specs.declared.Edition.{Edition}
-use Rattle.weeks.specs.Editions.{days_aWeek, times_aWeek}
+use Rattle.weeks.specs.Editions.{days_a_week, times_a_week}
 
 -- time k of a week, from 0, in the edition's unit: day 1's opening and closing, then day 2's, and so on
 unfoldable pub time : Edition → List ℕ → ℕ → ℕ
@@ -26,7 +26,7 @@ minute e s k = e.minutes * time e s k
 
 -- the lowest day that meets a test, 0 if there is none
 abbrev pub lowest_day : (ℕ → Bool) → ℕ
-lowest_day t = lowest t days_aWeek
+lowest_day t = lowest t days_a_week
 
 -- a time above the limit, or a closing below its opening
 abbrev pub wrong : Edition → ℕ → ℕ → Bool
@@ -47,7 +47,7 @@ uneven_day e o s d = uneven o (minute e s (2 * d - 2)) || uneven o (minute e s (
 
 -- the mask behind the times, a bit for each keyholder who must attend; 0 where the edition has none
 unfoldable pub keyholders : Edition → List ℕ → ℕ
-keyholders e s = number (take e.mask (drop (e.width * times_aWeek) s))
+keyholders e s = number (take e.mask (drop (e.width * times_a_week) s))
 
 -- dual custody, the two-person rule: where the edition has a mask, at least two of its bits are set
 unfoldable pub enough_keyholders : Edition → ℕ → Bool
@@ -60,7 +60,7 @@ unfoldable pub time_in : Edition → Edition → List ℕ → ℕ → List ℕ
 time_in e o s k = bytes o.width (minute e s k / o.minutes)
 
 unfoldable pub times_in : Edition → Edition → List ℕ → List ℕ
-times_in e o s = concat times_aWeek (time_in e o s)
+times_in e o s = concat times_a_week (time_in e o s)
 
 -- the times, then mask m
 unfoldable pub in_edition : Edition → Edition → List ℕ → ℕ → List ℕ

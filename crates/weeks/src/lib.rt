@@ -7,7 +7,7 @@ mod masks;
 mod times;
 
 ghost use Rattle.std.specs.Prelude.{◌≡◌, ◌*◌, length, take};
-ghost use Rattle.weeks.specs.Editions.{first, second, third, times_aWeek, size, named, IsEdition};
+ghost use Rattle.weeks.specs.Editions.{first, second, third, times_a_week, size, named, IsEdition};
 ghost use Rattle.weeks.specs.Weeks.{uneven_day, lowest_day, times_in, in_edition};
 ghost use Rattle.weeks.specs.Answers.{week_test, converted, converted_by};
 
@@ -141,7 +141,7 @@ pub fn week_test(week: &[u8]) -> WeekTest
 // Writes the times of the week in another edition, which can tell all its minutes.
 fn write_times(e: Edition, o: Edition, week: &[u8], out: &mut [u8])
     requires { IsEdition e × IsEdition o × (length week.now ≡ size e) × (length out.old ≡ size o) × (lowest_day (uneven_day e o week.now) ≡ 0) }
-    ensures { take (o.width * times_aWeek) out.new ≡ times_in e o week.now }
+    ensures { take (o.width * times_a_week) out.new ≡ times_in e o week.now }
 {
     let mut k: usize = 0;
     while k < Edition::TIMES {

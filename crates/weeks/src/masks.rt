@@ -1,7 +1,7 @@
 // The keyholder mask of a week: read, tested and written. It stands behind the times.
 ghost use Rattle.std.specs.Prelude.{◌≡◌, ◌++◌, ◌*◌, length, take};
 ghost use Rattle.encoding.specs.Bytes.{bytes};
-ghost use Rattle.weeks.specs.Editions.{times_aWeek, size, IsEdition};
+ghost use Rattle.weeks.specs.Editions.{times_a_week, size, IsEdition};
 ghost use Rattle.weeks.specs.Weeks.{keyholders, enough_keyholders};
 
 use crate::Edition;
@@ -28,7 +28,7 @@ pub(crate) fn enough_keyholders(e: Edition, mask: u16) -> bool
 // Writes the mask behind the times, where the edition has one.
 pub(crate) fn put_mask(o: Edition, mask: u16, out: &mut [u8])
     requires { IsEdition o × (length out.old ≡ size o) }
-    ensures { out.new ≡ take (o.width * times_aWeek) out.old ++ bytes o.mask mask }
+    ensures { out.new ≡ take (o.width * times_a_week) out.old ++ bytes o.mask mask }
 {
     if o.mask == 0 {
         return;

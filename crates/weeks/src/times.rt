@@ -1,7 +1,7 @@
 // The bytes of a week and its times: read, brought to another edition's units, and written.
 ghost use Rattle.std.specs.Prelude.{not, ◌≡◌, ◌++◌, ◌+◌, ◌*◌, ◌≤◌, ◌<◌, eqb, length, take, drop, get_or};
 ghost use Rattle.encoding.specs.Bytes.{number, bytes};
-ghost use Rattle.weeks.specs.Editions.{times_aWeek, size, IsEdition};
+ghost use Rattle.weeks.specs.Editions.{times_a_week, size, IsEdition};
 ghost use Rattle.weeks.specs.Weeks.{time, uneven};
 
 use crate::Edition;
@@ -32,7 +32,7 @@ pub(crate) fn two_bytes(week: &[u8], at: usize) -> u64
 
 // Time k of a week, from 0.
 pub(crate) fn time_at(e: Edition, week: &[u8], k: usize) -> u64
-    requires { IsEdition e × (length week.now ≡ size e) × (k < times_aWeek) }
+    requires { IsEdition e × (length week.now ≡ size e) × (k < times_a_week) }
     ensures value { result ≡ time e week.now k }
     ensures fits { result < 65536 }
 {
@@ -68,7 +68,7 @@ pub(crate) fn put_two(out: &mut [u8], at: usize, x: u64)
 
 // Writes time k; the bytes before it stay.
 pub(crate) fn put_time(o: Edition, out: &mut [u8], k: usize, x: u64)
-    requires { IsEdition o × (length out.old ≡ size o) × (k < times_aWeek) }
+    requires { IsEdition o × (length out.old ≡ size o) × (k < times_a_week) }
     ensures { take (o.width * k + o.width) out.new ≡ take (o.width * k) out.old ++ bytes o.width x }
 {
     let at = o.width * k;

@@ -7,7 +7,6 @@ use native.Mathlib.Omega.{arith}
 use Rattle.calls.proofs.Appends.{appended_is}
 use Rattle.calls.proofs.DecideEnds.{Ready, ready, decide_again, decide_refused, end_low, rows_whole, outcome_asked, decide_done}
 use Rattle.calls.proofs.Ends.{by_refuse}
-use borrow.Author.Rules.{rules}
 use Rattle.deciding.proofs.decide.Goals as goal
 
 pub returns-then-line-eq6 : goal.returns-then-line-eq6
@@ -37,6 +36,22 @@ bounds-fates-action c =
     ready a.sheet.now a.fates.now a.rows.now a.state a.action _ c.decide_line-line.ensures c.if-line-ne0.false in
     let k = known in
     omega (arith, k.act.low, k.act.high, k.room)
+
+pub overflow_add-result : goal.overflow_add-result
+overflow_add-result c =
+    let known : Ready c.args.sheet.now c.args.fates.now c.args.rows.now c.args.state c.args.action = let a = c.args in
+    ready a.sheet.now a.fates.now a.rows.now a.state a.action _ c.decide_line-line.ensures c.if-line-ne0.false in
+    let few : c.args.state.end < most_places = let a = c.args in
+    end_low a.sheet.now a.fates.now a.rows.now a.state a.action a.committed known in
+    omega (arith, few)
+
+pub overflow_add-result-2 : goal.overflow_add-result-2
+overflow_add-result-2 c =
+    let known : Ready c.args.sheet.now c.args.fates.now c.args.rows.now c.args.state c.args.action = let a = c.args in
+    ready a.sheet.now a.fates.now a.rows.now a.state a.action _ c.decide_line-line.ensures c.if-line-ne0.false in
+    let few : c.args.state.end < most_places = let a = c.args in
+    end_low a.sheet.now a.fates.now a.rows.now a.state a.action a.committed known in
+    omega (arith, few)
 
 pub returns : goal.returns
 returns c =

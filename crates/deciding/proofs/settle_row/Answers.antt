@@ -1,17 +1,15 @@
 -- `deciding::settle_row`: the row stays, or its token is decided. Assumes nothing.
 use mathlib.Core.Path.{ap, ◌∙◌}
-use borrow.Author.Tests.{not-true, not-false}
 use Rattle.recovery.specs.declared.Row.{Row}
 use Rattle.calls.specs.Calls.{decided}
 use Rattle.calls.proofs.DecideRows.{row_same, row_decided}
-use borrow.Author.Rules.{rules}
 use Rattle.deciding.proofs.settle_row.Goals as goal
 
 pub returns-then-not-is_token_at : goal.returns-then-not-is_token_at
 returns-then-not-is_token_at c =
-    row_same _ _ _ _ _ _ _ c.requires.1 _ (ap (λ (r : Row). r.token) c.row_of-token.ensures) _ c.is_token_at.ensures (not-true _ c.if-not-is_token_at.true)
+    row_same _ _ _ _ _ _ _ c.requires.1 _ (ap (λ (r : Row). r.token) c.row_of-token.ensures) _ c.is_token_at.ensures c.if-not-is_token_at.true
 
 pub returns : goal.returns
 returns c =
-    row_decided _ _ _ _ _ _ _ c.requires.1 _ (ap (λ (c : Row). c.token) c.row_of-token.ensures) _ c.is_token_at.ensures (not-false _ c.if-not-is_token_at.false)
+    row_decided _ _ _ _ _ _ _ c.requires.1 _ (ap (λ (c : Row). c.token) c.row_of-token.ensures) _ c.is_token_at.ensures c.if-not-is_token_at.false
     _ (c.decided_row.ensures ∙ ap (decided c.args.decision.committed) c.row_of-row.ensures) _ c.set_row.ensures

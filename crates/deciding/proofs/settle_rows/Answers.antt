@@ -4,8 +4,7 @@ use lib.ListN.{length}
 use native.Mathlib.Omega.{arith}
 use native.Mathlib.Numerals.{add-one}
 use mathlib.Core.Path.{◌≡◌, ◌∙◌, ap}
-use Prim.Native.Nat.{◌≤◌, ◌-◌}
-use Rattle.calls.proofs.DecideRows.{run_to, run_long, run_none, Reached, reached, run_more, run_all}
+use Rattle.calls.proofs.DecideRows.{run_long, run_none, Reached, reached, run_more, run_all}
 use borrow.Author.Rules.{rules}
 use Rattle.deciding.proofs.settle_rows.Goals as goal
 

@@ -5,9 +5,8 @@ use native.Mathlib.Omega.{arith}
 use Rattle.encoding.proofs.write_number.Goals as goal
 
 pub loop-i-preserved : goal.loop-i-preserved
-loop-i-preserved c =
-    (
-      write_turn c.loop-i.out _ (length c.args.out.now) c.loop-i.i c.loop-i.y c.loop-i-test.true c.loop-i.invariant.2 c.loop-i.invariant.0,
-      simp length-set (omega arith),
-      simp length-set c.loop-i.invariant.2,
-    )
+loop-i-preserved c = (
+  write_turn c.loop-i.out _ (length c.args.out.now) c.loop-i.i c.loop-i.y c.loop-i-test.true c.loop-i.invariant.2 c.loop-i.invariant.0,
+  simp length-set (omega arith),
+  simp length-set c.loop-i.invariant.2,
+)

@@ -6,7 +6,7 @@ use native.Mathlib.Nat.{mul-zero}
 use lib.ListN.{take}
 use Rattle.encoding.specs.Concat.{concat}
 use Rattle.encoding.proofs.Concat.{concat_turn}
-use Rattle.weeks.specs.Editions.{times_aWeek}
+use Rattle.weeks.specs.Editions.{times_a_week}
 use Rattle.weeks.specs.Weeks.{time_in, times_in}
 use Rattle.weeks.proofs.Written.{put_there}
 use Rattle.weeks.proofs.write_times.Goals as goal
@@ -32,5 +32,5 @@ loop-k-preserved c =
 pub returns : goal.returns
 unfolding times_in
 returns c =
-    let all : c.loop-k.k ≡ times_aWeek = omega arith in
+    let all : c.loop-k.k ≡ times_a_week = omega arith in
     rw all at c.loop-k.invariant.0

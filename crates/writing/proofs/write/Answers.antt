@@ -4,7 +4,6 @@ use Rattle.encoding.proofs.Logic.{refused, passed}
 use Rattle.calls.specs.Calls.{write}
 use Rattle.calls.proofs.WriteEnds.{write_3, write_4, write_56}
 use Rattle.calls.proofs.Ends.{by_refuse, ends_line_1}
-use borrow.Author.Rules.{rules}
 use Rattle.writing.proofs.write.Goals as goal
 
 pub returns-then-not-is_lent_right : goal.returns-then-not-is_lent_right

@@ -1,8 +1,6 @@
 -- `writing::write_answer`: lines 7 and 8, and the rest. Assumes nothing.
-use borrow.Author.Tests.{not-true, not-false}
 use Rattle.encoding.proofs.Logic.{refused, passed}
 use Rattle.calls.proofs.WriteAnswers.{write_7, write_8, write_store}
-use borrow.Author.Rules.{rules}
 use Rattle.writing.proofs.write_answer.Goals as goal
 
 pub returns-then-not-row_holds_by : goal.returns-then-not-row_holds_by
@@ -13,9 +11,9 @@ returns-then-not-row_holds_by c =
 pub returns-then-not-is_free_for : goal.returns-then-not-is_free_for
 returns-then-not-is_free_for c =
     let a = c.args in
-    write_8 a.sheet.now a.files a.state a.file a.start a.action a.row _ _ c.image_at-current.ensures c.image_at-token.ensures (passed c.row_holds_by.ensures c.if-not-row_holds_by.false) _ c.is_free_for.ensures (not-true _ c.if-not-is_free_for.true)
+    write_8 a.sheet.now a.files a.state a.file a.start a.action a.row _ _ c.image_at-current.ensures c.image_at-token.ensures (passed c.row_holds_by.ensures c.if-not-row_holds_by.false) _ c.is_free_for.ensures c.if-not-is_free_for.true
 
 pub returns : goal.returns
 returns c =
     let a = c.args in
-    write_store a.sheet.now a.files a.state a.file a.start a.action a.row _ _ c.image_at-current.ensures c.image_at-token.ensures (passed c.row_holds_by.ensures c.if-not-row_holds_by.false) _ c.is_free_for.ensures (not-false _ c.if-not-is_free_for.false) _ c.store_answer.ensures
+    write_store a.sheet.now a.files a.state a.file a.start a.action a.row _ _ c.image_at-current.ensures c.image_at-token.ensures (passed c.row_holds_by.ensures c.if-not-row_holds_by.false) _ c.is_free_for.ensures c.if-not-is_free_for.false _ c.store_answer.ensures

@@ -5,7 +5,6 @@ use native.Mathlib.Omega.{arith}
 use Rattle.calls.proofs.Appends.{appended_is}
 use Rattle.calls.proofs.WriteEnds.{write_refused, append_asked, write_done}
 use Rattle.calls.proofs.Ends.{lent_is}
-use borrow.Author.Rules.{rules}
 use Rattle.writing.proofs.write_warm.Goals as goal
 
 pub pad-bytes-requires : goal.pad-bytes-requires
@@ -20,7 +19,7 @@ write_answer-answer-requires c =
 pub returns-in_default : goal.returns-in_default
 returns-in_default c =
     let a = c.args in
-    write_refused a.sheet.now a.fates.now a.rows.now a.state c.requires.0 a.file a.start a.action a.value.now c.requires.1 c.requires.2 c.requires.3 _ _ c.warm_row-row.ensures c.write_answer-answer.result (rw c.file_count-files.ensures at c.write_answer-answer.ensures) c.in_default.in_default-own.keys2
+    write_refused a.sheet.now a.fates.now a.rows.now a.state c.requires.0 a.file a.start a.action a.value.now c.requires.1 c.requires.2 c.requires.3 _ _ c.warm_row-row.ensures c.write_answer-answer.result (rw c.file_count-files.ensures at c.write_answer-answer.ensures) c.in_default.not-Stored
 
 pub shape_of-rows : goal.shape_of-rows
 shape_of-rows c = omega (arith, c.set_row.auto, c.warm_row-row.auto)

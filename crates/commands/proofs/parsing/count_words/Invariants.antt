@@ -1,12 +1,8 @@
 -- `commands::parsing::count_words`. The invariant: the spaces passed, and the words that are left. Assumes nothing.
-use Rattle.commands.proofs.Lines.{more_words, same_words, one_word}
 use Rattle.commands.specs.Commands.{words}
 use lib.ListN.{length, drop}
 use Prim.Native.Nat.{◌≤◌, ◌+◌, ◌-◌}
 use mathlib.Core.Path.{◌≡◌}
-use mathlib.Core.Logic.{⊎_elim}
-use native.Mathlib.Omega.{arith}
-use borrow.Author.Rules.{rules}
 use Rattle.commands.proofs.parsing.count_words.Given as goal
 
 abbrev pub invariant-loop-i : goal.invariant-loop-i

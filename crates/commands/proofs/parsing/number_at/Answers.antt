@@ -2,7 +2,6 @@
 use Rattle.commands.specs.Commands.{number_of}
 use Rattle.commands.specs.ParseSteps.{number_at}
 use mathlib.Core.Path.{ap, ◌∙◌}
-use borrow.Author.Rules.{rules}
 use Rattle.commands.proofs.parsing.number_at.Goals as goal
 
 pub returns : goal.returns

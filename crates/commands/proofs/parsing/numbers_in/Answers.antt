@@ -1,6 +1,5 @@
 -- `commands::parsing::numbers_in`. Assumes nothing.
 use Rattle.commands.specs.ParseSteps.{numbers_in}
-use borrow.Author.Rules.{rules}
 use Rattle.commands.proofs.parsing.numbers_in.Goals as goal
 
 pub returns : goal.returns

@@ -2,7 +2,6 @@
 use Rattle.commands.proofs.Counted.{one_word, two_words, open_words, read_words, write_words, other_words, too_long}
 use mathlib.Core.Path.{refl}
 use native.Mathlib.Omega.{arith}
-use borrow.Author.Rules.{rules}
 use Rattle.commands.proofs.parsing.parse.Goals as goal
 
 pub returns-then-size-gt-LONGEST : goal.returns-then-size-gt-LONGEST

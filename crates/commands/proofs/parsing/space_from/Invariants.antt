@@ -1,11 +1,8 @@
 -- `commands::parsing::space_from`. The invariant: the next space is the same from i on. Assumes nothing.
-use Rattle.commands.proofs.Lines.{space_here, space_later, space_none}
 use Rattle.commands.specs.ParseSteps.{space_at}
 use lib.ListN.{length, drop}
 use Prim.Native.Nat.{◌≤◌, ◌+◌, ◌-◌}
-use mathlib.Core.Path.{◌≡◌, refl, ◌∙◌}
-use native.Mathlib.Omega.{arith}
-use borrow.Author.Rules.{rules}
+use mathlib.Core.Path.{◌≡◌}
 use Rattle.commands.proofs.parsing.space_from.Given as goal
 
 abbrev pub invariant-loop-i : goal.invariant-loop-i

@@ -1,12 +1,9 @@
 -- `commands::parsing::word_start`. The invariant: word k of the line is word k - n from `at` on. Assumes nothing.
 use Rattle.commands.proofs.Lines.{word_turn}
-use Rattle.commands.specs.Commands.{words}
-use lib.ListN.{length, drop, get_or}
-use Prim.Native.Nat.{◌≤◌, ◌-◌}
-use mathlib.Core.List.{[]}
+use lib.ListN.{drop}
+use Prim.Native.Nat.{◌-◌}
 use mathlib.Core.Path.{◌≡◌}
 use native.Mathlib.Omega.{arith}
-use borrow.Author.Rules.{rules}
 use Rattle.commands.proofs.parsing.word_start.Goals as goal
 
 pub loop-n-init : goal.loop-n-init
@@ -17,7 +14,7 @@ loop-n-preserved c =
     let s = c.args.line.now in
     (word_turn s (drop c.loop-n.at s) _ c.args.k c.loop-n.n (omega arith) c.next_word-at.ensures.line_value c.loop-n.invariant.0, omega arith, omega arith)
 
-pub returns : goal.returns
-returns c =
+pub returns-clause-k_value : goal.returns-clause-k_value
+returns-clause-k_value c =
     let e : c.args.k - c.loop-n.n ≡ 0 = omega arith in
-    (rw e at c.loop-n.invariant.0, omega arith)
+    rw e at c.loop-n.invariant.0

@@ -1,12 +1,9 @@
 -- `commands::parsing::word_start`. The invariant: word k of the line is word k - n from `at` on. Assumes nothing.
-use Rattle.commands.proofs.Lines.{word_turn}
 use Rattle.commands.specs.Commands.{words}
 use lib.ListN.{length, drop, get_or}
 use Prim.Native.Nat.{◌≤◌, ◌-◌}
 use mathlib.Core.List.{[]}
 use mathlib.Core.Path.{◌≡◌}
-use native.Mathlib.Omega.{arith}
-use borrow.Author.Rules.{rules}
 use Rattle.commands.proofs.parsing.word_start.Given as goal
 
 abbrev pub invariant-loop-n : goal.invariant-loop-n

@@ -3,7 +3,6 @@ use Rattle.commands.proofs.Putting.{whole_line}
 use Rattle.commands.specs.Replies.{prints}
 use borrow.Author.Tests.{lt-ltb, le-ltb}
 use lib.ListN.{length}
-use borrow.Author.Rules.{rules}
 use Rattle.commands.proofs.printing.print.Goals as goal
 
 pub returns-then-out-lt-ROOM : goal.returns-then-out-lt-ROOM

@@ -1,7 +1,6 @@
 -- `commands::printing::put_reply`, reply by reply. Assumes nothing.
 use Rattle.commands.specs.Names.{what_name, closed_name, lost_name, cut_name, open_name, begin_name, write_name, none_name, test_name, commit_name, abort_name, no_name}
 use Rattle.commands.specs.Replies.{printed}
-use borrow.Author.Rules.{rules}
 use Rattle.commands.proofs.printing.put_reply.Goals as goal
 
 pub returns-in-What : goal.returns-in-What

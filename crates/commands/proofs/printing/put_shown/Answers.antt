@@ -1,7 +1,6 @@
 -- `commands::printing::put_shown`: each part is put after those before it. Assumes nothing.
 use Rattle.commands.proofs.Putting.{and_then}
 use Rattle.commands.specs.Names.{read_name}
-use borrow.Author.Rules.{rules}
 use Rattle.commands.proofs.printing.put_shown.Goals as goal
 
 pub returns : goal.returns

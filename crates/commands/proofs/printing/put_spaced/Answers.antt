@@ -3,7 +3,6 @@ use Rattle.commands.proofs.Putting.{and_then}
 use Rattle.commands.proofs.Decimal.{twenty}
 use Rattle.commands.specs.Replies.{spaced}
 use native.Mathlib.Omega.{arith}
-use borrow.Author.Rules.{rules}
 use Rattle.commands.proofs.printing.put_spaced.Goals as goal
 
 pub put_decimal-requires : goal.put_decimal-requires
@@ -11,4 +10,7 @@ put_decimal-requires c = omega (arith, twenty c.args.x)
 
 pub returns : goal.returns
 unfolding spaced
-returns c = (and_then c.put_byte-next.ensures c.put_decimal.ensures, omega (arith, c.put_decimal.ensures.ends, c.put_byte-next.ensures.ends, twenty c.args.x))
+returns c = record {
+  put = and_then c.put_byte-next.ensures c.put_decimal.ensures;
+  within = omega (arith, c.put_decimal.ensures.ends, c.put_byte-next.ensures.ends, twenty c.args.x);
+}

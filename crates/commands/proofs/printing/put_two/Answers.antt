@@ -1,6 +1,5 @@
 -- `commands::printing::put_two`: each part is put after those before it. Assumes nothing.
 use Rattle.commands.proofs.Putting.{and_then}
-use borrow.Author.Rules.{rules}
 use Rattle.commands.proofs.printing.put_two.Goals as goal
 
 pub returns : goal.returns

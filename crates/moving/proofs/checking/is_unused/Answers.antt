@@ -1,12 +1,6 @@
 -- `moving::checking::is_unused`. The invariant: none is used so far. Assumes nothing.
 use Rattle.moving.proofs.Rows.{unused_start, unused_turn, used_here, unused_end}
-use Rattle.recovery.specs.World.{end_of}
-use Rattle.recovery.specs.Lent.{pages_of}
-use borrow.Author.Tests.{not-true, not-false}
 use native.Mathlib.Omega.{arith}
-use mathlib.Core.Path.{◌≡◌}
-use Prim.Native.Nat.{◌≤◌, ◌-◌}
-use borrow.Author.Rules.{rules}
 use Rattle.moving.proofs.checking.is_unused.Goals as goal
 
 pub loop-n-init : goal.loop-n-init
@@ -15,12 +9,12 @@ loop-n-init c = (omega arith, unused_start c.args.fresh.now c.args.files)
 pub returns-then-not-is_blank_at : goal.returns-then-not-is_blank_at
 returns-then-not-is_blank_at c =
     let a = c.args in
-    used_here a.fresh.now a.files c.loop-n.n _ c.is_blank_at.ensures c.loop-n-test.true (not-true _ c.if-not-is_blank_at.true)
+    used_here a.fresh.now a.files c.loop-n.n _ c.is_blank_at.ensures c.loop-n-test.true c.if-not-is_blank_at.true
 
 pub loop-n-preserved : goal.loop-n-preserved
 loop-n-preserved c =
     let a = c.args in
-    (omega arith, unused_turn a.fresh.now a.files c.loop-n.n _ c.is_blank_at.ensures c.loop-n-test.true (not-false _ c.if-not-is_blank_at.false) c.loop-n.invariant.1)
+    (omega arith, unused_turn a.fresh.now a.files c.loop-n.n _ c.is_blank_at.ensures c.loop-n-test.true c.if-not-is_blank_at.false c.loop-n.invariant.1)
 
 pub returns : goal.returns
 returns c =

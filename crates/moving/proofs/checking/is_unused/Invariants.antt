@@ -1,12 +1,8 @@
 -- `moving::checking::is_unused`. The invariant: none is used so far. Assumes nothing.
-use Rattle.moving.proofs.Rows.{unused_start, unused_turn, used_here, unused_end}
 use Rattle.recovery.specs.World.{end_of}
 use Rattle.recovery.specs.Lent.{pages_of}
-use borrow.Author.Tests.{not-true, not-false}
-use native.Mathlib.Omega.{arith}
 use mathlib.Core.Path.{◌≡◌}
 use Prim.Native.Nat.{◌≤◌, ◌-◌}
-use borrow.Author.Rules.{rules}
 use Rattle.moving.proofs.checking.is_unused.Given as goal
 
 abbrev pub invariant-loop-n : goal.invariant-loop-n

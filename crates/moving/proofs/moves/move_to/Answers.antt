@@ -2,7 +2,6 @@
 use Rattle.moving.proofs.MoveEnds.{line_one_lem}
 use Rattle.moving.proofs.MoveCall.{move_refused, move_busy, still_ok, move_on_lem}
 use Rattle.encoding.proofs.Logic.{refused, passed}
-use borrow.Author.Rules.{rules}
 use Rattle.moving.proofs.moves.move_to.Goals as goal
 
 pub returns-then-not-is_movable : goal.returns-then-not-is_movable

@@ -1,9 +1,7 @@
 -- `moving::moves::move_warm`: 7, 11, 12, and the move. Assumes nothing.
 use Rattle.moving.proofs.MoveEnds.{line_one_lem, versions_few, warm_damaged, warm_full, warm_used, roomy, blank_first, warm_done}
 use Rattle.calls.proofs.Ends.{lent_is}
-use borrow.Author.Tests.{not-true, not-false}
 use native.Mathlib.Omega.{arith}
-use borrow.Author.Rules.{rules}
 use Rattle.moving.proofs.moves.move_warm.Goals as goal
 
 pub survey_rows-survey-requires : goal.survey_rows-survey-requires
@@ -32,7 +30,7 @@ returns-then-pages-survey c =
 pub returns-then-not-is_unused : goal.returns-then-not-is_unused
 returns-then-not-is_unused c =
     let a = c.args in
-    warm_used a.sheet.now a.fates.now a.rows.now a.state a.fresh.now c.requires _ (rw c.file_count-files.ensures at c.survey_rows-survey.ensures) c.if-survey-ne0.false c.if-pages-survey.false _ (rw c.file_count-files.ensures at c.is_unused.ensures) (not-true _ c.if-not-is_unused.true) _ c.refuse_at-then-not-is_unused.ensures
+    warm_used a.sheet.now a.fates.now a.rows.now a.state a.fresh.now c.requires _ (rw c.file_count-files.ensures at c.survey_rows-survey.ensures) c.if-survey-ne0.false c.if-pages-survey.false _ (rw c.file_count-files.ensures at c.is_unused.ensures) c.if-not-is_unused.true _ c.refuse_at-then-not-is_unused.ensures
 
 pub store_pages-requires : goal.store_pages-requires
 store_pages-requires c =
@@ -40,11 +38,11 @@ store_pages-requires c =
     let k = c.file_count-files.ensures in
     let v = rw k at c.survey_rows-survey.ensures in (
       rw k (roomy a.sheet.now a.fates.now a.rows.now a.state a.fresh.now c.requires _ v c.if-survey-ne0.false c.if-pages-survey.false),
-      rw k (blank_first a.sheet.now a.fates.now a.rows.now a.state a.fresh.now c.requires _ v c.if-survey-ne0.false c.if-pages-survey.false _ (rw k at c.is_unused.ensures) (not-false _ c.if-not-is_unused.false)),
+      rw k (blank_first a.sheet.now a.fates.now a.rows.now a.state a.fresh.now c.requires _ v c.if-survey-ne0.false c.if-pages-survey.false _ (rw k at c.is_unused.ensures) c.if-not-is_unused.false),
     )
 
 pub returns : goal.returns
 returns c =
     let a = c.args in
     let k = c.file_count-files.ensures in
-    warm_done a.sheet.now a.fates.now a.rows.now a.state a.fresh.now c.requires _ (rw k at c.survey_rows-survey.ensures) c.if-survey-ne0.false c.if-pages-survey.false _ (rw k at c.is_unused.ensures) (not-false _ c.if-not-is_unused.false) _ (rw k at c.store_pages.ensures)
+    warm_done a.sheet.now a.fates.now a.rows.now a.state a.fresh.now c.requires _ (rw k at c.survey_rows-survey.ensures) c.if-survey-ne0.false c.if-pages-survey.false _ (rw k at c.is_unused.ensures) c.if-not-is_unused.false _ (rw k at c.store_pages.ensures)

@@ -10,7 +10,6 @@ use Rattle.encoding.proofs.Logic.{refused, passed}
 use Rattle.calls.proofs.Ends.{Lent, lent_is, by_refuse, ends_line_1}
 use Rattle.calls.proofs.Appends.{appended_is}
 use Rattle.calls.proofs.BeginEnds.{begin_refused, begin_room, begin_asked, begin_done}
-use borrow.Author.Rules.{rules}
 use Rattle.writing.proofs.beginning.begin.Goals as goal
 
 pub returns-then-not-is_lent_right : goal.returns-then-not-is_lent_right
@@ -40,6 +39,12 @@ bounds-fates-end c =
     let room : c.args.state.undecided + 2 ≤ length c.args.sheet.now / page_size - c.args.state.end = let a = c.args in
     begin_room a.sheet.now a.fates.now a.rows.now a.state fit _ (rw c.file_count-files.ensures at c.room_line-line.ensures) c.if-line-ne0.false in
     let k = known.sizes in omega (arith, k, room)
+
+pub overflow_add-result : goal.overflow_add-result
+overflow_add-result c =
+    let fit : line_one (length c.args.sheet.now) (length c.args.fates.now) (length c.args.rows.now) c.args.state.end c.args.state.undecided ≡ true = passed c.is_lent_right.ensures c.if-not-is_lent_right.false in
+    let known : Lent (length c.args.sheet.now) (length c.args.fates.now) (length c.args.rows.now) c.args.state.end c.args.state.undecided = lent_is _ _ _ _ _ fit in
+    let k = known in omega (arith, k, k.sizes)
 
 pub returns : goal.returns
 returns c =
