@@ -17,7 +17,6 @@ use Rattle.recovery.specs.Lent.{left_by, row_length, closed, open_leaves}
 use Rattle.recovery.specs.Numbers.{numbers_of, is_refused}
 use Rattle.recovery.proofs.Lookups.{is_file_lem}
 use Rattle.calls.specs.declared.asking.Call.{Call}
-use Rattle.commands.specs.declared.parsing.Command as command
 use Rattle.commands.specs.declared.parsing.Command.{Command}
 use Rattle.commands.specs.declared.printing.Reply as reply
 use Rattle.commands.specs.declared.printing.Reply.{Reply}

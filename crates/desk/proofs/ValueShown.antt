@@ -1,14 +1,13 @@
 -- The value that a reply shows, out of the sheet. Assumes nothing.
 use Prim.Native.Nat.{ℕ, zero, suc, ◌*◌, ◌/◌, ◌-◌, ◌≤◌}
 use mathlib.Core.Path.{◌≡◌, refl, sym, ap, ◌∙◌}
-use mathlib.Core.List.{List, [], ◌∷◌}
+use mathlib.Core.List.{List, []}
 use mathlib.Core.Bool.{Bool, true, false, cond, ◌&&◌}
 use native.Mathlib.Omega.{arith}
 use lib.ListN.{length, take, drop, replicate, length-replicate, length-take, length-drop}
 use lib.Seq.{take_all}
 use lib.Dec.{eqb, leb}
 use borrow.Author.Tests.{eqb-true, ne_eqb, leb-false}
-use Rattle.commands.specs.contracts.printing.Reply.{the_type}
 use Rattle.encoding.specs.Bytes.{part}
 use Rattle.encoding.proofs.Parts.{length_part}
 use Rattle.page.specs.Layout.{page_size, value_size}
