@@ -1,5 +1,5 @@
 # make             proves every crate, and builds the tool, the model and the library for C, in build/ and target/
-# make test        the gate: all of it from nothing, and the tests outside Rattle
+# make test        the gate: all of it proved, and the tests outside Rattle
 # make check-long  the model beside the program for some minutes, from a new seed; SEED= and COMMANDS= choose others
 # make bench       times, side by side with plain C and with SQLite
 # make install     the tool, the program, the library, its header and the manual page, below PREFIX (/usr/local) in DESTDIR
@@ -10,20 +10,20 @@
 
 LIBRARY = target/staticlib/libdesk.a
 HARNESS = target/staticlib/libharness.a
-SOURCES = $(shell find crates -name '*.rt')
+SOURCES = $(wildcard crates/*/src/*.rt)
 COMMANDS = 20000000
 PREFIX = /usr/local
 INTO = $(DESTDIR)$(PREFIX)
 
-all: build/sheet build/model build/model-pages build/model-weeks build/model-moves
-	rt check
+all: build/sheet build/model build/model-pages build/model-weeks build/model-moves target/bin/console
+	rt all check
 	@echo 'target/bin/console: the command program. build/sheet: the tool for sheets.'
 
 $(LIBRARY): $(SOURCES)
-	rt staticlib desk
+	tools/link desk
 
 $(HARNESS): $(SOURCES)
-	rt staticlib harness
+	tools/link harness
 
 build/sheet: c/sheet.c c/desk.h $(LIBRARY)
 	@mkdir -p build
@@ -46,7 +46,7 @@ build/model-moves: $(wildcard model/*.rs) $(HARNESS)
 	rustc -O --edition 2021 -D warnings -L $(dir $(HARNESS)) -l static=harness -o $@ model/moves.rs
 
 target/bin/console: $(SOURCES)
-	rt check console
+	tools/link console
 
 test:
 	.ci/run

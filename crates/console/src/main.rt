@@ -1,6 +1,8 @@
 // The command program.
 #![tactic(auto)]
 
-fn main() {
-    terminal::run();
+use std::io;
+
+fn main(rt: HostRuntime) -> io::Result<()> {
+    terminal::run(&rt)
 }

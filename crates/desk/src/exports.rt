@@ -1,5 +1,5 @@
-// For the desk in C: packing, the page test and inspection; the week test and the converter. A slice is a pointer and a count there; any
-// count is taken.
+// For the desk in C, to which the crate desk_c gives them: packing, the page test and inspection; the week test and the converter. A slice
+// is a pointer and a count there; any count is taken.
 ghost use Rattle.std.specs.Prelude.{◌≡◌, ◌≤◌, length};
 ghost use Rattle.page.specs.Answers.{pack_number, field_list};
 ghost use Rattle.weeks.specs.Editions.{days_a_week};
@@ -27,8 +27,7 @@ fn pack_number(answer: Packing) -> u64
 }
 
 // Packs a page into the 64 bytes lent. 0: done; 1: a length, the place or the file count is wrong; 2: no such page.
-#[unsafe(no_mangle)]
-pub extern "C" fn desk_pack(
+pub fn desk_pack(
     kind: u64,
     small: u64,
     file: u64,
@@ -99,8 +98,7 @@ fn give_found(fields: &mut [u64], found: Unpacked) -> u64
 
 // Tests a page. 0: it fits, and its six fields are given; 1: a length, the place or the file count is wrong; 2: unfit; 3: blank;
 // 4: torn.
-#[unsafe(no_mangle)]
-pub extern "C" fn desk_test(part: &[u8], place: u64, files: u64, fields: &mut [u64]) -> u64
+pub fn desk_test(part: &[u8], place: u64, files: u64, fields: &mut [u64]) -> u64
     ensures { (result, fields.new) ≡ tested_for part.now place files fields.old }
 {
     if fields.len() != FIELDS {
@@ -111,8 +109,7 @@ pub extern "C" fn desk_test(part: &[u8], place: u64, files: u64, fields: &mut [u
 }
 
 // Inspects a sheet: 0 if it is lawful, the lowest place that is bad or does not fit, or REFUSED.
-#[unsafe(no_mangle)]
-pub extern "C" fn desk_inspect(sheet: &[u8], files: u64) -> u64
+pub fn desk_inspect(sheet: &[u8], files: u64) -> u64
     ensures { result ≡ inspected_for sheet.now files }
 {
     let answer = inspection::inspect(sheet, files);
@@ -137,8 +134,7 @@ fn refusal_code(refusal: Refusal) -> u64
 }
 
 // Tests a week: its edition, or a refusal.
-#[unsafe(no_mangle)]
-pub extern "C" fn desk_week_test(week: &[u8]) -> u64
+pub fn desk_week_test(week: &[u8]) -> u64
     ensures { result ≡ week_tested_for week.now }
 {
     let answer = weeks::week_test(week);
@@ -149,8 +145,7 @@ pub extern "C" fn desk_week_test(week: &[u8]) -> u64
 }
 
 // Writes a week in another edition, with the mask where that has one: 0, or a refusal.
-#[unsafe(no_mangle)]
-pub extern "C" fn desk_convert(week: &[u8], mask: u16, out: &mut [u8]) -> u64
+pub fn desk_convert(week: &[u8], mask: u16, out: &mut [u8]) -> u64
     ensures { (result, out.new) ≡ converted_for week.now mask out.old }
 {
     let answer = weeks::convert(week, mask, out);

@@ -2,7 +2,7 @@
 #![tactic(auto)]
 
 mod cutting;
-mod exports;
+pub mod exports;
 mod showing;
 mod talking;
 

@@ -85,7 +85,7 @@ fn fours_of(x: u64) -> u64
     let c = low_bytes(x >> 16);
     let d = low_bytes(x >> 24);
     let t = (a << 8) + a + b;
-    (t << 5) + t + (c << 8) + c + d
+    (t << 5) + d + (c << 8) + c + t
 }
 
 // Four bytes by their weights, and the four after them, side by side.

@@ -1,6 +1,8 @@
 // The points of documents 01 and 02 that the command program can show.
 #![tactic(auto)]
 
-fn main() {
-    terminal::run();
+use std::io;
+
+fn main(rt: HostRuntime) -> io::Result<()> {
+    terminal::run(&rt)
 }

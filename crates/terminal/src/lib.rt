@@ -1,15 +1,20 @@
-// The command program: lines from standard input to the desk, and its replies to standard output, line by line.
+// The command program: lines from standard input to the desk, and its replies to standard output, line by line. A read or a write that
+// fails ends the conversation.
 #![tactic(auto)]
 
-ghost use Rattle.std.specs.Prelude.{◌≡◌, suc, ◌≤◌, ◌<◌, length};
+ghost use Rattle.std.specs.Prelude.{◌≡◌, suc, ◌≤◌, ◌<◌, length, IfOk};
 ghost use Rattle.commands.specs.Commands.{longest};
 
 use commands::{LONGEST, ROOM};
 use desk::{Desk, PAGES, ROWS, SHEET};
-use libc::{STDIN_FILENO, STDOUT_FILENO};
+use std::io;
+use std::io::{Read, Write};
 
 // A line is kept up to one byte more than the longest, so that a longer one is known.
 const KEPT: usize = LONGEST + 1;
+
+// How many bytes one read takes at most.
+const BUFFER: usize = 4096;
 
 // The desk, and how many bytes of a line are kept.
 #[derive(Drop)]
@@ -20,19 +25,20 @@ struct Session {
 
 // What is left of the turns: none at the end of the input.
 #[derive(Drop)]
-struct Read {
+struct Taken {
     turns: u64,
     session: Session,
 }
 
 // The end of a line: its reply is written.
-fn reply(
+fn reply<W: Write>(
+    output: &mut W,
     text: &[u8],
     sheet: &mut [u8],
     fates: &mut [u8],
     rows: &mut [u64],
     session: Session,
-) -> Desk
+) -> io::Result<Desk>
     requires { (length text.now ≡ suc longest) × (session.len ≤ suc longest) }
 {
     let mut out = [0u8; ROOM];
@@ -42,90 +48,101 @@ fn reply(
     let n = said.count;
     let after = said.desk;
     if n <= ROOM {
-        io::write_all(STDOUT_FILENO, &out[0..n]);
+        output.write_all(&out[0..n])?;
+        output.flush()?;
     }
-    after
+    Ok(after)
 }
 
 // One byte of the input.
-fn take_byte(
+fn take_byte<W: Write>(
+    output: &mut W,
     text: &mut [u8],
     sheet: &mut [u8],
     fates: &mut [u8],
     rows: &mut [u64],
     session: Session,
     byte: u8,
-) -> Session
+) -> io::Result<Session>
     requires { (length text.old ≡ suc longest) × (session.len ≤ suc longest) }
-    ensures { result.len ≤ suc longest }
+    ensures { IfOk result (λ r. r.len ≤ suc longest) }
 {
     if byte == b'\n' {
-        let after = reply(&text[..], sheet, fates, rows, session);
-        return Session {
+        let after = reply(output, &text[..], sheet, fates, rows, session)?;
+        return Ok(Session {
             desk: after,
             len: 0,
-        };
+        });
     }
     let len = session.len;
     let same = session.desk;
     if KEPT <= len {
-        return Session { desk: same, len };
+        return Ok(Session { desk: same, len });
     }
     text[len] = byte;
-    Session {
+    Ok(Session {
         desk: same,
         len: len + 1,
-    }
+    })
 }
 
 // The bytes of one read.
-fn take_bytes(
+fn take_bytes<W: Write>(
+    output: &mut W,
     bytes: &[u8],
     text: &mut [u8],
     sheet: &mut [u8],
     fates: &mut [u8],
     rows: &mut [u64],
     session: Session,
-) -> Session
+) -> io::Result<Session>
     requires { (length text.old ≡ suc longest) × (session.len ≤ suc longest) }
-    ensures { result.len ≤ suc longest }
+    ensures { IfOk result (λ r. r.len ≤ suc longest) }
 {
     let mut at = session;
     let mut i = 0;
     while i < bytes.len() {
-        at = take_byte(text, sheet, fates, rows, at, bytes[i]);
+        at = take_byte(output, text, sheet, fates, rows, at, bytes[i])?;
         i += 1;
     }
-    at
+    Ok(at)
 }
 
 // One read, and what is left of the turns.
-fn take_some(
+fn take_some<R: Read, W: Write>(
+    input: &mut R,
+    output: &mut W,
     text: &mut [u8],
     sheet: &mut [u8],
     fates: &mut [u8],
     rows: &mut [u64],
     session: Session,
     turns: u64,
-) -> Read
+) -> io::Result<Taken>
     requires { (length text.old ≡ suc longest) × (session.len ≤ suc longest) × (0 < turns) }
-    ensures { (result.session.len ≤ suc longest) × (result.turns < turns) }
+    ensures { IfOk result (λ r. (r.session.len ≤ suc longest) × (r.turns < turns)) }
 {
-    let mut buffer = io::buffer();
-    let got = libc::read(STDIN_FILENO, &mut buffer);
-    if got <= 0 {
-        return Read { turns: 0, session };
+    let mut buffer = [0u8; BUFFER];
+    let n = input.read(&mut buffer)?;
+    if n == 0 {
+        return Ok(Taken { turns: 0, session });
     }
-    let n = io::count(got, &buffer);
-    let after = take_bytes(&buffer[..n], text, sheet, fates, rows, session);
-    Read {
+    let after = take_bytes(output, &buffer[..n], text, sheet, fates, rows, session)?;
+    Ok(Taken {
         turns: turns - 1,
         session: after,
-    }
+    })
 }
 
 // All of the input; a last line may have no end of line.
-fn take_all(text: &mut [u8], sheet: &mut [u8], fates: &mut [u8], rows: &mut [u64])
+fn take_all<R: Read, W: Write>(
+    input: &mut R,
+    output: &mut W,
+    text: &mut [u8],
+    sheet: &mut [u8],
+    fates: &mut [u8],
+    rows: &mut [u64],
+) -> io::Result<()>
     requires { length text.old ≡ suc longest }
 {
     let mut turns = u64::MAX;
@@ -134,26 +151,43 @@ fn take_all(text: &mut [u8], sheet: &mut [u8], fates: &mut [u8], rows: &mut [u64
         len: 0,
     };
     while turns > 0 {
-        let read = take_some(text, sheet, fates, rows, session, turns);
-        session = read.session;
-        turns = read.turns;
+        let taken = take_some(input, output, text, sheet, fates, rows, session, turns)?;
+        session = taken.session;
+        turns = taken.turns;
     }
-    take_last(&text[..], sheet, fates, rows, session);
+    take_last(output, &text[..], sheet, fates, rows, session)
 }
 
-fn take_last(text: &[u8], sheet: &mut [u8], fates: &mut [u8], rows: &mut [u64], session: Session)
+fn take_last<W: Write>(
+    output: &mut W,
+    text: &[u8],
+    sheet: &mut [u8],
+    fates: &mut [u8],
+    rows: &mut [u64],
+    session: Session,
+) -> io::Result<()>
     requires { (length text.now ≡ suc longest) × (session.len ≤ suc longest) }
 {
     if 0 < session.len {
-        reply(text, sheet, fates, rows, session);
+        reply(output, text, sheet, fates, rows, session)?;
     }
+    Ok(())
 }
 
 // A conversation on a blank sheet of 256 pages.
-pub fn run() {
+pub fn run(rt: &(impl Input + Print)) -> io::Result<()> {
     let mut text = [0u8; KEPT];
     let mut sheet = [0u8; SHEET];
     let mut fates = [0u8; PAGES];
     let mut rows = [0u64; ROWS];
-    take_all(&mut text, &mut sheet, &mut fates, &mut rows);
+    let mut input = rt.reader();
+    let mut output = io::writer(rt);
+    take_all(
+        &mut input,
+        &mut output,
+        &mut text,
+        &mut sheet,
+        &mut fates,
+        &mut rows,
+    )
 }
