@@ -12,7 +12,7 @@ use Rattle.page.specs.Layout.{most_files}
 use Rattle.recovery.specs.declared.Answer.{Answer}
 use Rattle.recovery.specs.Numbers.{numbers_of, is_refused}
 use Rattle.recovery.specs.World.{Result, sizes, is_file, cold_rows, opened, down, end_of, highest_bad, refuse, unopened, unfinished}
-use Rattle.recovery.specs.Lent.{Left, row_length, rows_of, flat, pages_of, whole, sizes_right, leaves, refused, closed, left_by, open_leaves}
+use Rattle.recovery.specs.Lent.{Left, row_length, rows_of, flat, pages_of, whole, sizes_right, refused, closed, left_by, open_leaves}
 use Rattle.recovery.specs.OpenSteps.{refused_opening}
 use Rattle.recovery.proofs.FlatRows.{flat_long}
 use Rattle.recovery.proofs.Sizes.{sizes_right_lem}

@@ -29,7 +29,7 @@ use Rattle.commands.specs.declared.printing.Reply as reply
 use Rattle.commands.specs.Commands.{parsed}
 use Rattle.desk.specs.declared.talking.Desk.{Desk}
 use Rattle.desk.specs.Conversation.{After, answered, lost, is_struck, acted, acted_by, opened_for, lending, replied, is_open, called_for, started_for, bare_files, bare_floor, conversed}
-use Rattle.promises.specs.Runs.{Box, on, sheet_of, Event, is_moved, moved_in, call_on, after, runs, Allowed, AllAllowed, blank_box}
+use Rattle.promises.specs.Runs.{Box, sheet_of, Event, is_moved, moved_in, call_on, after, runs, Allowed, AllAllowed, blank_box}
 use Rattle.promises.specs.Promises.{IsPageOf}
 use Rattle.promises.proofs.logs.Outcomes.{Lies}
 use Rattle.promises.proofs.boxes.Boxes.{Reached}

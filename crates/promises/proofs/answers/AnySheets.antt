@@ -9,7 +9,7 @@ use lib.Dec.{leb}
 use borrow.Author.Tests.{leb-true, leb-false}
 use Rattle.page.specs.Layout.{page_size}
 use Rattle.recovery.specs.Places.{nth}
-use Rattle.recovery.specs.Log.{Entry, blank, undecided}
+use Rattle.recovery.specs.Log.{Entry, blank}
 use Rattle.recovery.specs.Sheet.{pages}
 use Rattle.recovery.specs.World.{sizes, down, end_of, is_blank}
 use Rattle.recovery.specs.Lent.{pages_of}

@@ -10,7 +10,7 @@ use lib.ListN.{length, take}
 use lib.Dec.{eqb, leb}
 use Rattle.encoding.proofs.Logic.{by_test, clash}
 use Rattle.page.specs.Answers.{value_in}
-use Rattle.recovery.specs.Log.{Image, image, committed, Placed, fate_of, effective_of}
+use Rattle.recovery.specs.Log.{Image, Placed, fate_of, effective_of}
 use Rattle.recovery.specs.Sheet.{page_bytes}
 use Rattle.recovery.specs.Numbers.{is_refused}
 use Rattle.recovery.specs.declared.Answer.{Answer}

@@ -24,7 +24,7 @@ use Rattle.recovery.proofs.Pages.{pages_long}
 use Rattle.recovery.proofs.FlatRows as flatrows
 use Rattle.recovery.proofs.FlatRows.{flat_long, flat_rows}
 use Rattle.recovery.proofs.Lookups.{is_file_lem}
-use Rattle.inspection.specs.Lawful.{versions, current, token}
+use Rattle.inspection.specs.Lawful.{versions, current}
 use Rattle.moving.specs.Moved.{is_sheet, is_unused, lowest_undecided, warm_rows, versions_to, move_pages, highest_end, Move, on_rows, moved}
 use Rattle.moving.specs.MoveLeaves.{MoveLeft, lower_move, move_leaves}
 use Rattle.moving.specs.MoveSteps.{warm_run}

@@ -19,7 +19,7 @@ use Rattle.recovery.proofs.FlatRows.{rows_long, flat_long, flat_rows}
 use Rattle.recovery.proofs.Sizes.{Sizes, sizes_right_lem}
 use Rattle.recovery.proofs.Refused.{refused_opening_lem}
 use Rattle.recovery.proofs.OpeningLaws.{open_refused}
-use Rattle.promises.specs.Runs.{Box, on, off, sheet_of, opens, box_of, after, Allowed}
+use Rattle.promises.specs.Runs.{Box, on, off, sheet_of, opens, box_of, Allowed}
 use Rattle.promises.specs.Model.{Model, model_opened, is_lent, is_unfinished, is_opened}
 use Rattle.promises.proofs.worlds.Sim.{Sim}
 use Rattle.promises.proofs.worlds.Openings.{Holds, sim_open, not_finished}

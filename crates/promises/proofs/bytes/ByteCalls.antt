@@ -14,7 +14,7 @@ use Rattle.encoding.proofs.Logic.{and_true, clash}
 use Rattle.page.specs.declared.Unpacked.{Unpacked}
 use Rattle.page.specs.declared.Unpacked.TheVariants.{Refused, Blank, Torn, Opening, Image as AnImage, Outcome, Unfit}
 use Rattle.page.specs.Layout.{page_size, most_places, most_files}
-use Rattle.page.specs.Answers.{tested, cut}
+use Rattle.page.specs.Answers.{tested}
 use Rattle.page.proofs.Found.{found}
 use Rattle.recovery.specs.Places.{put}
 use Rattle.recovery.specs.Log.{Entry, blank, torn, bad, opening, image, outcome, fate_of, undecided}

@@ -7,7 +7,7 @@ use Prim.Native.Nat.{ℕ, ◌≤◌, ◌<◌}
 use native.Mathlib.Omega.{arith}
 use lib.Dec.{leb}
 use borrow.Author.Tests.{leb-true, leb-false, le-leb, lt-leb}
-use Rattle.recovery.specs.Log.{Entry, image, Fate, unknown, undecided, committed, aborted, Placed, versions_step, versions_of, start_of}
+use Rattle.recovery.specs.Log.{Entry, Fate, unknown, undecided, committed, aborted, Placed, versions_step, versions_of, start_of}
 use Rattle.inspection.specs.Lawful.{versions}
 use Rattle.promises.proofs.logs.Chains.{Ordered}
 

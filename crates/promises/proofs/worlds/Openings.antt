@@ -13,7 +13,7 @@ use Rattle.recovery.specs.World.{World, Result, refuse, rebuilt_row, down, sizes
 use Rattle.recovery.specs.declared.Row.{Row}
 use Rattle.recovery.specs.declared.Answer.TheVariants.{Refused, Opened}
 use Rattle.recovery.proofs.Spots.{entry_in, entry_top, entry_down}
-use Rattle.inspection.specs.Lawful.{current, token, lawful, lowest_unlawful}
+use Rattle.inspection.specs.Lawful.{current, token, lowest_unlawful}
 use Rattle.inspection.proofs.LowestUnlawful.{lowest_none}
 use Rattle.moving.proofs.FreshOpened.{nth_cold, length_cold}
 use Rattle.promises.proofs.logs.Logs.{Lawful, lawful_test}

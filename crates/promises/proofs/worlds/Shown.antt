@@ -8,7 +8,7 @@ use native.Mathlib.Omega.{arith}
 use lib.ListN.{length}
 use lib.Dec.{leb}
 use borrow.Author.Tests.{eq-eqb, ne_eqb, le-leb, lt-leb}
-use Rattle.recovery.specs.Log.{Image, Entry, image, Fate, unknown, undecided, committed, aborted, Placed, fate_of, effective_of, versions_step, token_step, versions_of, current_of, token_of, start_of}
+use Rattle.recovery.specs.Log.{Image, Entry, Fate, unknown, undecided, committed, aborted, Placed, fate_of, effective_of, versions_step, token_step, versions_of, current_of, token_of, start_of}
 use Rattle.recovery.specs.declared.Answer.TheVariants.{Value}
 use Rattle.recovery.proofs.LogFates.{undecided_known, decided_free}
 use Rattle.inspection.specs.Lawful.{versions, token}

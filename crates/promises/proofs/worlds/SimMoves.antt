@@ -10,7 +10,7 @@ use lib.ListN.{length, length-append}
 use lib.Dec.{eqb}
 use borrow.Author.Tests.{le-leb}
 use Rattle.recovery.specs.Places.{nth}
-use Rattle.recovery.specs.Log.{Image, Entry, image, outcome, Fate, unknown, undecided, committed, aborted, Placed, fate_of, outcome_of, place_of}
+use Rattle.recovery.specs.Log.{Image, Entry, outcome, Fate, unknown, undecided, committed, aborted, Placed, fate_of, outcome_of, place_of}
 use Rattle.recovery.specs.World.{World, entry_at, row_at, cold, fate_number, warm_row, row_holds, is_file}
 use Rattle.recovery.specs.declared.Row.{Row}
 use Rattle.recovery.proofs.Places.{nth_tabulate, length_tabulate}

@@ -7,7 +7,7 @@ use Prim.Native.Nat.{ℕ, ◌≤◌, ◌<◌}
 use native.Mathlib.Omega.{arith}
 use lib.ListN.{length}
 use Rattle.encoding.proofs.Logic.{clash}
-use Rattle.recovery.specs.Log.{Image, Entry, image, undecided, committed, Placed, fate_of, effective_of}
+use Rattle.recovery.specs.Log.{Image, Entry, undecided, committed, Placed, fate_of, effective_of}
 use Rattle.recovery.specs.declared.Answer.TheVariants.{Value, Nothing}
 use Rattle.recovery.proofs.LogFates.{undecided_known}
 use Rattle.inspection.specs.Lawful.{versions, token}

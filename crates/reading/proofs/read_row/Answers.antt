@@ -10,53 +10,53 @@ returns-then-not-row_holds_by c = reads_7 _ _ _ _ _ _ _ _ _ c.image_at-current.e
 pub read_versions-requires : goal.read_versions-requires
 read_versions-requires c =
     let held : RowHeld c.args.files c.args.sheet.now c.args.end c.args.file c.args.row c.image_at-current.result c.image_at-token.result = record {
-  current = c.image_at-current.ensures;
-  token = c.image_at-token.ensures;
-  holds = passed c.row_holds_by.ensures c.if-not-row_holds_by.false;
-} in
+      current = c.image_at-current.ensures;
+      token = c.image_at-token.ensures;
+      holds = passed c.row_holds_by.ensures c.if-not-row_holds_by.false;
+    } in
     looked_current held
 
 pub returns-in_default : goal.returns-in_default
 returns-in_default c =
     let held : RowHeld c.args.files c.args.sheet.now c.args.end c.args.file c.args.row c.image_at-current.result c.image_at-token.result = record {
-  current = c.image_at-current.ensures;
-  token = c.image_at-token.ensures;
-  holds = passed c.row_holds_by.ensures c.if-not-row_holds_by.false;
-} in
+      current = c.image_at-current.ensures;
+      token = c.image_at-token.ensures;
+      holds = passed c.row_holds_by.ensures c.if-not-row_holds_by.false;
+    } in
     reads_free _ _ held c.in_default.is _ c.read_versions.ensures
 
 pub read_versions-requires-then-time-x : goal.read_versions-requires-then-time-x
 read_versions-requires-then-time-x c =
     let held : RowHeld c.args.files c.args.sheet.now c.args.end c.args.file c.args.row c.image_at-current.result c.image_at-token.result = record {
-  current = c.image_at-current.ensures;
-  token = c.image_at-token.ensures;
-  holds = passed c.row_holds_by.ensures c.if-not-row_holds_by.false;
-} in
+      current = c.image_at-current.ensures;
+      token = c.image_at-token.ensures;
+      holds = passed c.row_holds_by.ensures c.if-not-row_holds_by.false;
+    } in
     looked_current held
 
 pub returns-then-time-x : goal.returns-then-time-x
 returns-then-time-x c =
     let held : RowHeld c.args.files c.args.sheet.now c.args.end c.args.file c.args.row c.image_at-current.result c.image_at-token.result = record {
-  current = c.image_at-current.ensures;
-  token = c.image_at-token.ensures;
-  holds = passed c.row_holds_by.ensures c.if-not-row_holds_by.false;
-} in
+      current = c.image_at-current.ensures;
+      token = c.image_at-token.ensures;
+      holds = passed c.row_holds_by.ensures c.if-not-row_holds_by.false;
+    } in
     reads_early _ _ held c.in-Image.is c.if-time-x.true _ c.read_versions-then-time-x.ensures
 
 pub returns-then-x-action : goal.returns-then-x-action
 returns-then-x-action c =
     let held : RowHeld c.args.files c.args.sheet.now c.args.end c.args.file c.args.row c.image_at-current.result c.image_at-token.result = record {
-  current = c.image_at-current.ensures;
-  token = c.image_at-token.ensures;
-  holds = passed c.row_holds_by.ensures c.if-not-row_holds_by.false;
-} in
+      current = c.image_at-current.ensures;
+      token = c.image_at-token.ensures;
+      holds = passed c.row_holds_by.ensures c.if-not-row_holds_by.false;
+    } in
     reads_9 _ _ held c.in-Image.is c.if-time-x.false c.if-x-action.true
 
 pub returns : goal.returns
 returns c =
     let held : RowHeld c.args.files c.args.sheet.now c.args.end c.args.file c.args.row c.image_at-current.result c.image_at-token.result = record {
-  current = c.image_at-current.ensures;
-  token = c.image_at-token.ensures;
-  holds = passed c.row_holds_by.ensures c.if-not-row_holds_by.false;
-} in
+      current = c.image_at-current.ensures;
+      token = c.image_at-token.ensures;
+      holds = passed c.row_holds_by.ensures c.if-not-row_holds_by.false;
+    } in
     reads_own _ _ held c.in-Image.is c.if-time-x.false c.if-x-action.false _ c.token_read.ensures

@@ -14,11 +14,10 @@ returns-then-not-is_blank_at c =
     up_hit _ _ _ _ _ _ c.requires.2 (omega arith) c.loop-place-test.true refl c.is_blank_at.ensures c.if-not-is_blank_at.true ∙ c.loop-place.invariant.1
 
 pub loop-place-preserved : goal.loop-place-preserved
-loop-place-preserved c =
-    (
-      omega arith,
-      up_miss _ _ _ _ _ _ c.requires.2 (omega arith) c.loop-place-test.true refl c.is_blank_at.ensures c.if-not-is_blank_at.false ∙ c.loop-place.invariant.1,
-    )
+loop-place-preserved c = (
+  omega arith,
+  up_miss _ _ _ _ _ _ c.requires.2 (omega arith) c.loop-place-test.true refl c.is_blank_at.ensures c.if-not-is_blank_at.false ∙ c.loop-place.invariant.1,
+)
 
 pub returns : goal.returns
 returns c = up_end _ _ _ c.loop-place-test.false ∙ c.loop-place.invariant.1

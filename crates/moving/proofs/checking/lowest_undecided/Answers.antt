@@ -16,12 +16,11 @@ returns-then-fate_at-eq1 c =
     (eq-eqb _ 1 (sym c.fate_at.ensures ∙ c.if-fate_at-eq1.true)) c.loop-n-test.true
 
 pub loop-n-preserved : goal.loop-n-preserved
-loop-n-preserved c =
-    (
-      omega arith,
-      turn_pass (λ p. eqb (nth 0 c.args.fates.now p) 1) c.loop-n.n c.loop-n.invariant.1
-          (ne_eqb _ 1 (λ e. c.if-fate_at-eq1.false (c.fate_at.ensures ∙ e))),
-    )
+loop-n-preserved c = (
+  omega arith,
+  turn_pass (λ p. eqb (nth 0 c.args.fates.now p) 1) c.loop-n.n c.loop-n.invariant.1
+      (ne_eqb _ 1 (λ e. c.if-fate_at-eq1.false (c.fate_at.ensures ∙ e))),
+)
 
 pub returns : goal.returns
 returns c =
