@@ -37,6 +37,7 @@ fn pad(value: &[u8]) -> [u8; Page::VALUE_SIZE]
 }
 
 // Lines 10 to 12 of write.
+#[tactic(auto, using(calls::proofs::WriteAnswers::store_10, calls::proofs::WriteAnswers::store_floor))]
 fn store_answer(sheet: &[u8], state: State, files: u64, start: u64, row: Row) -> Answer
     requires { (state.end ≤ length sheet.now / page_size) × (state.undecided ≤ state.end) }
     ensures { result ≡ store_answer sheet.now files state start row }

@@ -1,6 +1,7 @@
 -- `weeks::convert_by`, by its ways out. Assumes nothing.
 use Rattle.encoding.proofs.Logic.{refused, passed}
 use Rattle.weeks.proofs.Lines.{step_down, step_wrong, step_few, step_uneven, step_done}
+use native.Mathlib.Omega.{arith}
 use Rattle.weeks.proofs.convert_by.Goals as goal
 
 pub returns-then-o-e : goal.returns-then-o-e
@@ -11,7 +12,7 @@ returns-then-faults-ne0 c = step_wrong _ _ _ _ _ c.if-o-e.false c.find_faults-fa
 
 pub returns-then-not-enough_keyholders : goal.returns-then-not-enough_keyholders
 returns-then-not-enough_keyholders c =
-    step_few _ _ _ _ _ c.if-o-e.false c.find_faults-faults.ensures.0 c.if-faults-ne0.false (refused c.enough_keyholders.ensures c.if-not-enough_keyholders.true)
+    step_few _ _ _ _ _ c.if-o-e.false c.find_faults-faults.ensures.0 (omega arith) (refused c.enough_keyholders.ensures c.if-not-enough_keyholders.true)
 
 pub returns-then-faults-ne0-2 : goal.returns-then-faults-ne0-2
 returns-then-faults-ne0-2 c =
