@@ -1,8 +1,6 @@
 // The command program.
 #![tactic(auto)]
 
-use std::io;
-
-fn main(rt: HostRuntime) -> io::Result<()> {
-    terminal::run(&rt)
+fn main(rt: HostRuntime) {
+    terminal::run(&rt);
 }

@@ -1,8 +1,8 @@
-// The command program: lines from standard input to the desk, and its replies to standard output, line by line. A read or a write that
-// fails ends the conversation.
+// The command program: lines from standard input to the desk, and its replies to standard output, line by line. A read that fails is the
+// end of the input, and a write that fails is passed over.
 #![tactic(auto)]
 
-ghost use Rattle.std.specs.Prelude.{◌≡◌, suc, ◌≤◌, ◌<◌, length, IfOk};
+ghost use Rattle.std.specs.Prelude.{◌≡◌, suc, ◌≤◌, ◌<◌, length};
 ghost use Rattle.commands.specs.Commands.{longest};
 
 use commands::{LONGEST, ROOM};
@@ -38,7 +38,7 @@ fn reply<W: Write>(
     fates: &mut [u8],
     rows: &mut [u64],
     session: Session,
-) -> io::Result<Desk>
+) -> Desk
     requires { (length text.now ≡ suc longest) × (session.len ≤ suc longest) }
 {
     let mut out = [0u8; ROOM];
@@ -48,10 +48,10 @@ fn reply<W: Write>(
     let n = said.count;
     let after = said.desk;
     if n <= ROOM {
-        output.write_all(&out[0..n])?;
-        output.flush()?;
+        let _ = output.write_all(&out[0..n]);
+        let _ = output.flush();
     }
-    Ok(after)
+    after
 }
 
 // One byte of the input.
@@ -63,27 +63,27 @@ fn take_byte<W: Write>(
     rows: &mut [u64],
     session: Session,
     byte: u8,
-) -> io::Result<Session>
+) -> Session
     requires { (length text.old ≡ suc longest) × (session.len ≤ suc longest) }
-    ensures { IfOk result (λ r. r.len ≤ suc longest) }
+    ensures { result.len ≤ suc longest }
 {
     if byte == b'\n' {
-        let after = reply(output, &text[..], sheet, fates, rows, session)?;
-        return Ok(Session {
+        let after = reply(output, &text[..], sheet, fates, rows, session);
+        return Session {
             desk: after,
             len: 0,
-        });
+        };
     }
     let len = session.len;
     let same = session.desk;
     if KEPT <= len {
-        return Ok(Session { desk: same, len });
+        return Session { desk: same, len };
     }
     text[len] = byte;
-    Ok(Session {
+    Session {
         desk: same,
         len: len + 1,
-    })
+    }
 }
 
 // The bytes of one read.
@@ -95,17 +95,17 @@ fn take_bytes<W: Write>(
     fates: &mut [u8],
     rows: &mut [u64],
     session: Session,
-) -> io::Result<Session>
+) -> Session
     requires { (length text.old ≡ suc longest) × (session.len ≤ suc longest) }
-    ensures { IfOk result (λ r. r.len ≤ suc longest) }
+    ensures { result.len ≤ suc longest }
 {
     let mut at = session;
     let mut i = 0;
     while i < bytes.len() {
-        at = take_byte(output, text, sheet, fates, rows, at, bytes[i])?;
+        at = take_byte(output, text, sheet, fates, rows, at, bytes[i]);
         i += 1;
     }
-    Ok(at)
+    at
 }
 
 // One read, and what is left of the turns.
@@ -118,20 +118,20 @@ fn take_some<R: Read, W: Write>(
     rows: &mut [u64],
     session: Session,
     turns: u64,
-) -> io::Result<Taken>
+) -> Taken
     requires { (length text.old ≡ suc longest) × (session.len ≤ suc longest) × (0 < turns) }
-    ensures { IfOk result (λ r. (r.session.len ≤ suc longest) × (r.turns < turns)) }
+    ensures { (result.session.len ≤ suc longest) × (result.turns < turns) }
 {
     let mut buffer = [0u8; BUFFER];
-    let n = input.read(&mut buffer)?;
+    let n = input.read(&mut buffer).unwrap_or(0);
     if n == 0 {
-        return Ok(Taken { turns: 0, session });
+        return Taken { turns: 0, session };
     }
-    let after = take_bytes(output, &buffer[..n], text, sheet, fates, rows, session)?;
-    Ok(Taken {
+    let after = take_bytes(output, &buffer[..n], text, sheet, fates, rows, session);
+    Taken {
         turns: turns - 1,
         session: after,
-    })
+    }
 }
 
 // All of the input; a last line may have no end of line.
@@ -142,7 +142,7 @@ fn take_all<R: Read, W: Write>(
     sheet: &mut [u8],
     fates: &mut [u8],
     rows: &mut [u64],
-) -> io::Result<()>
+)
     requires { length text.old ≡ suc longest }
 {
     let mut turns = u64::MAX;
@@ -151,11 +151,11 @@ fn take_all<R: Read, W: Write>(
         len: 0,
     };
     while turns > 0 {
-        let taken = take_some(input, output, text, sheet, fates, rows, session, turns)?;
+        let taken = take_some(input, output, text, sheet, fates, rows, session, turns);
         session = taken.session;
         turns = taken.turns;
     }
-    take_last(output, &text[..], sheet, fates, rows, session)
+    take_last(output, &text[..], sheet, fates, rows, session);
 }
 
 fn take_last<W: Write>(
@@ -165,17 +165,16 @@ fn take_last<W: Write>(
     fates: &mut [u8],
     rows: &mut [u64],
     session: Session,
-) -> io::Result<()>
+)
     requires { (length text.now ≡ suc longest) × (session.len ≤ suc longest) }
 {
     if 0 < session.len {
-        reply(output, text, sheet, fates, rows, session)?;
+        reply(output, text, sheet, fates, rows, session);
     }
-    Ok(())
 }
 
 // A conversation on a blank sheet of 256 pages.
-pub fn run(rt: &(impl Input + Print)) -> io::Result<()> {
+pub fn run(rt: &(impl Input + Print)) {
     let mut text = [0u8; KEPT];
     let mut sheet = [0u8; SHEET];
     let mut fates = [0u8; PAGES];
@@ -189,5 +188,5 @@ pub fn run(rt: &(impl Input + Print)) -> io::Result<()> {
         &mut sheet,
         &mut fates,
         &mut rows,
-    )
+    );
 }
