@@ -1,9 +1,9 @@
 -- What the rules of a page say once they are met. Assumes nothing.
 use Prim.Native.Nat.{ℕ, ◌≤◌}
 use mathlib.Core.Path.{◌≡◌}
-use mathlib.Core.Bool.{true}
+use mathlib.Core.Bool.{Bool, true}
 use borrow.Author.Tests.{eqb-true, leb-true, le-leb}
-use Rattle.encoding.proofs.Logic.{and_true, and_both}
+use Rattle.encoding.proofs.Logic.{and_true, and_both, passed}
 use Rattle.page.specs.declared.Page.{Page}
 use Rattle.page.specs.Layout.{page_size, most_places, most_files}
 use Rattle.page.specs.Table.{within, between}
@@ -56,6 +56,10 @@ in_bounds_lem size place files e =
     let h1 = and_true _ _ e in
     let h2 = and_true _ _ h1.0 in
     record { size_is = eqb-true size page_size h2.0; place_is = within_true _ _ _ h2.1; files_are = within_true _ _ _ h1.1 }
+
+-- the same of a test `if !is_in_bounds(..)`
+pub let_through : {r : Bool} {size place files : ℕ} → r ≡ in_bounds size place files → r ≡ true → InBounds size place files
+let_through {size = size} {place} {files} e t = in_bounds_lem size place files (passed e t)
 
 pub are_in_bounds : {size place files : ℕ} → InBounds size place files → in_bounds size place files ≡ true
 unfolding in_bounds

@@ -1,10 +1,6 @@
 -- `deciding::decide_line`: line 1, then 5 and 6, then 11 and 12. Assumes nothing.
 use Rattle.encoding.proofs.Logic.{refused, passed}
 use Rattle.calls.proofs.DecideEnds.{line_1, line_action, line_room}
-use lib.ListN.{length}
-use mathlib.Core.Bool.{true}
-use mathlib.Core.Path.{◌≡◌}
-use Rattle.recovery.specs.Steps.{line_one}
 use Rattle.deciding.proofs.decide_line.Goals as goal
 
 pub returns-then-not-is_lent_right : goal.returns-then-not-is_lent_right
@@ -12,10 +8,10 @@ returns-then-not-is_lent_right c = line_1 _ _ _ _ _ (refused c.is_lent_right.ens
 
 pub returns-then-line-ne0 : goal.returns-then-line-ne0
 returns-then-line-ne0 c =
-    let fit : line_one (length c.args.sheet.now) (length c.args.fates.now) (length c.args.rows.now) c.args.state.end c.args.state.undecided ≡ true = passed c.is_lent_right.ensures c.if-not-is_lent_right.false in
+    let fit = passed c.is_lent_right.ensures c.if-not-is_lent_right.false in
     line_action _ _ _ _ _ fit _ c.action_line-line.ensures c.if-line-ne0.true
 
 pub returns : goal.returns
 returns c =
-    let fit : line_one (length c.args.sheet.now) (length c.args.fates.now) (length c.args.rows.now) c.args.state.end c.args.state.undecided ≡ true = passed c.is_lent_right.ensures c.if-not-is_lent_right.false in
+    let fit = passed c.is_lent_right.ensures c.if-not-is_lent_right.false in
     line_room _ _ _ _ _ fit _ c.action_line-line.ensures c.if-line-ne0.false _ (rw c.file_count-files.ensures at c.room_line.ensures)

@@ -5,5 +5,4 @@ use Rattle.encoding.proofs.words.check_few.Goals as goal
 pub returns-clause-value : goal.returns-clause-value
 returns-clause-value c =
     let a = c.args in
-    let e = few_end a.carried a.x _ _ _ _ _ _ _ _ c.low_byte.ensures c.low_byte-2.ensures c.low_byte-3.ensures c.low_byte-4.ensures c.weigh_few-w.ensures c.first_two.ensures c.fold.ensures c.reduced.ensures in
-    e
+    few_end a.carried a.x _ _ _ _ _ _ _ _ c.low_byte.ensures c.low_byte-2.ensures c.low_byte-3.ensures c.low_byte-4.ensures c.weigh_few-w.ensures c.first_two.ensures c.fold.ensures c.reduced.ensures

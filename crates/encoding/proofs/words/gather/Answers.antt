@@ -14,7 +14,8 @@ returns-clause-result_value c =
     let t = c.late.ensures in
     let u = c.early.ensures in
     let m = half_mod c.late.result c.fold_halves-a.result (search rules) c.fold_halves-a.ensures in
-    let n = half_mod c.early.result c.fold_halves-b.result (search rules) c.fold_halves-b.ensures in ap (λ (k : ℕ). k % 65521) c.weigh.ensures
+    let n = half_mod c.early.result c.fold_halves-b.result (search rules) c.fold_halves-b.ensures in
+    ap (λ (k : ℕ). k % 65521) c.weigh.ensures
     ∙ weighed_alike c.low_half.result (c.fold_halves-a.result / 4294967296) c.low_half-2.result (c.fold_halves-b.result / 4294967296)
     (three s 32) (three s 36) (480 * three s 8 + 15 * four s 0) (480 * three s 12 + 15 * four s 4)
     (ap (λ (k : ℕ). k % 65521) c.low_half.ensures ∙ m.0 ∙ t.result_value) (m.1 ∙ t.high)

@@ -1,31 +1,26 @@
 -- `page::Page::is_fit`: the cheap tests in their order say what packing the fields again would say. Assumes nothing.
 use Rattle.page.proofs.Quick.{quick, as_page}
-use Rattle.page.specs.Table.{is_page_of}
 use Rattle.encoding.proofs.Logic.{refused, passed}
 use lib.Dec.{eqb}
-use mathlib.Core.Bool.{Bool}
-use mathlib.Core.Path.{◌≡◌, ap₂}
+use mathlib.Core.Path.{ap₂}
 use Rattle.page.proofs.Page.is_fit.Goals as goal
 
 pub returns-then-not-is_framed : goal.returns-then-not-is_framed
 unfolding quick
 returns-then-not-is_framed c =
-    let answer : (r : Bool) → r ≡ quick c.args.self c.args.part.now c.args.place c.args.files → r ≡ is_page_of c.args.self c.args.part.now c.args.place c.args.files = λ r e. (let a = c.args in
-    as_page a.part.now c.requires.0 (λ i. (c.shared_slice_known-1.given i).fits) r a.self a.place a.files c.requires.2 c.requires.3 e) in
-    answer _ (simp (refused c.is_framed.ensures c.if-not-is_framed.true))
+    let a = c.args in
+    as_page a.part.now c.requires.0 (λ i. (c.shared_slice_known-1.given i).fits) _ a.self a.place a.files c.requires.2 c.requires.3 (simp (refused c.is_framed.ensures c.if-not-is_framed.true))
 
 pub returns-then-not-is_by_rules : goal.returns-then-not-is_by_rules
 unfolding quick
 returns-then-not-is_by_rules c =
-    let answer : (r : Bool) → r ≡ quick c.args.self c.args.part.now c.args.place c.args.files → r ≡ is_page_of c.args.self c.args.part.now c.args.place c.args.files = λ r e. (let a = c.args in
-    as_page a.part.now c.requires.0 (λ i. (c.shared_slice_known-1.given i).fits) r a.self a.place a.files c.requires.2 c.requires.3 e) in
-    answer _ (simp (passed c.is_framed.ensures c.if-not-is_framed.false, refused c.is_by_rules.ensures c.if-not-is_by_rules.true))
+    let a = c.args in
+    as_page a.part.now c.requires.0 (λ i. (c.shared_slice_known-1.given i).fits) _ a.self a.place a.files c.requires.2 c.requires.3 (simp (passed c.is_framed.ensures c.if-not-is_framed.false, refused c.is_by_rules.ensures c.if-not-is_by_rules.true))
 
 pub returns : goal.returns
 unfolding quick
 returns c =
-    let answer : (r : Bool) → r ≡ quick c.args.self c.args.part.now c.args.place c.args.files → r ≡ is_page_of c.args.self c.args.part.now c.args.place c.args.files = λ r e. (let a = c.args in
-    as_page a.part.now c.requires.0 (λ i. (c.shared_slice_known-1.given i).fits) r a.self a.place a.files c.requires.2 c.requires.3 e) in
-    answer _
+    let a = c.args in
+    as_page a.part.now c.requires.0 (λ i. (c.shared_slice_known-1.given i).fits) _ a.self a.place a.files c.requires.2 c.requires.3
     (simp (passed c.is_framed.ensures c.if-not-is_framed.false, passed c.is_by_rules.ensures c.if-not-is_by_rules.false)
     (ap₂ eqb c.field.ensures c.check_word.ensures))
