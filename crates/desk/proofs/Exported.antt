@@ -11,7 +11,8 @@ use Rattle.page.specs.declared.Packing.{Packing}
 use Rattle.page.specs.declared.Unpacked.{Unpacked}
 use Rattle.page.specs.Layout.{value_size}
 use Rattle.page.specs.Answers.{packs, pack_number, tested, test_number, test_values}
-use Rattle.inspection.specs.declared.Inspected.{Inspected}
+use Rattle.inspection.specs.declared.InspectError.{InspectError}
+use Rattle.std.specs.Prelude.{Result}
 use Rattle.inspection.specs.Inspected.{inspected, inspect_number, inspect_place}
 use Rattle.weeks.specs.declared.Refusal.{Refusal}
 use Rattle.weeks.specs.declared.WeekTest.{WeekTest}
@@ -55,10 +56,10 @@ pack_left p value bytes zeros place files out left a r l z b h n =
 -- ---- inspection
 
 -- the answer in one number
-abbrev told : Inspected → ℕ
+abbrev told : Result ℕ InspectError → ℕ
 told x = cond (eqb (inspect_number x) 0) (inspect_place x) refusal_number
 
-pub inspect_told : (s : List ℕ) (files : ℕ) (a v : Inspected) → a ≡ inspected s files → a ≡ v → told v ≡ inspected_for s files
+pub inspect_told : (s : List ℕ) (files : ℕ) (a v : Result ℕ InspectError) → a ≡ inspected s files → a ≡ v → told v ≡ inspected_for s files
 unfolding inspected_for
 inspect_told s files a v e h = ap told (sym h ∙ e)
 

@@ -6,7 +6,6 @@ ghost use Rattle.weeks.specs.Editions.{days_a_week};
 ghost use Rattle.weeks.specs.Answers.{refusal_day, refusal_code};
 ghost use Rattle.desk.specs.Exports.{field_count, fields_given, packed_for, tested_for, inspected_for, week_tested_for, converted_for};
 
-use inspection::Inspected;
 use page::{Packing, Page, Unpacked};
 use weeks::{Conversion, Refusal, WeekTest};
 
@@ -114,8 +113,8 @@ pub fn desk_inspect(sheet: &[u8], files: u64) -> u64
 {
     let answer = inspection::inspect(sheet, files);
     match answer {
-        Inspected::Refused => REFUSED,
-        Inspected::Lowest(place) => place,
+        Err(_) => REFUSED,
+        Ok(place) => place,
     }
 }
 

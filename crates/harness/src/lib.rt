@@ -11,7 +11,7 @@ ghost use Rattle.recovery.specs.Steps.{row_from_pages};
 ghost use Rattle.inspection.specs.Inspected.{inspected, inspect_place};
 ghost use Rattle.harness.specs.Counts.{fields, found, written, counted, fits_at, seen_at, packed_to};
 
-use inspection::Inspected;
+use inspection::InspectError;
 use page::{Packing, Page, Sought, Unpacked};
 
 fn one_if_fields(u: Unpacked) -> u64
@@ -109,13 +109,10 @@ pub extern "C" fn bench_walk(sheet: &[u8], fates: &[u8], files: u64, file: u64, 
     row.current
 }
 
-fn inspected_place(found: Inspected) -> u64
+fn inspected_place(found: Result<u64, InspectError>) -> u64
     ensures { result ≡ inspect_place found }
 {
-    match found {
-        Inspected::Refused => 0,
-        Inspected::Lowest(place) => place,
-    }
+    found.unwrap_or(0)
 }
 
 // An inspection: the place.

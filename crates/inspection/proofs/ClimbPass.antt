@@ -25,7 +25,8 @@ use Rattle.recovery.proofs.Spots.{entry_down}
 use Rattle.recovery.proofs.Pages.{page_here, page_at_place, length_down, sealed_is, opening_sealed, blank_sealed}
 use Rattle.inspection.specs.Lawful.{fits_below, lowest_unlawful}
 use Rattle.inspection.specs.Inspected.{inspectable, inspected}
-use Rattle.inspection.specs.declared.Inspected as answers
+use Rattle.inspection.specs.declared.InspectError.TheVariants.{Sizes}
+use Rattle.std.specs.Prelude.{Ok, Err}
 use Rattle.inspection.specs.ClimbSteps.{Arrays, Zeroed, page_fits_in, keep_page, InRange}
 use Rattle.inspection.proofs.LowestUnlawful.{lowest_none, lowest_here, lowest_stays, lowest_cut, lowest_out, lowest_in}
 use Rattle.inspection.proofs.LawfulLogs.{fate_place, fate_opens}
@@ -177,11 +178,11 @@ most size files h =
     let m : size ≤ most_places * page_size = leb-true size (most_places * page_size) c.1 in
     omega arith
 
-pub inspected_no : (s : List ℕ) (files : ℕ) → inspectable (length s) files ≡ false → answers.Inspected.Refused ≡ inspected s files
+pub inspected_no : (s : List ℕ) (files : ℕ) → inspectable (length s) files ≡ false → Err Sizes ≡ inspected s files
 unfolding inspected
 inspected_no s files h = rw h
 
 pub inspected_yes : (s : List ℕ) (files r : ℕ) → inspectable (length s) files ≡ true
-    → r ≡ lowest_unlawful (down (pages_of s files) (end_of (pages_of s files) (length s / page_size))) → answers.Inspected.Lowest r ≡ inspected s files
+    → r ≡ lowest_unlawful (down (pages_of s files) (end_of (pages_of s files) (length s / page_size))) → Ok r ≡ inspected s files
 unfolding inspected
 inspected_yes s files r h q = rw (h, q)

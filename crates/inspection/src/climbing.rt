@@ -9,7 +9,7 @@ ghost use Rattle.inspection.specs.Lawful.{lowest_unlawful};
 ghost use Rattle.inspection.specs.Inspected.{inspected};
 ghost use Rattle.inspection.specs.ClimbSteps.{slot_numbers, arrays, LongEnough, Zeroed, slot_at, put_slot, version_in, image_fits_in, page_fits_in, keep_image, keep_page, FileInRange, InRange};
 
-use crate::{Inspected, is_inspectable};
+use crate::{InspectError, is_inspectable};
 use page::{Page, Unpacked};
 use recovery::{FEW_PAGES, is_blank_at, page_at};
 
@@ -233,12 +233,13 @@ fn lowest(sheet: &[u8], files: u64) -> u64
     0
 }
 
-// Whether a sheet is lawful: 0, or the lowest place that is bad or does not fit those below it. One pass upward.
-pub fn inspect(sheet: &[u8], files: u64) -> Inspected
+// Whether a sheet is lawful: 0, or the lowest place that is bad or does not fit those below it. One pass upward. 0 stays the number of
+// a lawful sheet, and no None: the law `inspect_numbers` tells every two answers apart by C's numbers, where a Some(0) would be it too.
+pub fn inspect(sheet: &[u8], files: u64) -> Result<u64, InspectError>
     ensures { result ≡ inspected sheet.now files }
 {
     if !is_inspectable(sheet.len(), files) {
-        return Inspected::Refused;
+        return Err(InspectError::Sizes);
     }
-    Inspected::Lowest(lowest(sheet, files))
+    Ok(lowest(sheet, files))
 }
