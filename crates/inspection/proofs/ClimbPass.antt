@@ -7,7 +7,7 @@ use native.Mathlib.Omega.{arith}
 use lib.ListN.{length, get_or, replicate}
 use lib.Dec.{eqb, leb}
 use borrow.Author.Tests.{leb-true, leb-false, le-leb, lt-leb}
-use Rattle.encoding.proofs.Logic.{and_true, refused, passed, clash}
+use Rattle.encoding.proofs.Logic.{and_true, refused, passed}
 use Rattle.page.specs.declared.Unpacked.{Unpacked}
 use Rattle.page.specs.declared.Unpacked.TheVariants.{Refused, Blank, Torn, Opening, Image, Outcome, Unfit}
 use Rattle.page.specs.Layout.{page_size, most_places, most_files}
@@ -26,7 +26,9 @@ use Rattle.inspection.specs.Lawful.{fits_below, lawful, lowest_unlawful}
 use Rattle.inspection.specs.Inspected.{inspectable, inspected}
 use Rattle.inspection.specs.declared.InspectError.TheVariants.{Sizes}
 use Rattle.std.specs.Prelude.{Ok, Err, Some, None}
-use Rattle.inspection.specs.ClimbSteps.{no_slot, some_place, page_fits_in, keep_page, FileInRange, InRange}
+use Rattle.inspection.specs.ClimbSteps.{no_slot, page_fits_in, keep_page, FileInRange, InRange}
+use Rattle.inspection.specs.SomePlace.{some_place}
+use Rattle.inspection.proofs.SomePlace.{found_none, found_some}
 use Rattle.inspection.proofs.LowestUnlawful.{lawful_more, lowest_none, lowest_here, lowest_stays, lowest_cut, lowest_out, lowest_in}
 use Rattle.inspection.proofs.LawfulLogs.{fate_place, fate_opens}
 use Rattle.inspection.proofs.ArraysKnow.{Knows, Long, knows_none, fits_is, keep}
@@ -166,14 +168,6 @@ module _ (s : List ℕ) (files m p : ℕ) (u : Unpacked) (b : Bool) (hm : m ≡ 
   up_miss t = up_more (pages_of s files) m p low (passed blank_is t)
 
 -- ---- the answer
-
-found_none : (n : ℕ) → None ≡ some_place n → n ≡ 0
-found_none zero e = refl
-found_none (suc n) e = clash cc
-
-found_some : (n p : ℕ) → Some p ≡ some_place n → (p ≡ n) × (1 ≤ p)
-found_some zero p e = clash cc
-found_some (suc n) p e = let z : p ≡ suc n = cc in (z, omega arith)
 
 -- the three ends of the pass
 module _ (s : List ℕ) (files : ℕ) where

@@ -4,3 +4,4 @@ pub mod LawfulLogs
 pub mod ArraysKnow
 pub mod ClimbPass
 pub mod NoSecondOutcome
+pub mod SomePlace

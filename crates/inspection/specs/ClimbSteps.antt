@@ -1,17 +1,12 @@
 -- What the climb keeps in its arrays: a fate for each place, and for each file its newest image and the newest version below that.
 -- A reader of document 01 can pass this file over: the laws join it to the log.
-use Rattle.std.specs.Prelude.{ℕ, zero, suc, ◌≤◌, ◌<◌, List, Bool, true, false, cond, not, ◌&&◌, Option, Some, None, get_or, set, eqb, ltb}
+use Rattle.std.specs.Prelude.{ℕ, suc, ◌≤◌, ◌<◌, List, Bool, true, false, cond, not, ◌&&◌, get_or, set, eqb, ltb}
 use Rattle.page.specs.declared.Page.{Page}
 use Rattle.page.specs.declared.Unpacked.{Unpacked}
 use Rattle.page.specs.declared.Unpacked.TheVariants.{Refused, Blank, Torn, Opening, Image, Outcome, Unfit}
 use Rattle.page.specs.Layout.{most_files}
 use Rattle.inspection.specs.declared.climbing.Slot.{Slot}
 use Rattle.inspection.specs.declared.climbing.Kept.{Kept}
-
--- a place, none for 0
-abbrev pub some_place : ℕ → Option ℕ
-some_place zero = None
-some_place (suc n) = Some (suc n)
 
 -- no image
 abbrev pub no_slot : Slot

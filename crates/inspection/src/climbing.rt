@@ -6,7 +6,8 @@ ghost use Rattle.recovery.specs.World.{down, end_of};
 ghost use Rattle.recovery.specs.Lent.{pages_of};
 ghost use Rattle.inspection.specs.Lawful.{lowest_unlawful};
 ghost use Rattle.inspection.specs.Inspected.{inspected};
-ghost use Rattle.inspection.specs.ClimbSteps.{some_place, slot_at, version_in, image_fits_in, page_fits_in, keep_image, keep_page, FileInRange, InRange};
+ghost use Rattle.inspection.specs.SomePlace.{some_place};
+ghost use Rattle.inspection.specs.ClimbSteps.{version_in, image_fits_in, page_fits_in, keep_image, keep_page, FileInRange, InRange};
 
 use crate::{InspectError, is_inspectable};
 use page::{Page, Unpacked};

@@ -1,5 +1,5 @@
 -- The pages of a move, stored one above another: what the fresh sheet then holds. Assumes nothing.
-use Prim.Native.Nat.{ℕ, zero, suc, ◌+◌, ◌*◌, ◌≤◌}
+use Prim.Native.Nat.{pred, ℕ, zero, suc, ◌+◌, ◌*◌, ◌≤◌}
 use mathlib.Core.Path.{◌≡◌, refl, sym, ap, ◌∙◌}
 use mathlib.Core.Bool.{Bool, true, false, cond}
 use mathlib.Core.List.{List, [], ◌∷◌, ◌++◌, append_assoc, append-nil}
@@ -135,19 +135,19 @@ module _ (s : List ℕ) (files : ℕ) (rows fresh : List ℕ) where
   unfolding stores_to
   stores_start = refl
 
-  pub stores_turn : (n at r : ℕ) (xs ys : List ℕ) (row : Row) → ◌≡◌ {A = ℕ × List ℕ} (at, xs) (stores_to s files rows fresh n) → row ≡ row_of rows (n + 1)
-      → ◌≡◌ {A = ℕ × List ℕ} (r, ys) (stored_by s (n + 1) row.current at xs (sealed_image files s (n + 1) row.current))
-      → ◌≡◌ {A = ℕ × List ℕ} (r, ys) (stores_to s files rows fresh (n + 1))
+  pub stores_turn : (f at r : ℕ) (xs ys : List ℕ) (row : Row) → 1 ≤ f → ◌≡◌ {A = ℕ × List ℕ} (at, xs) (stores_to s files rows fresh (pred f)) → row ≡ row_of rows f
+      → ◌≡◌ {A = ℕ × List ℕ} (r, ys) (stored_by s f row.current at xs (sealed_image files s f row.current))
+      → ◌≡◌ {A = ℕ × List ℕ} (r, ys) (stores_to s files rows fresh (pred (f + 1)))
   unfolding stores_to
-  stores_turn n at r xs ys row e h k =
+  stores_turn zero at r xs ys row low e h k = absurd (omega arith)
+  stores_turn (suc n) at r xs ys row low e h k =
       let a : at ≡ (stores_to s files rows fresh n).0 = ap (λ (p : ℕ × List ℕ). p.0) e in
       let x : xs ≡ (stores_to s files rows fresh n).1 = ap (λ (p : ℕ × List ℕ). p.1) e in
-      let z : row ≡ row_of rows (suc n) = rw (add-one n) at h in
-      k ∙ rw (add-one n, a, x, z)
+      k ∙ rw (add-one, a, x, h)
 
-  pub stores_end : (n at : ℕ) (xs : List ℕ) → ◌≡◌ {A = ℕ × List ℕ} (at, xs) (stores_to s files rows fresh n) → n ≤ files → files ≤ n
+  pub stores_end : (n at : ℕ) (xs : List ℕ) → ◌≡◌ {A = ℕ × List ℕ} (at, xs) (stores_to s files rows fresh n) → n ≡ files
       → ◌≡◌ {A = ℕ × List ℕ} (at, xs) (stores_to s files rows fresh files)
-  stores_end n at xs e h l = let z : n ≡ files = omega arith in e ∙ ap (stores_to s files rows fresh) z
+  stores_end n at xs e z = e ∙ ap (stores_to s files rows fresh) z
 
 places_rise : (rows : List ℕ) (n k : ℕ) → n ≤ k → places_to rows n ≤ places_to rows k
 unfolding places_to

@@ -1,5 +1,7 @@
 -- What smaller functions of the move answer. Whoever reads what the move is can pass this file over: the laws join it to `moved`.
 use Rattle.std.specs.Prelude.{List, Bool, not, cond, ◌&&◌, ℕ, zero, suc, max, ◌+◌, ◌*◌, ◌/◌, ◌%◌, ◌≤◌, replicate, eqb}
+use Rattle.std.specs.Option.{option_or}
+use Rattle.std.specs.Bool.{then_some}
 use Rattle.page.specs.Layout.{page_size, most_places, most_files, value_size}
 use Rattle.recovery.specs.declared.Row.{Row}
 use Rattle.recovery.specs.declared.State.{State}
@@ -14,6 +16,7 @@ use Rattle.page.specs.Table.{packed, value_of}
 use Rattle.recovery.specs.Sheet.{page_bytes}
 use Rattle.calls.specs.Leaves.{with_page}
 use Rattle.encoding.specs.Lowest.{lowest}
+use Rattle.inspection.specs.SomePlace.{some_place}
 use Rattle.moving.specs.Moved.{is_sheet, warm_rows, highest_end}
 use Rattle.moving.specs.declared.checking.Survey.{Survey}
 
@@ -33,12 +36,12 @@ places_to rows (suc k) = places_to rows k + cond (eqb (row_of rows (suc k)).curr
 
 -- what one pass over the rows of files 1 to k finds: the lowest damaged one, the number of versions, and the floor that is answered
 unfoldable pub survey_to : List ℕ → ℕ → ℕ → List ℕ → ℕ → ℕ → Survey
-survey_to s files end rows floor k = record { damaged = lowest (is_damaged s files end rows) k; versions = places_to rows k; highest = highest_end floor (rows_of rows) k }
+survey_to s files end rows floor k = record { damaged = some_place (lowest (is_damaged s files end rows) k); versions = places_to rows k; highest = highest_end floor (rows_of rows) k }
 
 -- and with one row more
 unfoldable pub survey_with : Survey → ℕ → Row → Bool → Survey
 survey_with v file r holds = record {
-  damaged = cond (eqb v.damaged 0) (cond (not holds) file 0) v.damaged;
+  damaged = option_or v.damaged (then_some (not holds) file);
   versions = v.versions + cond (eqb r.current 0) 0 1;
   highest = max v.highest (max r.currentend r.tokenend);
 }
