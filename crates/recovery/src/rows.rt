@@ -72,14 +72,7 @@ pub fn row_of(rows: &[u64], file: u64) -> Row
     ensures { result ≡ row_of rows.now file }
 {
     if !has_file(rows.len(), file) {
-        return Row {
-            mark: 0,
-            current: 0,
-            currentend: 0,
-            token: 0,
-            tokenend: 0,
-            tokenaction: 0,
-        };
+        return Row::COLD;
     }
     read_row(rows, file as usize - 1)
 }
