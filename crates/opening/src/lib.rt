@@ -7,7 +7,7 @@ ghost use Rattle.page.specs.Layout.{page_size, most_places};
 ghost use Rattle.recovery.specs.World.{undecided_of};
 ghost use Rattle.recovery.specs.Lent.{sizes_right, left_by, open_leaves};
 ghost use Rattle.recovery.specs.Steps.{few_pages};
-ghost use Rattle.recovery.specs.OpenSteps.{Bounded, good, stepped, Scanned, unfinished_in, refused_opening};
+ghost use Rattle.recovery.specs.OpenSteps.{Bounded, good, worse, stepped, Scanned, unfinished_in, refused_opening};
 
 use encoding::copy;
 use page::{Page, Unpacked};
@@ -15,30 +15,29 @@ use recovery::{
     Answer, Done, FEW_PAGES, Scan, State, fate_at, file_count, is_carried_at, is_sized,
 };
 
+// A sheet's most pages.
+const MOST_PAGES: usize = Page::MOST_PLACES as usize;
+
 // How many fates are undecided.
 fn count_undecided(fates: &[u8]) -> u64
     ensures { result ≡ undecided_of fates.now }
 {
-    let mut n: u64 = 0;
-    let mut i: usize = 0;
-    while i < fates.len() {
-        let x = fates[i];
-        i += 1;
-        if x == 1 {
+    let mut n = 0;
+    for fate in fates {
+        if *fate == 1 {
             n += 1;
         }
     }
     n
 }
 
-// Every row becomes cold.
-fn clear_rows(rows: &mut [u64])
-    ensures { rows.new ≡ replicate (length rows.old) 0 }
+// A bad page becomes the end, and is the highest bad one.
+fn worse(place: u64) -> Scan
+    ensures { result ≡ worse place }
 {
-    let mut i: usize = 0;
-    while i < rows.len() {
-        rows[i] = 0;
-        i += 1;
+    Scan {
+        end: place,
+        bad: place,
     }
 }
 
@@ -47,16 +46,12 @@ fn extend(scan: Scan, place: u64) -> Scan
     requires { 1 ≤ place }
     ensures { result ≡ good place scan }
 {
-    if scan.end < place - 1 {
-        return Scan {
-            end: place,
-            bad: place - 1,
-        };
-    }
-    Scan {
-        end: place,
-        bad: scan.bad,
-    }
+    let bad = if scan.end < place - 1 {
+        place - 1
+    } else {
+        scan.bad
+    };
+    Scan { end: place, bad }
 }
 
 // What the page at a place adds. An image or outcome is sealed exactly if a fate of its action is kept by now.
@@ -67,36 +62,25 @@ fn step(found: Unpacked, place: u64, scan: Scan, kept: &mut [u8]) -> Scan
     match found {
         Unpacked::Blank => scan,
         Unpacked::Torn => extend(scan, place),
-        Unpacked::Opening(p) => {
+        Unpacked::Opening(_) => {
             kept[(place - 1) as usize] = 1;
             extend(scan, place)
         }
         Unpacked::Image(p) => {
-            let at = (p.action - 1) as usize;
-            if kept[at] == 0 {
-                return Scan {
-                    end: place,
-                    bad: place,
-                };
+            if kept[(p.action - 1) as usize] == 0 {
+                return worse(place);
             }
             extend(scan, place)
         }
         Unpacked::Outcome(p) => {
-            let at = (p.action - 1) as usize;
-            let fate = (p.small + 1) as u8;
-            if kept[at] == 0 {
-                return Scan {
-                    end: place,
-                    bad: place,
-                };
+            let fate = &mut kept[(p.action - 1) as usize];
+            if *fate == 0 {
+                return worse(place);
             }
-            kept[at] = fate;
+            *fate = (p.small + 1) as u8;
             extend(scan, place)
         }
-        _ => Scan {
-            end: place,
-            bad: place,
-        },
+        _ => worse(place),
     }
 }
 
@@ -106,13 +90,9 @@ fn scan_pages(sheet: &[u8], kept: &mut [u8], files: u64) -> Scan
     ensures { Scanned files (length kept.old) sheet.now result kept.new }
 {
     let mut scan = Scan { end: 0, bad: 0 };
-    let mut n: usize = 0;
-    while n < kept.len() {
-        let a = Page::SIZE * n;
-        let e = a + Page::SIZE;
-        n += 1;
-        let found = Page::test(&sheet[a..e], n as u64, files);
-        scan = step(found, n as u64, scan, kept);
+    for (n, part) in sheet.chunks_exact(Page::SIZE).enumerate() {
+        let place = n as u64 + 1;
+        scan = step(Page::test(part, place, files), place, scan, kept);
     }
     scan
 }
@@ -154,7 +134,7 @@ fn open_with(sheet: &[u8], fates: &mut [u8], rows: &mut [u64], floor: u64, kept:
     let end = scan.end;
     let undecided = count_undecided(kept);
     copy(fates, kept);
-    clear_rows(rows);
+    rows.fill(0);
     Done {
         answer: Answer::Opened(end, undecided),
         state: State {
@@ -165,24 +145,14 @@ fn open_with(sheet: &[u8], fates: &mut [u8], rows: &mut [u64], floor: u64, kept:
     }
 }
 
-// With room for a small sheet.
-fn open_few(sheet: &[u8], fates: &mut [u8], rows: &mut [u64], floor: u64) -> Done
-    requires { (sizes_right (length sheet.now) (length fates.old) (length rows.old) ≡ true) × (length fates.old ≤ few_pages) }
+// With room for so many pages.
+fn open_within<const N: usize>(sheet: &[u8], fates: &mut [u8], rows: &mut [u64], floor: u64) -> Done
+    requires { (sizes_right (length sheet.now) (length fates.old) (length rows.old) ≡ true) × (length fates.old ≤ N) × (N ≤ most_places) }
     ensures { left_by result sheet.now fates.new rows.new ≡ open_leaves sheet.now fates.old rows.old floor }
 {
-    let mut kept = [0u8; FEW_PAGES];
+    let mut kept = [0u8; N];
     let pages = fates.len();
-    open_with(sheet, fates, rows, floor, &mut kept[0..pages])
-}
-
-// With room for the most pages.
-fn open_many(sheet: &[u8], fates: &mut [u8], rows: &mut [u64], floor: u64) -> Done
-    requires { sizes_right (length sheet.now) (length fates.old) (length rows.old) ≡ true }
-    ensures { left_by result sheet.now fates.new rows.new ≡ open_leaves sheet.now fates.old rows.old floor }
-{
-    let mut kept = [0u8; Page::MOST_PLACES as usize];
-    let pages = fates.len();
-    open_with(sheet, fates, rows, floor, &mut kept[0..pages])
+    open_with(sheet, fates, rows, floor, &mut kept[..pages])
 }
 
 // Opens a sheet: tests every page once, sets each fate, clears the rows and answers the state. A refusal leaves everything.
@@ -193,7 +163,8 @@ pub fn open(sheet: &[u8], fates: &mut [u8], rows: &mut [u64], floor: u64) -> Don
         return refuse(1, 0);
     }
     if fates.len() <= FEW_PAGES {
-        return open_few(sheet, fates, rows, floor);
+        open_within::<FEW_PAGES>(sheet, fates, rows, floor)
+    } else {
+        open_within::<MOST_PAGES>(sheet, fates, rows, floor)
     }
-    open_many(sheet, fates, rows, floor)
 }

@@ -3,62 +3,46 @@
 
 ghost use Rattle.std.specs.Prelude.{◌≡◌};
 ghost use Rattle.recovery.specs.Lent.{left_by, rebuild_leaves};
-ghost use Rattle.recovery.specs.Steps.{rebuilt_with, row_from_pages, place_holds_by, action_found, token_holds_by, row_holds_by, row_holds_in, Warmed};
+ghost use Rattle.recovery.specs.Steps.{row_from_pages, place_holds_by, action_found, token_holds_by, row_holds_by, row_holds_in, Warmed};
 
-use encoding::least;
 use page::{Page, Unpacked};
 use recovery::{
     Answer, Done, Row, State, counted_fate, file_count, has_file, image_at, is_lent_right, refuse,
     row_of, set_row,
 };
 
-// A rebuilt row, of the places of a version and a token, where they start and the token's action.
-fn rebuilt(current: u64, currentend: u64, token: u64, tokenend: u64, tokenaction: u64) -> Row
-    ensures { result ≡ rebuilt_with current currentend token tokenend tokenaction }
-{
-    Row {
-        mark: 1,
-        current,
-        currentend,
-        token,
-        tokenend,
-        tokenaction,
-    }
-}
-
 // The row of a file from the pages up to the end, going down: the first committed image is the current one, and the newest
 // undecided image above it the token. A page that is not an image of the file is passed over at once.
 pub fn rebuilt_row(sheet: &[u8], fates: &[u8], end: u64, files: u64, file: u64) -> Row
     ensures { result ≡ row_from_pages sheet.now fates.now files file end }
 {
-    let mut place = least(end, (sheet.len() / Page::SIZE) as u64) as usize;
-    let mut token: u64 = 0;
-    let mut tokenend: u64 = 0;
-    let mut tokenaction: u64 = 0;
-    while 0 < place {
-        let at = place as u64;
-        place -= 1;
-        let a = Page::SIZE * place;
-        let e = a + Page::SIZE;
-        if !Page::names(&sheet[a..e], file) {
+    let top = end.min((sheet.len() / Page::SIZE) as u64);
+    let mut row = Row {
+        mark: 1,
+        ..Row::COLD
+    };
+    for place in (1..=top).rev() {
+        let a = Page::SIZE * (place as usize - 1);
+        let part = &sheet[a..a + Page::SIZE];
+        if !Page::names(part, file) {
             continue;
         }
-        let Unpacked::Image(image) = Page::test(&sheet[a..e], at, files) else {
+        let Unpacked::Image(image) = Page::test(part, place, files) else {
             continue;
         };
         let fate = counted_fate(sheet, fates, image.action, files);
         if fate == 2 {
-            return rebuilt(at, image.start, token, tokenend, tokenaction);
+            row.current = place;
+            row.currentend = image.start;
+            return row;
         }
-        if fate == 1 {
-            if token == 0 {
-                token = at;
-                tokenend = image.start;
-                tokenaction = image.action;
-            }
+        if fate == 1 && row.token == 0 {
+            row.token = place;
+            row.tokenend = image.start;
+            row.tokenaction = image.action;
         }
     }
-    rebuilt(0, 0, token, tokenend, tokenaction)
+    row
 }
 
 // Line 7 for a place of a row, by what was found there: it is 0, or a place up to the end with a sealed image of the file.
@@ -108,7 +92,7 @@ pub fn row_holds_in(sheet: &[u8], end: u64, files: u64, file: u64, row: Row) -> 
 pub fn warm_row(sheet: &[u8], fates: &[u8], rows: &mut [u64], end: u64, file: u64) -> Row
     ensures { Warmed sheet.now fates.now rows.old file end result rows.new }
 {
-    let row = row_of(&rows[..], file);
+    let row = row_of(rows, file);
     if row.mark != 0 {
         return row;
     }

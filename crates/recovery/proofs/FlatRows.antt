@@ -1,11 +1,13 @@
 -- Rows as one run of numbers and as a list of rows. Assumes nothing.
-use Prim.Native.Nat.{ℕ, zero, suc, pred, ◌+◌, ◌*◌, ◌/◌, ◌≤◌, ◌<◌}
+use Prim.Native.Nat.{ℕ, zero, suc, pred, ◌-◌, ◌+◌, ◌*◌, ◌/◌, ◌≤◌, ◌<◌}
 use mathlib.Core.Path.{◌≡◌, refl, sym, ap, ◌∙◌}
-use mathlib.Core.List.{List, [], ◌∷◌, ◌++◌}
+use mathlib.Core.List.{List, [], ◌∷◌, ◌++◌, append_assoc}
 use native.Mathlib.Omega.{arith}
 use native.Mathlib.Numerals.{unary_clauses}
-use lib.ListN.{length, get_or, set, drop, drop_of_length-le}
-use lib.Seq.{drop-cons, sets, set-get_or, ext_get_or}
+use lib.ListN.{length, get_or, set, take, drop, drop_of_length-le}
+use lib.Seq.{drop-cons, drop-drop, get_or-take, get_or-drop, sets, sets-eq, set-get_or, ext_get_or}
+use borrow.Rule.Slice.PartMut.{put_mid}
+use Rattle.std.specs.Simd.{first_chunks}
 use Rattle.recovery.specs.Places.{nth, tabulate}
 use Rattle.recovery.proofs.Places.{length_tabulate, nth_tabulate}
 use Rattle.recovery.specs.declared.Row.{Row}
@@ -93,9 +95,25 @@ pub put_flat : (rs : List Row) (j : ℕ) (r : Row) → j < length rs → put_row
 unfolding put_row
 put_flat rs j r h = flat_set rs j r h
 
--- the stores of a row's numbers, one after the other
-pub put_stores : (xs : List ℕ) (j : ℕ) (r : Row)
-    → set (set (set (set (set (set xs (row_length * j) r.mark) (row_length * j + 1) r.current) (row_length * j + 2) r.currentend) (row_length * j + 3) r.token) (row_length * j + 4) r.tokenend) (row_length * j + 5) r.tokenaction
-    ≡ put_row xs j r
+-- ---- as the code takes a row out of the run and puts it back
+
+chunk_at : (rows : List ℕ) (m k : ℕ) (d : List ℕ) → k < m → get_or (first_chunks row_length m rows) k d ≡ take row_length (drop (row_length * k) rows)
+chunk_at rows zero k d h = absurd (omega arith)
+chunk_at rows (suc m) zero d h = refl
+chunk_at rows (suc m) (suc k) d h =
+    let e : row_length + row_length * k ≡ row_length * suc k = omega arith in
+    chunk_at (drop row_length rows) m k d (omega arith) ∙ ap (take row_length) (drop-drop (row_length * k) row_length rows ∙ ap (λ n. drop n rows) e)
+
+pub chunk_row : (rows : List ℕ) (m k : ℕ) (d : List ℕ) → k < m → row_from (get_or (first_chunks row_length m rows) k d) 0 ≡ row_from rows k
+chunk_row rows m k d h =
+    let at : (i : ℕ) → i < row_length → get_or (take row_length (drop (row_length * k) rows)) i 0 ≡ get_or rows (row_length * k + i) 0 =
+    λ i l. get_or-take row_length (drop (row_length * k) rows) i 0 l ∙ get_or-drop (row_length * k) rows i 0 in
+    let first : get_or (take row_length (drop (row_length * k) rows)) 0 0 ≡ get_or rows (row_length * k) 0 = simp unary_clauses at (at 0 (omega arith)) in
+    rw (chunk_at rows m k d h) (rw (first, at 1 (omega arith), at 2 (omega arith), at 3 (omega arith), at 4 (omega arith), at 5 (omega arith)))
+
+pub put_part : (xs ys : List ℕ) (j : ℕ) (r : Row) → ys ≡ numbers r → row_length * j + row_length ≤ length xs
+    → put_mid (row_length * j) (row_length * j + row_length - row_length * j) xs ys ≡ put_row xs j r
 unfolding put_row
-put_stores xs j r = simp unary_clauses
+put_part xs ys j r e h =
+    let k : row_length * j + row_length - row_length * j ≡ row_length = omega arith in
+    rw (k, e, drop-drop row_length (row_length * j) xs) (sym (sets-eq (numbers r) xs (row_length * j) h ∙ append_assoc (take (row_length * j) xs) (numbers r) (drop (row_length * j + row_length) xs)))

@@ -1,7 +1,7 @@
 -- Look-ups that take every number: a page's kind at a place, a fate, a file's row. Assumes nothing.
 use Prim.Native.Nat.{ℕ, zero, suc, pred, ◌+◌, ◌-◌, ◌*◌, ◌/◌, ◌≤◌, ◌<◌}
-use mathlib.Core.Path.{◌≡◌, refl, sym}
-use mathlib.Core.Bool.{Bool, true, false, ◌&&◌}
+use mathlib.Core.Path.{◌≡◌, refl, sym, ap, ◌∙◌}
+use mathlib.Core.Bool.{Bool, true, false, ◌&&◌, false≢true}
 use mathlib.Core.List.{List}
 use native.Mathlib.Omega.{arith}
 use native.Mathlib.Numerals.{sub-one}
@@ -11,6 +11,7 @@ use lib.ListN.{length, get_or, get_or-eq_default}
 use Rattle.encoding.proofs.Logic.{and_true}
 use Rattle.page.specs.declared.Unpacked.{Unpacked}
 use Rattle.page.specs.declared.Unpacked.TheVariants.{Refused, Blank, Torn, Opening, Image, Outcome, Unfit}
+use Rattle.page.specs.Layout.{page_size}
 use Rattle.page.specs.Answers.{tested, is_opening_page, is_carried_page}
 use Rattle.recovery.specs.Places.{nth}
 use Rattle.recovery.specs.Sheet.{page_bytes, entry_of, is_opening, decoded}
@@ -18,6 +19,7 @@ use Rattle.recovery.specs.World.{cold, is_file, is_carried}
 use Rattle.recovery.specs.Lent.{row_length, row_from, rows_of, put_row}
 use Rattle.recovery.specs.Steps.{row_of, with_row_of}
 use Rattle.recovery.specs.declared.Row.{Row}
+use Rattle.recovery.proofs.Pages.{test_out, decoded_is}
 use Rattle.recovery.proofs.Places.{get_d_tabulate_out}
 use Rattle.recovery.proofs.FlatRows.{row_at_lem}
 
@@ -50,6 +52,16 @@ carried_decoded s p files = carried_entry (page_bytes s p) (tested (page_bytes s
 pub opening_decoded : (s : List ℕ) (p files : ℕ) → is_opening_page (tested (page_bytes s p) p files) ≡ is_opening (decoded files s p)
 unfolding decoded
 opening_decoded s p files = opening_entry (page_bytes s p) (tested (page_bytes s p) p files)
+
+-- an opening lies on the sheet
+pub opening_low : (s : List ℕ) (p files : ℕ) → is_opening (decoded files s p) ≡ true → p ≤ length s / page_size
+opening_low s p files h = go (leb p (length s / page_size)) refl
+  where
+    go : (b : Bool) → leb p (length s / page_size) ≡ b → p ≤ length s / page_size
+    go true e = leb-true p (length s / page_size) e
+    go false e =
+        let out : Refused ≡ tested (page_bytes s p) p files = test_out s p files (λ k l. omega (arith, leb-false p (length s / page_size) e)) in
+        absurd (false≢true (ap is_opening (decoded_is s p files Refused out) ∙ h))
 
 -- ---- an element at a place
 

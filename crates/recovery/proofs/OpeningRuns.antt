@@ -1,5 +1,5 @@
 -- Runs of numbers that `open` goes over: counting undecided fates and clearing. Assumes nothing.
-use Prim.Native.Nat.{ℕ, zero, suc, ◌+◌, ◌-◌, ◌*◌, ◌≤◌, ◌<◌}
+use Prim.Native.Nat.{ℕ, zero, suc, ◌+◌, ◌*◌, ◌≤◌, ◌<◌}
 use mathlib.Core.Path.{◌≡◌, refl, sym, ap, ◌∙◌}
 use mathlib.Core.Bool.{cond}
 use mathlib.Core.List.{List, [], ◌∷◌, ◌++◌, append-nil}
@@ -55,11 +55,8 @@ first_zeros (suc n) zero h = absurd (omega arith)
 first_zeros (suc n) (suc m) h = ap (λ l. 0 ∷ l) (first_zeros n m (omega arith))
 
 module _ (n m : ℕ) (h : n ≤ m) where
-  zeros_lent : take {A = ℕ} (n - 0) (replicate m 0) ≡ replicate n 0
-  zeros_lent = let z : n - 0 ≡ n = omega arith in rw z (first_zeros n m h)
+  pub zeros_long : length {A = ℕ} (take n (replicate m 0)) ≡ n
+  zeros_long = ap (λ (l : List ℕ). length l) (first_zeros n m h) ∙ length-replicate n 0
 
-  pub zeros_long : length {A = ℕ} (take (n - 0) (replicate m 0)) ≡ n
-  zeros_long = ap (λ (l : List ℕ). length l) zeros_lent ∙ length-replicate n 0
-
-  pub zeros_are : take {A = ℕ} (n - 0) (replicate m 0) ≡ replicate (length {A = ℕ} (take (n - 0) (replicate m 0))) 0
-  zeros_are = zeros_lent ∙ ap (λ (x : ℕ). replicate x 0) (sym zeros_long)
+  pub zeros_are : take {A = ℕ} n (replicate m 0) ≡ replicate (length {A = ℕ} (take n (replicate m 0))) 0
+  zeros_are = first_zeros n m h ∙ ap (λ (x : ℕ). replicate x 0) (sym zeros_long)

@@ -35,6 +35,18 @@ pub struct Row {
     pub tokenaction: u64,
 }
 
+impl Row {
+    // The row of which nothing is known.
+    pub const COLD: Row = Row {
+        mark: 0,
+        current: 0,
+        currentend: 0,
+        token: 0,
+        tokenend: 0,
+        tokenaction: 0,
+    };
+}
+
 // The state that is kept by value: the end (the log's tail), the floor (a lower bound of starts) and the open count.
 #[derive(Clone, Copy)]
 pub struct State {

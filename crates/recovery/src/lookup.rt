@@ -7,7 +7,6 @@ ghost use Rattle.recovery.specs.Sheet.{page_bytes, is_opening, decoded};
 ghost use Rattle.recovery.specs.World.{is_carried};
 ghost use Rattle.recovery.specs.Steps.{has_place, part_at, counted_fate, outcome_in, sealed_image};
 
-use encoding::least;
 use page::{Page, Unpacked};
 
 // Whether the sheet has such a place.
@@ -87,12 +86,11 @@ pub fn outcome_place(sheet: &[u8], end: u64, files: u64, action: u64) -> u64
     if !is_opening_at(sheet, action, files) {
         return 0;
     }
-    let mut place = least(end, (sheet.len() / Page::SIZE) as u64);
-    while action < place {
+    let top = end.min((sheet.len() / Page::SIZE) as u64);
+    for place in (action + 1..=top).rev() {
         if is_outcome_at(sheet, place, files, action) {
             return place;
         }
-        place -= 1;
     }
     0
 }
@@ -112,20 +110,17 @@ pub fn image_at(sheet: &[u8], place: u64, files: u64, file: u64) -> Option<Page>
 pub fn fate_at(fates: &[u8], action: u64) -> u64
     ensures { result ≡ nth 0 fates.now action }
 {
-    if action < 1 {
+    let Some(at) = action.checked_sub(1) else {
         return 0;
-    }
-    if (fates.len() as u64) < action {
-        return 0;
-    }
-    encoding::byte_at(fates, action as usize - 1)
+    };
+    fates.get(at as usize).map_or(0, |fate| *fate as u64)
 }
 
 // Undecided or committed.
 fn is_counted(fate: u64) -> bool
     ensures { result ≡ (eqb fate 1 || eqb fate 2) }
 {
-    (fate == 1) | (fate == 2)
+    matches!(fate, 1 | 2)
 }
 
 // The fate under which images of an action count; the opening is looked at only where the fate could count.
@@ -133,11 +128,9 @@ pub fn counted_fate(sheet: &[u8], fates: &[u8], action: u64, files: u64) -> u64
     ensures { result ≡ counted_fate files sheet.now fates.now action }
 {
     let fate = fate_at(fates, action);
-    if !is_counted(fate) {
-        return 0;
+    if is_counted(fate) && is_opening_at(sheet, action, files) {
+        fate
+    } else {
+        0
     }
-    if !is_opening_at(sheet, action, files) {
-        return 0;
-    }
-    fate
 }

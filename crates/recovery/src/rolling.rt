@@ -8,18 +8,15 @@ use crate::Row;
 pub fn later(a: u64, b: u64) -> u64
     ensures { result ≡ max a b }
 {
-    if a < b {
-        return b;
-    }
-    a
+    a.max(b)
 }
 
 // Raises the ends of a lent row: the current one to at least `current`, the token's to at least `token`.
 fn raise(row: &mut Row, current: u64, token: u64)
     ensures { row.new ≡ raised row.old current token }
 {
-    row.currentend = later(row.currentend, current);
-    row.tokenend = later(row.tokenend, token);
+    row.currentend = row.currentend.max(current);
+    row.tokenend = row.tokenend.max(token);
 }
 
 // The same by value, for callers: the record lies in a local, which is lent.

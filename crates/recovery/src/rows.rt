@@ -1,21 +1,45 @@
 // Rows: a file's row in the lent run of numbers.
 ghost use Rattle.std.specs.Prelude.{◌≡◌, ◌+◌, ◌*◌, ◌/◌, ◌≤◌, length};
 ghost use Rattle.recovery.specs.World.{is_file, is_rebuilt_for};
-ghost use Rattle.recovery.specs.Lent.{row_length, row_from, put_row};
+ghost use Rattle.recovery.specs.Lent.{row_length, row_from, numbers, put_row};
 ghost use Rattle.recovery.specs.Steps.{row_of, in_four, next_named, with_row_of};
 
 use crate::{ROW_LENGTH, Row};
 
-// Where the numbers of a row lie, one after the other; the mark comes first.
-const CURRENT: usize = 1;
+// Where the action of the token lies among a row's numbers.
+const TOKEN_ACTION: usize = ROW_LENGTH - 1;
 
-const CURRENT_END: usize = CURRENT + 1;
+// A row of its numbers as they lie in the run, and its numbers.
+impl From<[u64; ROW_LENGTH]> for Row {
+    ghost from_gives = { λ numbers row. row ≡ row_from numbers 0 };
 
-const TOKEN: usize = CURRENT_END + 1;
+    fn from(numbers: [u64; ROW_LENGTH]) -> Row {
+        let [mark, current, currentend, token, tokenend, tokenaction] = numbers;
+        Row {
+            mark,
+            current,
+            currentend,
+            token,
+            tokenend,
+            tokenaction,
+        }
+    }
+}
 
-const TOKEN_END: usize = TOKEN + 1;
+impl From<Row> for [u64; ROW_LENGTH] {
+    ghost from_gives = { λ row result. result ≡ numbers row };
 
-const TOKEN_ACTION: usize = TOKEN_END + 1;
+    fn from(row: Row) -> [u64; ROW_LENGTH] {
+        [
+            row.mark,
+            row.current,
+            row.currentend,
+            row.token,
+            row.tokenend,
+            row.tokenaction,
+        ]
+    }
+}
 
 // How many files a run of so many numbers has rows for.
 pub fn file_count(numbers: usize) -> u64
@@ -43,15 +67,8 @@ fn read_row(rows: &[u64], k: usize) -> Row
     requires { row_length * k + row_length ≤ length rows.now }
     ensures { result ≡ row_from rows.now k }
 {
-    let at = ROW_LENGTH * k;
-    Row {
-        mark: rows[at],
-        current: rows[at + CURRENT],
-        currentend: rows[at + CURRENT_END],
-        token: rows[at + TOKEN],
-        tokenend: rows[at + TOKEN_END],
-        tokenaction: rows[at + TOKEN_ACTION],
-    }
+    let (rows, _) = rows.as_chunks();
+    Row::from(rows[k])
 }
 
 fn write_row(rows: &mut [u64], k: usize, row: Row)
@@ -59,12 +76,7 @@ fn write_row(rows: &mut [u64], k: usize, row: Row)
     ensures { rows.new ≡ put_row rows.old k row }
 {
     let at = ROW_LENGTH * k;
-    rows[at] = row.mark;
-    rows[at + CURRENT] = row.current;
-    rows[at + CURRENT_END] = row.currentend;
-    rows[at + TOKEN] = row.token;
-    rows[at + TOKEN_END] = row.tokenend;
-    rows[at + TOKEN_ACTION] = row.tokenaction;
+    rows[at..at + ROW_LENGTH].copy_from_slice(&<[u64; ROW_LENGTH]>::from(row));
 }
 
 // The row of a file, cold for no file.
@@ -72,14 +84,7 @@ pub fn row_of(rows: &[u64], file: u64) -> Row
     ensures { result ≡ row_of rows.now file }
 {
     if !has_file(rows.len(), file) {
-        return Row {
-            mark: 0,
-            current: 0,
-            currentend: 0,
-            token: 0,
-            tokenend: 0,
-            tokenaction: 0,
-        };
+        return Row::COLD;
     }
     read_row(rows, file as usize - 1)
 }

@@ -26,11 +26,10 @@ fn or_higher(sheet: &[u8], place: u64, files: u64, start: u64) -> u64
 pub fn highest_start(sheet: &[u8], files: u64) -> u64
     ensures { result ≡ highest_start_of sheet.now files }
 {
-    let mut highest: u64 = 0;
-    let mut place = (sheet.len() / Page::SIZE) as u64;
-    while 0 < place {
+    let pages = (sheet.len() / Page::SIZE) as u64;
+    let mut highest = 0;
+    for place in (1..=pages).rev() {
         highest = or_higher(sheet, place, files, highest);
-        place -= 1;
     }
     highest
 }

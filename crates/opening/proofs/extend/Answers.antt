@@ -7,6 +7,6 @@ pub returns-then-scan-place : goal.returns-then-scan-place
 unfolding good
 returns-then-scan-place c = simp (lt-ltb _ _ c.if-scan-place.true)
 
-pub returns : goal.returns
+pub returns-else-scan-place : goal.returns-else-scan-place
 unfolding good
-returns c = simp (le-ltb _ _ c.if-scan-place.false)
+returns-else-scan-place c = simp (le-ltb _ _ c.if-scan-place.false)

@@ -34,4 +34,4 @@ returns c =
     c.count_undecided-undecided.ensures
     (omega (arith, p.auto, c.requires.1))
     c.copy.ensures
-    c.clear_rows.ensures
+    (c.fill.ensures.after (λ y e. e))

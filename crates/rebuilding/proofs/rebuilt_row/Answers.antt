@@ -1,7 +1,8 @@
--- `rebuilding::rebuilt_row`. The invariant: what is known from above, laid over the row of the pages below, is the row. Assumes nothing.
+-- `rebuilding::rebuilt_row`. The invariant: what is known from above, a token at most, laid over the row of the pages below, is the row. Assumes nothing.
 use Rattle.recovery.proofs.WalkDown.{overlay, row_to, row_from_lem, pass, turn, stop, over_none, over_committed, over_token, over_kept, over_passed, over_end}
 use Rattle.recovery.proofs.Pages.{part_is}
 use Rattle.recovery.specs.Sheet.{page_bytes}
+use Rattle.recovery.specs.declared.Row.{Row}
 use Rattle.page.specs.declared.Page.{Page}
 use Rattle.page.specs.declared.Unpacked.{Unpacked}
 use Rattle.page.specs.declared.Unpacked.TheVariants.{Image}
@@ -12,12 +13,14 @@ use Rattle.page.proofs.Found.{off_image}
 use Rattle.page.proofs.Seek.{unnamed, named_image}
 use Rattle.encoding.proofs.Logic.{refused, passed}
 use lib.Dec.{eqb}
+use lib.ListN.{length}
 use native.Mathlib.Nat.{not-suc-le-zero}
 use native.Mathlib.Omega.{arith}
 use mathlib.Core.Bool.{Bool, true, cond}
 use mathlib.Core.List.{List}
 use mathlib.Core.Path.{◌≡◌, ◌∙◌, refl, ap, sym}
-use Prim.Native.Nat.{ℕ}
+use Prim.Native.Nat.{ℕ, ◌*◌, ◌/◌, ◌≤◌, min}
+use Rattle.rebuilding.proofs.rebuilt_row.Goals.{then-fate-eq1+then-row-eq0, else-fate-eq1, else-fate-eq1-via-then-fate-eq1+else-row-eq0, else-fate-eq1-via-else-fate-eq1}
 use Rattle.rebuilding.proofs.rebuilt_row.Goals as goal
 
 -- what the looks at a part say of the page at its place
@@ -33,68 +36,82 @@ image_at : {part : List ℕ} {b : Bool} {u : Unpacked} {x : Page} (s : List ℕ)
 image_at {x = x} s place files file n t e i p =
     named_image (page_bytes s place) place files file x (passed (named_at s place file n p) t) (sym i ∙ tested_at s place files e p)
 
+-- a place of the walk is one of the sheet
+within : {top : ℕ} (end place : ℕ) (s : List ℕ) → place ≤ top → top ≡ min end (length s / 64) → 64 * place ≤ length s
+within end place s h t = omega (arith, t)
+
 pub loop-place-init : goal.loop-place-init
 loop-place-init c =
     let a = c.args in
-    (omega (arith, c.least-place.ensures), over_none _ ∙ ap (row_to a.files a.sheet.now a.fates.now a.file) c.least-place.ensures ∙ row_from_lem a.files a.sheet.now a.fates.now a.file a.end, λ z. (refl, refl))
+    record {
+      from_above = over_none _ ∙ ap (row_to a.files a.sheet.now a.fates.now a.file) c.min-top.ensures ∙ row_from_lem a.files a.sheet.now a.fates.now a.file a.end;
+      token_alone = refl;
+      nameless = λ z. (refl, refl);
+    }
 
 pub loop-place-preserved-then-not-names : goal.loop-place-preserved-then-not-names
 loop-place-preserved-then-not-names c =
     let a = c.args in
     let l = c.loop-place in
+    let i = l.invariant in
     let n = named_at a.sheet.now l.place a.file c.names.ensures (part_is _ _ _ l.place c.loop-place-test.true refl refl) in
-    (omega arith, pass a.files a.sheet.now a.fates.now a.file l.place c.loop-place-test.true (omega arith) (overlay l.token l.tokenend l.tokenaction) (unnamed (page_bytes a.sheet.now l.place) l.place a.files a.file (refused n c.if-not-names.true)) l.invariant.1, l.invariant.2)
+    record {
+      from_above = pass a.files a.sheet.now a.fates.now a.file l.place c.loop-place-test.true (within a.end _ a.sheet.now l.auto.place c.min-top.ensures) (overlay l.row.token l.row.tokenend l.row.tokenaction)
+          (unnamed (page_bytes a.sheet.now l.place) l.place a.files a.file (refused n c.if-not-names.true)) i.from_above;
+      token_alone = i.token_alone;
+      nameless = i.nameless;
+    }
 
 pub loop-place-preserved-in_default : goal.loop-place-preserved-in_default
 unfolding image_of_file
 loop-place-preserved-in_default c =
     let a = c.args in
     let l = c.loop-place in
+    let i = l.invariant in
     let e = tested_at a.sheet.now l.place a.files c.test.ensures (part_is _ _ _ l.place c.loop-place-test.true refl refl) in
-    (omega arith, pass a.files a.sheet.now a.fates.now a.file l.place c.loop-place-test.true (omega arith) (overlay l.token l.tokenend l.tokenaction) (off_image c.test.result (λ (p : Page). cond (eqb p.file a.file) (Some p) None) None c.in_default.not-Image ∙ ap (image_of_file a.file) e) l.invariant.1, l.invariant.2)
+    record {
+      from_above = pass a.files a.sheet.now a.fates.now a.file l.place c.loop-place-test.true (within a.end _ a.sheet.now l.auto.place c.min-top.ensures) (overlay l.row.token l.row.tokenend l.row.tokenaction)
+          (off_image c.test.result (λ (p : Page). cond (eqb p.file a.file) (Some p) None) None c.in_default.not-Image ∙ ap (image_of_file a.file) e) i.from_above;
+      token_alone = i.token_alone;
+      nameless = i.nameless;
+    }
 
 pub returns-then-fate-eq2 : goal.returns-then-fate-eq2
 returns-then-fate-eq2 c =
     let a = c.args in
     let l = c.loop-place in
+    let i = l.invariant in
     let image = image_at a.sheet.now l.place a.files a.file c.names.ensures c.if-not-names.false c.test.ensures c.in-Image.is (part_is _ _ _ l.place c.loop-place-test.true refl refl) in
-    c.rebuilt.ensures ∙ stop a.files a.sheet.now a.fates.now a.file l.place c.loop-place-test.true (omega arith) _ _ image c.counted_fate-fate.ensures
-    (overlay l.token l.tokenend l.tokenaction) (λ r m. over_committed _ _ _ _ _ _ _ r m c.if-fate-eq2.true l.invariant.2) l.invariant.1
-
-pub loop-place-preserved-then-token-eq0 : goal.loop-place-preserved-then-token-eq0
-loop-place-preserved-then-token-eq0 c =
-    let a = c.args in
-    let l = c.loop-place in
-    let image = image_at a.sheet.now l.place a.files a.file c.names.ensures c.if-not-names.false c.test.ensures c.in-Image.is (part_is _ _ _ l.place c.loop-place-test.true refl refl) in (
-      omega arith,
-      turn a.files a.sheet.now a.fates.now a.file l.place c.loop-place-test.true (omega arith) _ _ image c.counted_fate-fate.ensures
-          (overlay l.token l.tokenend l.tokenaction) (overlay _ _ _) (λ r. over_token _ _ _ _ _ _ _ r c.if-fate-eq1.true c.if-token-eq0.true c.loop-place-test.true) l.invariant.1,
-      λ z. absurd (not-suc-le-zero (rw z at c.loop-place-test.true)),
-    )
-
-pub loop-place-preserved-else-token-eq0 : goal.loop-place-preserved-else-token-eq0
-loop-place-preserved-else-token-eq0 c =
-    let a = c.args in
-    let l = c.loop-place in
-    let image = image_at a.sheet.now l.place a.files a.file c.names.ensures c.if-not-names.false c.test.ensures c.in-Image.is (part_is _ _ _ l.place c.loop-place-test.true refl refl) in (
-      omega arith,
-      turn a.files a.sheet.now a.fates.now a.file l.place c.loop-place-test.true (omega arith) _ _ image c.counted_fate-fate.ensures
-          (overlay l.token l.tokenend l.tokenaction) (overlay _ _ _) (λ r. over_kept _ _ _ _ _ _ _ r c.if-fate-eq1.true c.if-token-eq0.false) l.invariant.1,
-      l.invariant.2,
-    )
+    ap (λ (r : Row). record { mark = r.mark; current = l.place; currentend = c.in-Image.image.start; token = l.row.token; tokenend = l.row.tokenend; tokenaction = l.row.tokenaction }) i.token_alone
+    ∙ stop a.files a.sheet.now a.fates.now a.file l.place c.loop-place-test.true (within a.end _ a.sheet.now l.auto.place c.min-top.ensures) _ _ image c.counted_fate-fate.ensures
+    (overlay l.row.token l.row.tokenend l.row.tokenaction) (λ r m. over_committed _ _ _ _ _ _ _ r m c.if-fate-eq2.true i.nameless) i.from_above
 
 pub loop-place-preserved : goal.loop-place-preserved
 loop-place-preserved c =
     let a = c.args in
     let l = c.loop-place in
-    let image = image_at a.sheet.now l.place a.files a.file c.names.ensures c.if-not-names.false c.test.ensures c.in-Image.is (part_is _ _ _ l.place c.loop-place-test.true refl refl) in (
-      omega arith,
-      turn a.files a.sheet.now a.fates.now a.file l.place c.loop-place-test.true (omega arith) _ _ image c.counted_fate-fate.ensures
-          (overlay l.token l.tokenend l.tokenaction) (overlay _ _ _) (λ r. over_passed _ _ _ _ _ _ _ r c.if-fate-eq2.false c.if-fate-eq1.false) l.invariant.1,
-      l.invariant.2,
-    )
+    let i = l.invariant in
+    let image = image_at a.sheet.now l.place a.files a.file c.names.ensures c.if-not-names.false c.test.ensures c.in-Image.is (part_is _ _ _ l.place c.loop-place-test.true refl refl) in
+    let known = overlay l.row.token l.row.tokenend l.row.tokenaction in
+    let next = λ (known' : Row → Row). turn a.files a.sheet.now a.fates.now a.file l.place c.loop-place-test.true (within a.end _ a.sheet.now l.auto.place c.min-top.ensures) _ _ image c.counted_fate-fate.ensures known known' {x = row_to a.files a.sheet.now a.fates.now a.file a.end} in
+    elim c.if-fate-eq1.branch [
+      | then-fate-eq1+then-row-eq0 w ↦ rw w.row-is (record {
+        from_above = next (overlay _ _ _) (λ r. over_token _ _ _ _ _ _ _ r w.if-fate-eq1.true w.if-row-eq0.true c.loop-place-test.true) i.from_above;
+        token_alone = ap (λ (r : Row). record { mark = r.mark; current = r.current; currentend = r.currentend; token = l.place; tokenend = c.in-Image.image.start; tokenaction = c.in-Image.image.action }) i.token_alone;
+        nameless = λ z. absurd (not-suc-le-zero (rw z at c.loop-place-test.true));
+      })
+      | else-fate-eq1 w ↦ rw w.row-is (record {
+        from_above = elim w.else-fate-eq1.branch [
+          | else-fate-eq1-via-then-fate-eq1+else-row-eq0 v ↦ next (overlay _ _ _) (λ r. over_kept _ _ _ _ _ _ _ r v.if-fate-eq1.true v.if-row-eq0.false) i.from_above
+          | else-fate-eq1-via-else-fate-eq1 v ↦ next (overlay _ _ _) (λ r. over_passed _ _ _ _ _ _ _ r c.if-fate-eq2.false v.if-fate-eq1.false) i.from_above
+        ];
+        token_alone = i.token_alone;
+        nameless = i.nameless;
+      })
+    ]
 
 pub returns : goal.returns
 returns c =
     let a = c.args in
-    c.rebuilt-2.ensures ∙ over_end a.files a.sheet.now a.fates.now a.file c.loop-place.place c.loop-place.token c.loop-place.tokenend c.loop-place.tokenaction c.loop-place-test.false c.loop-place.invariant.2 ∙ c.loop-place.invariant.1
+    let l = c.loop-place in
+    l.invariant.token_alone ∙ over_end a.files a.sheet.now a.fates.now a.file l.place l.row.token l.row.tokenend l.row.tokenaction (omega (arith, c.loop-place-test.false)) l.invariant.nameless ∙ l.invariant.from_above

@@ -1,12 +1,7 @@
 -- `recovery::lookup::outcome_place`. The invariant: the pages up to the walk's place say what those up to the end say. Assumes nothing.
 use Rattle.recovery.proofs.Outcomes.{place_to}
-use lib.ListN.{length}
 use mathlib.Core.Path.{◌≡◌}
-use Prim.Native.Nat.{◌≤◌, ◌/◌}
 use Rattle.recovery.proofs.lookup.outcome_place.Given as goal
 
 abbrev pub invariant-loop-place : goal.invariant-loop-place
-invariant-loop-place l = (l.place ≤ length l.sheet / 64) × (place_to l.files l.sheet l.action l.place ≡ place_to l.files l.sheet l.action l.end)
-
-abbrev pub decreases-loop-place : goal.decreases-loop-place
-decreases-loop-place l = l.place
+invariant-loop-place l = place_to l.files l.sheet l.action l.place ≡ place_to l.files l.sheet l.action l.end

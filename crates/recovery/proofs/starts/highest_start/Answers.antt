@@ -7,16 +7,16 @@ use mathlib.Core.Path.{◌≡◌, ◌∙◌, ap}
 use Rattle.recovery.proofs.starts.highest_start.Goals as goal
 
 pub loop-place-init : goal.loop-place-init
-loop-place-init c = (omega arith, none_yet _ _)
+loop-place-init c = none_yet _ _
 
 pub loop-place-preserved : goal.loop-place-preserved
 loop-place-preserved c =
     let a = c.args in
     let p = c.loop-place.place in
-    (omega arith, c.or_higher-highest.ensures ∙ ap (start_step (sealed a.files a.sheet.now p)) c.loop-place.invariant.1 ∙ one_lower a.files a.sheet.now p c.loop-place-test.true c.loop-place.invariant.0)
+    c.or_higher-highest.ensures ∙ ap (start_step (sealed a.files a.sheet.now p)) c.loop-place.invariant ∙ one_lower a.files a.sheet.now p c.loop-place-test.true c.loop-place.auto.place
 
 pub returns : goal.returns
 returns c =
     let a = c.args in
     let z : c.loop-place.place ≡ 0 = omega (arith, c.loop-place-test.false) in
-    c.loop-place.invariant.1 ∙ ap (start_above a.files a.sheet.now) z ∙ all_seen a.files a.sheet.now
+    c.loop-place.invariant ∙ ap (start_above a.files a.sheet.now) z ∙ all_seen a.files a.sheet.now
