@@ -1,6 +1,6 @@
 -- One spoiled byte (document 02, ask 9): a sealed page of which one of the 64 bytes becomes another is never sealed afterwards. It is bad,
 -- except where byte 63, the end mark, became 0: such a page is torn, and counts as never stored.
-use Rattle.std.specs.Prelude.{ℕ, ◌+◌, ◌*◌, ◌-◌, ◌≤◌, ◌<◌, ◌≡◌, List, Bool, true, false, cond, ◌&&◌, Ok, length, get_or, set, eqb}
+use Rattle.std.specs.Prelude.{ℕ, ◌+◌, ◌*◌, ◌-◌, ◌≤◌, ◌<◌, ◌≡◌, List, Bool, true, false, cond, ◌&&◌, length, get_or, set, eqb, Ok}
 use Rattle.page.specs.declared.Page.{Page}
 use Rattle.page.specs.declared.Unpacked.TheVariants.{Torn, Unfit}
 use Rattle.page.specs.Layout.{mark_at, page_size, most_files, value_size}

@@ -6,7 +6,7 @@ ghost use Rattle.weeks.specs.Editions.{days_a_week};
 ghost use Rattle.weeks.specs.Answers.{refusal_day, refusal_code};
 ghost use Rattle.desk.specs.Exports.{field_count, fields_given, packed_for, tested_for, inspected_for, week_tested_for, converted_for};
 
-use page::{Page, Unpacked, PackError};
+use page::{PackError, Page, Unpacked};
 use weeks::{Conversion, Refusal, WeekTest};
 
 // The fields from kind to start.

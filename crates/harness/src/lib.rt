@@ -12,7 +12,7 @@ ghost use Rattle.inspection.specs.Inspected.{inspected, inspect_place};
 ghost use Rattle.harness.specs.Counts.{fields, found, written, counted, fits_at, seen_at, packed_to};
 
 use inspection::InspectError;
-use page::{Page, Unpacked, PackError};
+use page::{PackError, Page, Unpacked};
 
 fn one_if_fields(u: Unpacked) -> u64
     ensures { result ≡ fields u }

@@ -1,8 +1,8 @@
 -- What smaller functions of the move answer. Whoever reads what the move is can pass this file over: the laws join it to `moved`.
+use Rattle.page.specs.declared.Page.{Page}
 use Rattle.std.specs.Prelude.{List, Bool, not, cond, ◌&&◌, ℕ, zero, suc, max, ◌+◌, ◌*◌, ◌/◌, ◌%◌, ◌≤◌, replicate, eqb, Option, Some, None}
 use Rattle.std.specs.Option.{option_or}
 use Rattle.std.specs.Bool.{then_some}
-use Rattle.page.specs.declared.Page.{Page}
 use Rattle.page.specs.Layout.{page_size, most_places, most_files, value_size}
 use Rattle.recovery.specs.declared.Row.{Row}
 use Rattle.recovery.specs.declared.State.{State}
