@@ -55,10 +55,17 @@ listed Third = refl
 pub names : (e : Edition) (n : ℕ) → n ≡ size e → named n ≡ Some e
 names e n long = ap named long ∙ listed e
 
--- time k lies within the week; w is the bytes of a time, as the code has it
-pub time_within : (e : Edition) (k : ℕ) {w : ℕ} → w ≡ width e → k < times_a_week → w * k + w ≤ size e
+-- a time has one byte in the first, and two in the others
+pub one_wide : {e : Edition} → e ≡ First → width e ≡ 1
+one_wide h = ap width h
+
+pub two_wide : {e : Edition} → (e ≡ Second) ⊎ (e ≡ Third) → width e ≡ 2
+two_wide h = ⊎_elim (ap width) (ap width) h
+
+-- time k lies within the week
+pub time_within : (e : Edition) (k : ℕ) → k < times_a_week → width e * k + width e ≤ size e
 unfolding size
-time_within e k h l = rw h (omega (arith, run_within (width e) k times_a_week l))
+time_within e k l = omega (arith, run_within (width e) k times_a_week l)
 
 -- a mask has two bytes, and lies behind the times
 pub two_masked : (e : Edition) → (mask_size e ≡ 0 → ⊥) → mask_size e ≡ 2
@@ -67,9 +74,6 @@ two_masked e l = ⊎_elim (λ z. absurd (l z)) (ap mask_size) (sound e).masked
 pub mask_within : (e : Edition) {w m : ℕ} → w ≡ width e → m ≡ mask_size e → (m ≡ 0 → ⊥) → w * times_a_week + 2 ≡ size e
 unfolding size
 mask_within e h i l = omega (arith, h, two_masked e (λ z. l (i ∙ z)))
-
-pub wide : (e : Edition) {w : ℕ} → w ≡ width e → (w ≡ 1 → ⊥) → w ≡ 2
-wide e h l = omega (arith, h, (sound e).some_byte, (sound e).narrow)
 
 -- ---- by both lengths
 

@@ -1,6 +1,6 @@
 -- A time read off a week and put into one: its bytes one by one, and its minutes as another edition's units. Assumes nothing.
 use Prim.Native.Nat.{ℕ, suc, ◌+◌, ◌*◌, ◌/◌, ◌%◌, ◌≤◌, ◌<◌}
-use mathlib.Core.Path.{◌≡◌, refl, sym, ap, ◌∙◌}
+use mathlib.Core.Path.{◌≡◌, sym, ap, ◌∙◌}
 use mathlib.Core.Bool.{true, false, not}
 use mathlib.Core.List.{List, [], ◌∷◌, ◌++◌, append_assoc}
 use native.Mathlib.Omega.{arith}
@@ -27,15 +27,13 @@ two_read s at {x} {y} low high small =
     let last : y ≡ number (take 1 (drop (suc at) s)) = high ∙ ap (λ (i : ℕ). get_or s i 0) next ∙ sym (number_byte s (suc at)) in
     omega (arith, number_first 1 s at)
 
--- a time; w is the bytes of a time, as the code has it
-module _ (e : Edition) (s : List ℕ) (k : ℕ) {w x : ℕ} (wide : w ≡ width e) where
-  pub one_byte : w ≡ 1 → x ≡ get_or s (w * k) 0 → x ≡ time e s k
-  unfolding time
-  one_byte h r = rw (← wide) (r ∙ sym (number_byte s (w * k)) ∙ ap (λ (n : ℕ). number (take n (drop (w * k) s))) (sym h))
+pub one_byte : (e : Edition) (s : List ℕ) (k : ℕ) {x : ℕ} → width e ≡ 1 → x ≡ get_or s k 0 → x ≡ time e s k
+unfolding time
+one_byte e s k h r = let one : 1 * k ≡ k = omega arith in rw (h, one) (r ∙ sym (number_byte s k))
 
-  pub two_bytes : w ≡ 2 → x ≡ number (take 2 (drop (w * k) s)) → x ≡ time e s k
-  unfolding time
-  two_bytes h r = rw (← wide) (r ∙ ap (λ (n : ℕ). number (take n (drop (w * k) s))) (sym h))
+pub two_bytes : (e : Edition) (s : List ℕ) (k : ℕ) {x : ℕ} → width e ≡ 2 → x ≡ number (take 2 (drop (2 * k) s)) → x ≡ time e s k
+unfolding time
+two_bytes e s k h r = rw h r
 
 -- ---- units
 
@@ -85,13 +83,13 @@ two_written x at out l =
     ∙ ap (λ (t : List ℕ). t ++ (x / 256 % 256 ∷ [])) low
     ∙ append_assoc (take at out) (x % 256 ∷ []) (x / 256 % 256 ∷ []))
 
-module _ (o : Edition) (k x : ℕ) (out : List ℕ) {w : ℕ} (wide : w ≡ width o) where
-  pub put_one : w ≡ 1 → w * k < length out → take (width o * k + width o) (set out (w * k) (x % 256)) ≡ take (width o * k) out ++ bytes (width o) x
-  put_one h l =
-      let next : w * k + w ≡ suc (w * k) = omega arith in
-      let one : bytes w x ≡ x % 256 ∷ [] = rw h refl in
-      rw (← wide, next, one) (take-suc-set out (w * k) (x % 256) l)
+pub put_one : (o : Edition) (k x : ℕ) (out : List ℕ) → width o ≡ 1 → k < length out
+    → take (width o * k + width o) (set out k (x % 256)) ≡ take (width o * k) out ++ bytes (width o) x
+put_one o k x out h l =
+    let one : 1 * k ≡ k = omega arith in
+    let next : k + 1 ≡ suc k = omega arith in
+    rw (h, one, next) (take-suc-set out k (x % 256) l)
 
-  pub put_two : (next : List ℕ) → w ≡ 2 → take (w * k + 2) next ≡ take (w * k) out ++ bytes 2 x
-      → take (width o * k + width o) next ≡ take (width o * k) out ++ bytes (width o) x
-  put_two next h e = rw (← wide) (ap (λ (n : ℕ). take (w * k + n) next) h ∙ e ∙ ap (λ (n : ℕ). take (w * k) out ++ bytes n x) (sym h))
+pub put_two : (o : Edition) (k x : ℕ) (out next : List ℕ) → width o ≡ 2 → take (2 * k + 2) next ≡ take (2 * k) out ++ bytes 2 x
+    → take (width o * k + width o) next ≡ take (width o * k) out ++ bytes (width o) x
+put_two o k x out next h e = rw h e

@@ -36,12 +36,10 @@ pub(crate) fn time_at(e: Edition, week: &[u8], k: usize) -> u64
     ensures value { result ≡ time e week.now k }
     ensures fits { result < 65536 }
 {
-    let width = e.width();
-    let at = width * k;
-    if width == 1 {
-        return byte(week, at);
+    match e {
+        Edition::First => byte(week, k),
+        Edition::Second | Edition::Third => two_bytes(week, 2 * k),
     }
-    two_bytes(week, at)
 }
 
 // Time t of edition e in o's units: the number of them that gives the same minutes, if there is one. It is an exact division by 15 as a
@@ -72,11 +70,8 @@ pub(crate) fn put_time(o: Edition, out: &mut [u8], k: usize, x: u64)
     requires { (length out.old ≡ size o) × (k < times_a_week) }
     ensures { take (width o * k + width o) out.new ≡ take (width o * k) out.old ++ bytes (width o) x }
 {
-    let width = o.width();
-    let at = width * k;
-    if width == 1 {
-        out[at] = (x % 256) as u8;
-        return;
+    match o {
+        Edition::First => out[k] = (x % 256) as u8,
+        Edition::Second | Edition::Third => put_two(out, 2 * k, x),
     }
-    put_two(out, at, x);
 }
