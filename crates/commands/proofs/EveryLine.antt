@@ -1,4 +1,5 @@
 -- What holds of every command that a line can be holds of the one that it is. The text of a write is the end of its line. Assumes nothing.
+use Rattle.std.proofs.Common.{Option, Some, None}
 use Prim.Native.Nat.{ℕ, zero, suc, ◌-◌, ◌^◌, ◌≤◌, ◌<◌}
 use mathlib.Core.Path.{◌≡◌, refl, sym, ap, ◌∙◌}
 use mathlib.Core.Bool.{Bool, true, false, ◌&&◌, cond}
@@ -11,11 +12,7 @@ use Rattle.encoding.specs.Bytes.{same}
 use Rattle.encoding.proofs.Logic.{and_true, by_test}
 use Rattle.calls.specs.declared.asking.Call.TheVariants.{Begin, Write, Read, Test, Commit, Abort}
 use Rattle.commands.specs.declared.parsing.Command.{Command}
-use Rattle.commands.specs.declared.parsing.Command.TheVariants.{What, BareOpen, Open, Cut, Call}
-use Rattle.commands.specs.declared.parsing.Number.{Number}
-use Rattle.commands.specs.declared.parsing.Number.TheVariants.{Is, Not}
-use Rattle.commands.specs.declared.parsing.Numbers.{Numbers}
-use Rattle.commands.specs.declared.parsing.Numbers.TheVariants.{Are, Unread}
+use Rattle.commands.specs.declared.parsing.Command.TheVariants.{BareOpen, Open, Cut, Call}
 use Rattle.commands.specs.Names.{open_name, begin_name, write_name, read_name, test_name, commit_name, abort_name, cut_name}
 use Rattle.commands.specs.Commands.{words, longer, digits, value_from, is_text, number_of, three, alone, with_one, with_two, with_three, with_text, command_of, parsed}
 use Rattle.commands.proofs.Lines.{longer_length, longer_some, longer_rest, words_some}
@@ -67,62 +64,62 @@ last_word (b ∷ s) (suc k) e = go (eqb b 32) (last_word s k) (last_word s (suc 
 -- ---- every line
 
 -- whatever holds of each command that a line can be holds of the command that it is
-pub record Ways (line : List ℕ) (P : Command → Type 0) : Type 0 where
-  pub what : P What
-  pub opens_bare : P BareOpen
-  pub opens : (files floor : ℕ) → P (Open files floor)
-  pub cuts : (n : ℕ) → P (Cut n)
-  pub begins : P (Call Begin (length line))
-  pub reads : (file time action : ℕ) → P (Call (Read file time action) (length line))
-  pub tests : (action : ℕ) → P (Call (Test action) (length line))
-  pub commits : (action : ℕ) → P (Call (Commit action) (length line))
-  pub aborts : (action : ℕ) → P (Call (Abort action) (length line))
+pub record Ways (line : List ℕ) (P : Option Command → Type 0) : Type 0 where
+  pub what : P None
+  pub opens_bare : P (Some BareOpen)
+  pub opens : (files floor : ℕ) → P (Some (Open files floor))
+  pub cuts : (n : ℕ) → P (Some (Cut n))
+  pub begins : P (Some (Call Begin (length line)))
+  pub reads : (file time action : ℕ) → P (Some (Call (Read file time action) (length line)))
+  pub tests : (action : ℕ) → P (Some (Call (Test action) (length line)))
+  pub commits : (action : ℕ) → P (Some (Call (Commit action) (length line)))
+  pub aborts : (action : ℕ) → P (Some (Call (Abort action) (length line)))
   -- the text of a write runs to the line's end, and its start fits 64 bits
-  pub writes : (file start action from : ℕ) → start < 2 ^ 64 → from ≤ length line → is_text (drop from line) ≡ true → P (Call (Write file start action) from)
+  pub writes : (file start action from : ℕ) → start < 2 ^ 64 → from ≤ length line → is_text (drop from line) ≡ true → P (Some (Call (Write file start action) from))
 
-unread : {x : ℕ} → Not ≡ Is x → ⊥
+unread : {x : ℕ} → None ≡ Some x → ⊥
 unread e = let z : ◌≡◌ {A = ℕ} 0 1 = cc in omega arith
 
 -- a number that was read is below 2^64
-below : (w : List ℕ) (x : ℕ) → number_of w ≡ Is x → x < 2 ^ 64
+below : (w : List ℕ) (x : ℕ) → number_of w ≡ Some x → x < 2 ^ 64
 unfolding number_of
 below w x e = go (ltb 0 (length w) && digits w) (ltb (value_from 0 w) (2 ^ 64)) refl e
   where
-    go : (a b : Bool) → ltb (value_from 0 w) (2 ^ 64) ≡ b → cond (a && b) (Is (value_from 0 w)) Not ≡ Is x → x < 2 ^ 64
+    go : (a b : Bool) → ltb (value_from 0 w) (2 ^ 64) ≡ b → cond (a && b) (Some (value_from 0 w)) None ≡ Some x → x < 2 ^ 64
     go true true h e = let z : value_from 0 w ≡ x = cc in omega (arith, ltb-true (value_from 0 w) (2 ^ 64) h)
     go true false h e = absurd (unread e)
     go false b h e = absurd (unread e)
 
-module _ (line : List ℕ) (P : Command → Type 0) (ways : Ways line P) where
-  by_one : (w : List ℕ) (a : Number) → P (with_one (length line) w a)
+module _ (line : List ℕ) (P : Option Command → Type 0) (ways : Ways line P) where
+  by_one : (w : List ℕ) (a : Option ℕ) → P (with_one (length line) w a)
   unfolding with_one
-  by_one w Not = ways.what
-  by_one w (Is n) =
+  by_one w None = ways.what
+  by_one w (Some n) =
       by_test P (same w test_name) (λ _. ways.tests n) (λ _.
       by_test P (same w commit_name) (λ _. ways.commits n) (λ _.
       by_test P (same w abort_name) (λ _. ways.aborts n) (λ _.
       by_test P (same w cut_name && leb n 64) (λ _. ways.cuts n) (λ _. ways.what))))
 
-  by_two : (w : List ℕ) (a b : Number) → P (with_two w a b)
+  by_two : (w : List ℕ) (a b : Option ℕ) → P (with_two w a b)
   unfolding with_two
-  by_two w (Is a) (Is b) = by_test P (same w open_name) (λ _. ways.opens a b) (λ _. ways.what)
-  by_two w (Is a) Not = ways.what
-  by_two w Not b = ways.what
+  by_two w (Some a) (Some b) = by_test P (same w open_name) (λ _. ways.opens a b) (λ _. ways.what)
+  by_two w (Some a) None = ways.what
+  by_two w None b = ways.what
 
-  by_three : (w : List ℕ) (m : Numbers) → P (with_three (length line) w m)
+  by_three : (w : List ℕ) (m : Option (ℕ × ℕ × ℕ)) → P (with_three (length line) w m)
   unfolding with_three
-  by_three w (Are a b c) = by_test P (same w read_name) (λ _. ways.reads a b c) (λ _. ways.what)
-  by_three w Unread = ways.what
+  by_three w (Some (a, b, c)) = by_test P (same w read_name) (λ _. ways.reads a b c) (λ _. ways.what)
+  by_three w None = ways.what
 
-  by_text : (w t : List ℕ) (a b c : Number) → ((x : ℕ) → b ≡ Is x → x < 2 ^ 64) → length t ≤ length line → drop (length line - length t) line ≡ t
+  by_text : (w t : List ℕ) (a b c : Option ℕ) → ((x : ℕ) → b ≡ Some x → x < 2 ^ 64) → length t ≤ length line → drop (length line - length t) line ≡ t
       → P (with_text (length line) w (three a b c) t)
   unfolding with_text three
-  by_text w t (Is a) (Is b) (Is c) f h e =
+  by_text w t (Some a) (Some b) (Some c) f h e =
       by_test P (same w write_name && is_text t)
       (λ k. ways.writes a b c (length line - length t) (f b refl) (omega arith) (rw e (and_true (same w write_name) (is_text t) k).1)) (λ _. ways.what)
-  by_text w t (Is a) (Is b) Not f h e = ways.what
-  by_text w t (Is a) Not c f h e = ways.what
-  by_text w t Not b c f h e = ways.what
+  by_text w t (Some a) (Some b) None f h e = ways.what
+  by_text w t (Some a) None c f h e = ways.what
+  by_text w t None b c f h e = ways.what
 
   by_words : (ws : List (List ℕ)) → words line ≡ ws → P (command_of (length line) ws)
   unfolding command_of alone
@@ -137,4 +134,4 @@ module _ (line : List ℕ) (P : Command → Type 0) (ways : Ways line P) where
 
   pub every_line : P (parsed line)
   unfolding parsed
-  every_line = by_test P (ltb 255 (length line)) {x = What} {y = command_of (length line) (words line)} (λ _. ways.what) (λ _. by_words (words line) refl)
+  every_line = by_test P (ltb 255 (length line)) {x = None} {y = command_of (length line) (words line)} (λ _. ways.what) (λ _. by_words (words line) refl)

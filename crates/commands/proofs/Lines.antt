@@ -1,33 +1,46 @@
 -- The words of a line, found by walking it. Assumes nothing.
 use Prim.Native.Nat.{ℕ, zero, suc, ◌+◌, ◌-◌, ◌≤◌, ◌<◌}
 use mathlib.Core.Path.{◌≡◌, refl, sym, ap, ◌∙◌}
-use mathlib.Core.Bool.{Bool, true, false, cond}
+use mathlib.Core.Bool.{Bool, true, false, ◌&&◌, not, cond}
 use mathlib.Core.List.{List, [], ◌∷◌}
 use native.Mathlib.Omega.{arith}
-use native.Mathlib.Numerals.{add-one}
-use borrow.Author.Tests.{eq-eqb, ne_eqb, le-leb, lt-leb, lt-ltb}
-use lib.Dec.{eqb, ltb}
+use Rattle.std.proofs.Common.{Some, None, unwrap_or}
+use Rattle.std.specs.List.{list_all, position, position_or_len, count_by}
+use Rattle.std.proofs.lemmas.List.Sums.{sum_by-cons}
+use borrow.Author.Tests.{ltb-false}
+use lib.Dec.{eqb, ltb, leb}
 use lib.ListN.{length, take, drop, get_or, drop_of_length-le}
-use lib.Seq.{drop-cons, drop-drop}
-use Rattle.encoding.specs.Bytes.{same}
-use Rattle.encoding.proofs.Logic.{is_false, and_false}
-use Rattle.encoding.proofs.Numbers.{same_true}
-use Rattle.commands.specs.Commands.{words, longer, printable, is_text}
+use lib.Seq.{drop-drop}
+use Rattle.commands.specs.Commands.{words, longer, printable}
 use Rattle.commands.specs.ParseSteps.{space_at}
 
 -- ---- the next space
 
-pub space_here : (s : List ℕ) (i : ℕ) → i < length s → get_or s i 0 ≡ 32 → space_at (drop i s) ≡ 0
+space_first : (s : List ℕ) → position_or_len (λ b. eqb b 32) s ≡ space_at s
 unfolding space_at
-space_here s i h e = rw (drop-cons s i 0 h, e)
+space_first [] = refl
+space_first (b ∷ s) = go (eqb b 32) (space_first s)
+  where
+    go : (t : Bool) → position_or_len (λ b. eqb b 32) s ≡ space_at s → cond (not t) (1 + position_or_len (λ b. eqb b 32) s) 0 ≡ cond t 0 (suc (space_at s))
+    go true e = refl
+    go false e = omega arith
 
-pub space_later : (s : List ℕ) (i : ℕ) → i < length s → (get_or s i 0 ≡ 32 → ⊥) → i + space_at (drop i s) ≡ i + 1 + space_at (drop (i + 1) s)
+space_within : (s : List ℕ) → space_at s ≤ length s
 unfolding space_at
-space_later s i h e = rw (add-one, drop-cons s i 0 h, ne_eqb (get_or s i 0) 32 e) (omega arith)
+space_within [] = omega arith
+space_within (b ∷ s) = go (eqb b 32) (space_within s)
+  where
+    go : (t : Bool) → space_at s ≤ length s → cond t 0 (suc (space_at s)) ≤ suc (length s)
+    go true h = omega arith
+    go false h = omega arith
 
-pub space_none : (s : List ℕ) (i : ℕ) → length s ≤ i → space_at (drop i s) ≡ 0
-unfolding space_at
-space_none s i h = rw (drop_of_length-le s {i = i} h)
+-- as `position` finds it
+pub space_found : (s : List ℕ) → unwrap_or (position (λ b. eqb b 32) s) (length s) ≡ space_at s
+space_found s = ap (λ n. unwrap_or (cond (ltb n (length s)) (Some n) None) (length s)) (space_first s) ∙ go (ltb (space_at s) (length s)) refl
+  where
+    go : (t : Bool) → ltb (space_at s) (length s) ≡ t → unwrap_or (cond t (Some (space_at s)) None) (length s) ≡ space_at s
+    go true e = refl
+    go false e = omega (arith, space_within s, ltb-false (space_at s) (length s) e)
 
 pub past_space : (s : List ℕ) (from r : ℕ) → r ≡ from + space_at (drop from s) → drop (r + 1) s ≡ drop (suc (space_at (drop from s))) (drop from s)
 past_space s from r e =
@@ -39,37 +52,22 @@ past_end s from r e h =
     drop_of_length-le s {i = r} h
     ∙ sym (drop-drop (suc (space_at (drop from s))) from s ∙ drop_of_length-le s {i = from + suc (space_at (drop from s))} (omega arith))
 
--- ---- equal runs
-
-pub same_lengths : (s t : List ℕ) → (length s ≡ length t → ⊥) → same s t ≡ false
-same_lengths s t h = is_false (same s t) (λ e. h (ap length (same_true s t e)))
-
-pub same_turn : (s t : List ℕ) (i : ℕ) → i < length s → i < length t → get_or s i 0 ≡ get_or t i 0 → same (drop i s) (drop i t) ≡ same (drop (i + 1) s) (drop (i + 1) t)
-same_turn s t i h k e = rw (add-one, drop-cons s i 0 h, drop-cons t i 0 k, eq-eqb (get_or s i 0) (get_or t i 0) e)
-
-pub same_stop : (s t : List ℕ) (i : ℕ) → i < length s → i < length t → (get_or s i 0 ≡ get_or t i 0 → ⊥) → same (drop i s) (drop i t) ≡ false
-same_stop s t i h k e = rw (drop-cons s i 0 h, drop-cons t i 0 k, ne_eqb (get_or s i 0) (get_or t i 0) e)
-
-pub same_end : (s t : List ℕ) (i : ℕ) → length s ≤ i → length t ≤ i → same (drop i s) (drop i t) ≡ true
-same_end s t i h k = rw (drop_of_length-le s {i = i} h, drop_of_length-le t {i = i} k)
-
 -- ---- words
-
-pub more_words : (s : List ℕ) (i : ℕ) → i < length s → get_or s i 0 ≡ 32 → length (words (drop i s)) ≡ 1 + length (words (drop (i + 1) s))
-unfolding words
-more_words s i h e = rw (add-one, drop-cons s i 0 h, e) (omega arith)
 
 pub longer_length : (b : ℕ) (ws : List (List ℕ)) → length (longer b ws) ≡ length ws
 longer_length b [] = refl
 longer_length b (w ∷ ws) = refl
 
-pub same_words : (s : List ℕ) (i : ℕ) → i < length s → (get_or s i 0 ≡ 32 → ⊥) → length (words (drop i s)) ≡ length (words (drop (i + 1) s))
+-- one more than the spaces
+pub words_counted : (s : List ℕ) → length (words s) ≡ 1 + count_by (λ b. eqb b 32) s
 unfolding words
-same_words s i h e = rw (add-one, drop-cons s i 0 h, ne_eqb (get_or s i 0) 32 e) (longer_length (get_or s i 0) (words (drop (suc i) s)))
-
-pub one_word : (s : List ℕ) (i : ℕ) → length s ≤ i → length (words (drop i s)) ≡ 1
-unfolding words
-one_word s i h = rw (drop_of_length-le s {i = i} h)
+words_counted [] = refl
+words_counted (b ∷ s) = rw (sum_by-cons (λ b. cond (eqb b 32) 1 0) b s) (go (eqb b 32) (words_counted s))
+  where
+    go : (t : Bool) → length (words s) ≡ 1 + count_by (λ b. eqb b 32) s
+        → length (cond t ([] ∷ words s) (longer b (words s))) ≡ 1 + (cond t 1 0 + count_by (λ b. eqb b 32) s)
+    go true e = omega (arith, e)
+    go false e = omega (arith, e, longer_length b (words s))
 
 pub longer_some : (b : ℕ) (ws : List (List ℕ)) → 0 < length ws → get_or (longer b ws) 0 [] ≡ b ∷ get_or ws 0 []
 longer_some b [] h = absurd (omega arith)
@@ -123,22 +121,6 @@ word_part line k from to e f =
 
 -- ---- texts
 
-pub text_turn : (w : List ℕ) (i b : ℕ) → i < length w → b ≡ get_or w i 0 → 33 ≤ b → b ≤ 126 → printable (drop i w) ≡ printable (drop (i + 1) w)
-text_turn w i b h e low high = rw (add-one, drop-cons w i 0 h, ← e, le-leb 33 b low, le-leb b 126 high)
-
-pub text_low : (w : List ℕ) (i b : ℕ) → i < length w → b ≡ get_or w i 0 → b < 33 → printable w ≡ printable (drop i w) → is_text w ≡ false
-unfolding is_text
-text_low w i b h e low f = and_false (ltb 0 (length w)) (printable w) (f ∙ rw (drop-cons w i 0 h, ← e, lt-leb 33 b low))
-
-pub text_high : (w : List ℕ) (i b : ℕ) → i < length w → b ≡ get_or w i 0 → 33 ≤ b → 126 < b → printable w ≡ printable (drop i w) → is_text w ≡ false
-unfolding is_text
-text_high w i b h e low high f = and_false (ltb 0 (length w)) (printable w) (f ∙ rw (drop-cons w i 0 h, ← e, le-leb 33 b low, lt-leb b 126 high))
-
-pub text_end : (w : List ℕ) (i : ℕ) → 0 < length w → length w ≤ i → printable w ≡ printable (drop i w) → is_text w ≡ true
-unfolding is_text
-text_end w i h k f = rw (lt-ltb 0 (length w) h, f, drop_of_length-le w {i = i} k)
-
-pub no_text : (w : List ℕ) → length w ≡ 0 → is_text w ≡ false
-unfolding is_text
-no_text [] e = refl
-no_text (b ∷ w) e = absurd (omega arith)
+pub printable_all : (w : List ℕ) → list_all (λ b. leb 33 b && leb b 126) w ≡ printable w
+printable_all [] = refl
+printable_all (b ∷ w) = ap (λ t. leb 33 b && leb b 126 && t) (printable_all w)

@@ -1,4 +1,5 @@
 -- A word read as a number, digit by digit. Assumes nothing.
+use Rattle.std.proofs.Common.{Some, None}
 use Prim.Native.Nat.{ℕ, suc, ◌+◌, ◌*◌, ◌-◌, ◌^◌, ◌≤◌, ◌<◌}
 use mathlib.Core.Path.{◌≡◌, refl, sym, ◌∙◌}
 use mathlib.Core.Bool.{Bool, true, false, ◌&&◌, cond}
@@ -10,7 +11,6 @@ use lib.Dec.{ltb, leb}
 use lib.ListN.{length, drop, get_or}
 use lib.Seq.{drop-cons}
 use Rattle.encoding.proofs.Logic.{and_true, is_false, clash}
-use Rattle.commands.specs.declared.parsing.Number.TheVariants.{Is, Not}
 use Rattle.commands.specs.Commands.{digits, value_from, number_of}
 use Rattle.commands.specs.ParseSteps.{add_digit}
 
@@ -23,22 +23,22 @@ pub record Digit (n b m : ℕ) : Type 0 where
   pub more : m ≡ 10 * n + (b - 48)
   pub small : m < 2 ^ 64
 
-pub digit_is : (n b m : ℕ) → add_digit n b ≡ Is m → Digit n b m
+pub digit_is : (n b m : ℕ) → add_digit n b ≡ Some m → Digit n b m
 unfolding add_digit
 digit_is n b m = go (is_digit b && ltb (10 * n + (b - 48)) (2 ^ 64)) refl
   where
-    go : (t : Bool) → (is_digit b && ltb (10 * n + (b - 48)) (2 ^ 64)) ≡ t → cond t (Is (10 * n + (b - 48))) Not ≡ Is m → Digit n b m
+    go : (t : Bool) → (is_digit b && ltb (10 * n + (b - 48)) (2 ^ 64)) ≡ t → cond t (Some (10 * n + (b - 48))) None ≡ Some m → Digit n b m
     go true e f =
         let h = and_true (is_digit b) (ltb (10 * n + (b - 48)) (2 ^ 64)) e in
         let eq : m ≡ 10 * n + (b - 48) = cc in
         record { digit = h.0; more = eq; small = omega (arith, ltb-true (10 * n + (b - 48)) (2 ^ 64) h.1) }
     go false e f = clash cc
 
-no_digit : (n b : ℕ) → add_digit n b ≡ Not → (is_digit b && ltb (10 * n + (b - 48)) (2 ^ 64)) ≡ false
+no_digit : (n b : ℕ) → add_digit n b ≡ None → (is_digit b && ltb (10 * n + (b - 48)) (2 ^ 64)) ≡ false
 unfolding add_digit
 no_digit n b = go (is_digit b && ltb (10 * n + (b - 48)) (2 ^ 64)) refl
   where
-    go : (t : Bool) → (is_digit b && ltb (10 * n + (b - 48)) (2 ^ 64)) ≡ t → cond t (Is (10 * n + (b - 48))) Not ≡ Not → (is_digit b && ltb (10 * n + (b - 48)) (2 ^ 64)) ≡ false
+    go : (t : Bool) → (is_digit b && ltb (10 * n + (b - 48)) (2 ^ 64)) ≡ t → cond t (Some (10 * n + (b - 48))) None ≡ None → (is_digit b && ltb (10 * n + (b - 48)) (2 ^ 64)) ≡ false
     go true e f = clash cc
     go false e f = e
 
@@ -53,7 +53,7 @@ pub record Reading (w : List ℕ) (i n : ℕ) : Type 0 where
   pub value : value_from 0 w ≡ value_from n (drop i w)
   pub small : n < 2 ^ 64
 
-pub reading_turn : (w : List ℕ) (i n m b : ℕ) → i < length w → b ≡ get_or w i 0 → add_digit n b ≡ Is m → Reading w i n → Reading w (i + 1) m
+pub reading_turn : (w : List ℕ) (i n m b : ℕ) → i < length w → b ≡ get_or w i 0 → add_digit n b ≡ Some m → Reading w i n → Reading w (i + 1) m
 reading_turn w i n m b h e f r =
     let d = digit_is n b m f in
     let digit : is_digit (get_or w i 0) ≡ true = rw (← e) d.digit in
@@ -64,7 +64,7 @@ reading_turn w i n m b h e f r =
       small = d.small;
     }
 
-pub reading_stop : (w : List ℕ) (i n b : ℕ) → i < length w → b ≡ get_or w i 0 → add_digit n b ≡ Not → Reading w i n → number_of w ≡ Not
+pub reading_stop : (w : List ℕ) (i n b : ℕ) → i < length w → b ≡ get_or w i 0 → add_digit n b ≡ None → Reading w i n → number_of w ≡ None
 unfolding number_of
 reading_stop w i n b h e f r = rw (go (is_digit b) refl)
   where
@@ -83,7 +83,7 @@ reading_stop w i n b h e f r = rw (go (is_digit b) refl)
         let no : digits w ≡ false = step ∙ rw t in
         is_false _ (λ z. mathlib.Core.Bool.false≢true (sym no ∙ (and_true (ltb 0 (length w)) (digits w) (and_true (ltb 0 (length w) && digits w) _ z).0).1))
 
-pub reading_end : (w : List ℕ) (i n : ℕ) → 0 < length w → length w ≤ i → Reading w i n → Is n ≡ number_of w
+pub reading_end : (w : List ℕ) (i n : ℕ) → 0 < length w → length w ≤ i → Reading w i n → Some n ≡ number_of w
 unfolding number_of
 reading_end w i n h k r =
     let none : drop i w ≡ [] = lib.ListN.drop_of_length-le w {i = i} k in
@@ -91,7 +91,7 @@ reading_end w i n h k r =
     let value : value_from 0 w ≡ n = r.value ∙ rw none in
     simp (lt-ltb 0 (length w) h, all, value, lt-ltb n (2 ^ 64) r.small)
 
-pub empty_word : (w : List ℕ) → length w ≡ 0 → Not ≡ number_of w
+pub empty_word : (w : List ℕ) → length w ≡ 0 → None ≡ number_of w
 unfolding number_of
 empty_word [] e = refl
 empty_word (b ∷ w) e = absurd (omega arith)

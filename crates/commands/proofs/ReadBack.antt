@@ -1,4 +1,5 @@
 -- A number that is printed is read as the same number. Assumes nothing.
+use Rattle.std.proofs.Common.{Some}
 use Prim.Native.Nat.{ℕ, zero, suc, ◌+◌, ◌*◌, ◌-◌, ◌/◌, ◌%◌, ◌^◌, ◌<◌}
 use mathlib.Core.Path.{◌≡◌, refl}
 use mathlib.Core.Bool.{Bool, true, false, ◌&&◌, cond}
@@ -8,7 +9,6 @@ use native.Mathlib.Nat.{pow-succ'}
 use borrow.Author.Tests.{lt-ltb, le-leb, ltb-true}
 use lib.Dec.{ltb, leb}
 use lib.ListN.{length, length-append}
-use Rattle.commands.specs.declared.parsing.Number.TheVariants.{Is}
 use Rattle.commands.specs.Commands.{digits, value_from, number_of}
 use Rattle.commands.specs.Replies.{digits_of, decimal}
 
@@ -46,7 +46,7 @@ reads (suc n) x h =
       value = omega (arith, value_more 0 (digits_of n (x / 10)) (x % 10), r.value);
     }
 
-pub read_back : (x : ℕ) → x < 2 ^ 64 → number_of (decimal x) ≡ Is x
+pub read_back : (x : ℕ) → x < 2 ^ 64 → number_of (decimal x) ≡ Some x
 unfolding number_of decimal
 read_back x h =
     let r = reads 19 x (omega arith) in

@@ -1,10 +1,11 @@
 -- Lines and their commands, replies and their lines, worked out by evaluation. Assumes nothing.
+use Rattle.std.proofs.Common.{Option, Some, None}
 use Prim.Native.Nat.{ℕ, ◌-◌, ◌^◌}
 use mathlib.Core.Path.{◌≡◌, refl}
 use mathlib.Core.List.{List, [], ◌∷◌, ◌++◌, map}
 use lib.ListN.{replicate}
 use Rattle.commands.specs.declared.parsing.Command.{Command}
-use Rattle.commands.specs.declared.parsing.Command.TheVariants.{What, BareOpen, Open, Cut, Call}
+use Rattle.commands.specs.declared.parsing.Command.TheVariants.{BareOpen, Open, Cut, Call}
 use Rattle.calls.specs.declared.asking.Call.TheVariants.{Begin, Write, Read, Test}
 use Rattle.commands.specs.declared.printing.Reply as reply
 use Rattle.commands.specs.Names.{open_name, begin_name, write_name, read_name, test_name, commit_name, abort_name, cut_name, no_name}
@@ -37,11 +38,11 @@ lines =
     ∷ (cut_name ++ spaced 65)
     ∷ []
 
-abbrev commands : List Command
+abbrev commands : List (Option Command)
 commands =
-    BareOpen ∷ What ∷ Open 8 5 ∷ What ∷ What ∷ Call Begin 5 ∷ What
-    ∷ Call (Write 3 10 1) 13 ∷ What ∷ What ∷ Call (Write 1 1 1) 12 ∷ What
-    ∷ Call (Read 3 10 0) 11 ∷ Call (Test 4) 8 ∷ Call (Test (2 ^ 64 - 1)) 25 ∷ What ∷ Cut 64 ∷ What ∷ []
+    Some BareOpen ∷ None ∷ Some (Open 8 5) ∷ None ∷ None ∷ Some (Call Begin 5) ∷ None
+    ∷ Some (Call (Write 3 10 1) 13) ∷ None ∷ None ∷ Some (Call (Write 1 1 1) 12) ∷ None
+    ∷ Some (Call (Read 3 10 0) 11) ∷ Some (Call (Test 4) 8) ∷ Some (Call (Test (2 ^ 64 - 1)) 25) ∷ None ∷ Some (Cut 64) ∷ None ∷ []
 
 pub commands_of_lines : map parsed lines ≡ commands
 unfolding words number_of three is_text alone with_one with_two with_three with_text command_of parsed decimal spaced open_name begin_name write_name read_name test_name commit_name abort_name cut_name

@@ -1,14 +1,10 @@
 -- The lines that the command program takes, and the command that each one is (docs/STORE.md, The command language).
-use Rattle.std.specs.Prelude.{ℕ, ◌+◌, ◌*◌, ◌-◌, ◌^◌, List, [], ◌∷◌, Bool, true, ◌&&◌, cond, length, eqb, ltb, leb}
+use Rattle.std.specs.Prelude.{ℕ, ◌+◌, ◌*◌, ◌-◌, ◌^◌, List, [], ◌∷◌, Bool, true, ◌&&◌, cond, length, eqb, ltb, leb, Option, Some, None}
 use Rattle.page.specs.Layout.{page_size}
 use Rattle.encoding.specs.Bytes.{same}
 use Rattle.calls.specs.declared.asking.Call.TheVariants.{Begin, Write, Read, Test, Commit, Abort}
 use Rattle.commands.specs.declared.parsing.Command.{Command}
-use Rattle.commands.specs.declared.parsing.Command.TheVariants.{What, BareOpen, Open, Cut, Call}
-use Rattle.commands.specs.declared.parsing.Number.{Number}
-use Rattle.commands.specs.declared.parsing.Number.TheVariants.{Is, Not}
-use Rattle.commands.specs.declared.parsing.Numbers.{Numbers}
-use Rattle.commands.specs.declared.parsing.Numbers.TheVariants.{Are, Unread}
+use Rattle.commands.specs.declared.parsing.Command.TheVariants.{BareOpen, Open, Cut, Call}
 use Rattle.commands.specs.Names.{open_name, begin_name, write_name, read_name, test_name, commit_name, abort_name, cut_name}
 
 -- a byte put in front of the first word
@@ -32,15 +28,15 @@ value_from n [] = n
 value_from n (b ∷ s) = value_from (10 * n + (b - 48)) s
 
 -- a word as a number: one or more digits, of a value below 2^64
-unfoldable pub number_of : List ℕ → Number
-number_of w = cond (ltb 0 (length w) && digits w && ltb (value_from 0 w) (2 ^ 64)) (Is (value_from 0 w)) Not
+unfoldable pub number_of : List ℕ → Option ℕ
+number_of w = cond (ltb 0 (length w) && digits w && ltb (value_from 0 w) (2 ^ 64)) (Some (value_from 0 w)) None
 
 -- three words as numbers
-unfoldable pub three : Number → Number → Number → Numbers
-three (Is a) (Is b) (Is c) = Are a b c
-three (Is a) (Is b) Not = Unread
-three (Is a) Not c = Unread
-three Not b c = Unread
+unfoldable pub three : Option ℕ → Option ℕ → Option ℕ → Option (ℕ × ℕ × ℕ)
+three (Some a) (Some b) (Some c) = Some (a, b, c)
+three (Some a) (Some b) None = None
+three (Some a) None c = None
+three None b c = None
 
 -- every byte lies from 0x21 to 0x7E
 abbrev pub printable : List ℕ → Bool
@@ -55,47 +51,47 @@ is_text w = ltb 0 (length w) && printable w
 -- the other calls the line's length
 
 -- `open`, `begin`
-unfoldable pub alone : ℕ → List ℕ → Command
-alone size w = cond (same w open_name) BareOpen (cond (same w begin_name) (Call Begin size) What)
+unfoldable pub alone : ℕ → List ℕ → Option Command
+alone size w = cond (same w open_name) (Some BareOpen) (cond (same w begin_name) (Some (Call Begin size)) None)
 
 -- `test A`, `commit A`, `abort A`, `cut N`
-unfoldable pub with_one : ℕ → List ℕ → Number → Command
-with_one size w (Is n) =
-    cond (same w test_name) (Call (Test n) size)
-    (cond (same w commit_name) (Call (Commit n) size)
-    (cond (same w abort_name) (Call (Abort n) size)
-    (cond (same w cut_name && leb n page_size) (Cut n) What)))
-with_one size w Not = What
+unfoldable pub with_one : ℕ → List ℕ → Option ℕ → Option Command
+with_one size w (Some n) =
+    cond (same w test_name) (Some (Call (Test n) size))
+    (cond (same w commit_name) (Some (Call (Commit n) size))
+    (cond (same w abort_name) (Some (Call (Abort n) size))
+    (cond (same w cut_name && leb n page_size) (Some (Cut n)) None)))
+with_one size w None = None
 
 -- `open FILES FLOOR`
-unfoldable pub with_two : List ℕ → Number → Number → Command
-with_two w (Is a) (Is b) = cond (same w open_name) (Open a b) What
-with_two w (Is a) Not = What
-with_two w Not b = What
+unfoldable pub with_two : List ℕ → Option ℕ → Option ℕ → Option Command
+with_two w (Some a) (Some b) = cond (same w open_name) (Some (Open a b)) None
+with_two w (Some a) None = None
+with_two w None b = None
 
 -- `read FILE TIME ACTION`
-unfoldable pub with_three : ℕ → List ℕ → Numbers → Command
-with_three size w (Are a b c) = cond (same w read_name) (Call (Read a b c) size) What
-with_three size w Unread = What
+unfoldable pub with_three : ℕ → List ℕ → Option (ℕ × ℕ × ℕ) → Option Command
+with_three size w (Some (a, b, c)) = cond (same w read_name) (Some (Call (Read a b c) size)) None
+with_three size w None = None
 
 -- `write FILE START ACTION TEXT`, where the text ends the line
-unfoldable pub with_text : ℕ → List ℕ → Numbers → List ℕ → Command
-with_text size w (Are a b c) t = cond (same w write_name && is_text t) (Call (Write a b c) (size - length t)) What
-with_text size w Unread t = What
+unfoldable pub with_text : ℕ → List ℕ → Option (ℕ × ℕ × ℕ) → List ℕ → Option Command
+with_text size w (Some (a, b, c)) t = cond (same w write_name && is_text t) (Some (Call (Write a b c) (size - length t))) None
+with_text size w None t = None
 
-unfoldable pub command_of : ℕ → List (List ℕ) → Command
-command_of size [] = What
+unfoldable pub command_of : ℕ → List (List ℕ) → Option Command
+command_of size [] = None
 command_of size (w ∷ []) = alone size w
 command_of size (w ∷ a ∷ []) = with_one size w (number_of a)
 command_of size (w ∷ a ∷ b ∷ []) = with_two w (number_of a) (number_of b)
 command_of size (w ∷ a ∷ b ∷ c ∷ []) = with_three size w (three (number_of a) (number_of b) (number_of c))
 command_of size (w ∷ a ∷ b ∷ c ∷ t ∷ []) = with_text size w (three (number_of a) (number_of b) (number_of c)) t
-command_of size (w ∷ a ∷ b ∷ c ∷ t ∷ x ∷ ws) = What
+command_of size (w ∷ a ∷ b ∷ c ∷ t ∷ x ∷ ws) = None
 
 -- the longest line that is taken
 abbrev pub longest : ℕ
 longest = 255
 
 -- the command that a line is; a longer one is none
-unfoldable pub parsed : List ℕ → Command
-parsed line = cond (ltb longest (length line)) What (command_of (length line) (words line))
+unfoldable pub parsed : List ℕ → Option Command
+parsed line = cond (ltb longest (length line)) None (command_of (length line) (words line))

@@ -1,8 +1,9 @@
 -- What the functions for C leave, in the shape of their contracts.
-use Prim.Native.Nat.{ℕ, ◌≤◌}
-use mathlib.Core.Path.{◌≡◌, sym, ap, ap₂, subst, ◌∙◌}
+use Prim.Native.Nat.{ℕ}
+use mathlib.Core.Path.{◌≡◌, sym, ap, ap₂, ◌∙◌}
 use mathlib.Core.List.{List}
 use mathlib.Core.Bool.{cond}
+use Rattle.std.proofs.Common.{Result}
 use lib.ListN.{length}
 use lib.Dec.{eqb}
 use borrow.Author.Tests.{eq-eqb, ne_eqb}
@@ -16,10 +17,7 @@ use Rattle.inspection.specs.declared.InspectError.{InspectError}
 use Rattle.std.specs.Prelude.{Result}
 use Rattle.inspection.specs.Inspected.{inspected, inspect_number, inspect_place}
 use Rattle.weeks.specs.declared.Refusal.{Refusal}
-use Rattle.weeks.specs.declared.WeekTest.{WeekTest}
-use Rattle.weeks.specs.declared.Conversion.{Conversion}
-use Rattle.weeks.specs.Editions.{days_a_week}
-use Rattle.weeks.specs.Answers.{week_test, converted, refusal_day, test_code, conversion_code}
+use Rattle.weeks.specs.Answers.{week_test, converted, test_code, conversion_code}
 use Rattle.desk.specs.Exports.{field_count, numbered, packed_for, fields_given, tested_for, refusal_number, inspected_for, week_tested_for, converted_for}
 
 -- ---- the page test
@@ -66,20 +64,11 @@ inspect_told s files a v e h = ap told (sym h ∙ e)
 
 -- ---- weeks
 
--- the day of the same refusal
-pub same_day : {a v : Refusal} → a ≡ v → refusal_day a ≤ days_a_week → refusal_day v ≤ days_a_week
-same_day e h = subst (λ (r : Refusal). refusal_day r ≤ days_a_week) e h
-
-pub week_told : (s : List ℕ) (a v : WeekTest) → a ≡ week_test s → a ≡ v → test_code v ≡ week_tested_for s
+pub week_told : (s : List ℕ) (a v : Result ℕ Refusal) → a ≡ week_test s → a ≡ v → test_code v ≡ week_tested_for s
 unfolding week_tested_for
 week_told s a v e h = ap test_code (sym h ∙ e)
 
-pub convert_answer : (s : List ℕ) (m : ℕ) (out left : List ℕ) {a v : Conversion} → ◌≡◌ {A = Conversion × List ℕ} (a, left) (converted s m out) → a ≡ v
-    → (converted s m out).0 ≡ v
-convert_answer s m out left e h = sym (ap (λ (r : Conversion × List ℕ). r.0) e) ∙ h
-
-pub convert_told : (s : List ℕ) (m : ℕ) (out left : List ℕ) (a v : Conversion) → ◌≡◌ {A = Conversion × List ℕ} (a, left) (converted s m out) → a ≡ v
-    → {n : ℕ} → n ≡ conversion_code v → ◌≡◌ {A = ℕ × List ℕ} (n, left) (converted_for s m out)
+pub convert_told : (s : List ℕ) (m : ℕ) (out left : List ℕ) (a v : Result (Unit {0}) Refusal) → ◌≡◌ {A = Result (Unit {0}) Refusal × List ℕ} (a, left) (converted s m out)
+    → a ≡ v → {n : ℕ} → n ≡ conversion_code v → ◌≡◌ {A = ℕ × List ℕ} (n, left) (converted_for s m out)
 unfolding converted_for
-convert_told s m out left a v e h i =
-    ap₂ (λ (k : ℕ) (t : List ℕ). (k, t)) (i ∙ ap conversion_code (sym (convert_answer s m out left e h))) (ap (λ (r : Conversion × List ℕ). r.1) e)
+convert_told s m out left a v e h i = ap₂ (λ (k : ℕ) (t : List ℕ). (k, t)) (i ∙ ap conversion_code (sym h) ∙ ap (λ x. conversion_code x.0) e) (ap (λ x. x.1) e)

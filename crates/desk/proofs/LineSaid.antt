@@ -1,4 +1,5 @@
 -- A line of input: what its command does, and the bytes of its reply. Assumes nothing.
+use Rattle.std.proofs.Common.{Option}
 use Prim.Native.Nat.{ℕ, zero, suc, ◌-◌, ◌*◌, min, ◌≤◌}
 use mathlib.Core.Path.{◌≡◌, sym, ap, ◌∙◌}
 use mathlib.Core.List.{List, [], ◌∷◌, ◌++◌}
@@ -91,7 +92,7 @@ open_files d e = (is_file_lem most_files d.files (and_true d.on (is_file most_fi
 -- ---- a line
 
 -- what its command leaves is what the conversation says of it
-pub line_by : (d : Desk) (s fates rows line : List ℕ) (c v : Command) (x : After) → c ≡ parsed line → c ≡ v → x ≡ conversed d s fates rows v line
+pub line_by : (d : Desk) (s fates rows line : List ℕ) (c v : Option Command) (x : After) → c ≡ parsed line → c ≡ v → x ≡ conversed d s fates rows v line
     → x ≡ conversed d s fates rows (parsed line) line
 line_by d s fates rows line c v x p e q = q ∙ ap (λ y. conversed d s fates rows y line) (sym e ∙ p)
 

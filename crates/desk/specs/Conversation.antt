@@ -1,5 +1,5 @@
 -- What a command does to the desk, and the reply. The calls are those of the store, and a cut leaves what a cut leaves of them.
-use Rattle.std.specs.Prelude.{ℕ, suc, ◌*◌, List, ◌++◌, Bool, true, false, cond, not, ◌&&◌, length, take, drop, eqb, leb}
+use Rattle.std.specs.Prelude.{ℕ, suc, ◌*◌, List, ◌++◌, Bool, true, false, cond, not, ◌&&◌, length, take, drop, eqb, leb, Option, Some, None}
 use Rattle.page.specs.Layout.{page_size, most_files}
 use Rattle.recovery.specs.declared.State.{State}
 use Rattle.recovery.specs.Numbers.{numbers_of, is_refused}
@@ -105,13 +105,13 @@ bare_files = 8
 abbrev pub bare_floor : List ℕ → ℕ
 bare_floor s = highest_start_of s bare_files
 
-abbrev pub conversed : Desk → List ℕ → List ℕ → List ℕ → Command → List ℕ → After
-conversed d s fates rows command.Command.What line = replied reply.Reply.What d s fates rows
-conversed d s fates rows command.Command.BareOpen line = started_for d s fates rows bare_files (bare_floor s)
-conversed d s fates rows (command.Command.Open files floor) line = started_for d s fates rows files floor
-conversed d s fates rows (command.Command.Cut n) line =
+abbrev pub conversed : Desk → List ℕ → List ℕ → List ℕ → Option Command → List ℕ → After
+conversed d s fates rows None line = replied reply.Reply.What d s fates rows
+conversed d s fates rows (Some command.Command.BareOpen) line = started_for d s fates rows bare_files (bare_floor s)
+conversed d s fates rows (Some (command.Command.Open files floor)) line = started_for d s fates rows files floor
+conversed d s fates rows (Some (command.Command.Cut n)) line =
     replied (reply.Reply.Cut n) (record { on = d.on; files = d.files; state = d.state; cut = n }) s fates rows
-conversed d s fates rows (command.Command.Call k from) line = called_for d s fates rows k (drop from line)
+conversed d s fates rows (Some (command.Command.Call k from)) line = called_for d s fates rows k (drop from line)
 
 -- ---- a line of input and the bytes of its reply
 

@@ -1,13 +1,10 @@
 // For the desk in C, to which the crate desk_c gives them: packing, the page test and inspection; the week test and the converter. A slice
 // is a pointer and a count there; any count is taken.
-ghost use Rattle.std.specs.Prelude.{◌≡◌, ◌≤◌, length};
+ghost use Rattle.std.specs.Prelude.{◌≡◌, length};
 ghost use Rattle.page.specs.Answers.{pack_number, field_list};
-ghost use Rattle.weeks.specs.Editions.{days_a_week};
-ghost use Rattle.weeks.specs.Answers.{refusal_day, refusal_code};
 ghost use Rattle.desk.specs.Exports.{field_count, fields_given, packed_for, tested_for, inspected_for, week_tested_for, converted_for};
 
 use page::{PackError, Page, Unpacked};
-use weeks::{Conversion, Refusal, WeekTest};
 
 // The fields from kind to start.
 const FIELDS: usize = 6;
@@ -118,28 +115,13 @@ pub fn desk_inspect(sheet: &[u8], files: u64) -> u64
     }
 }
 
-// A refusal of a week: its number, and the day that it names above the lowest eight bits.
-fn refusal_code(refusal: Refusal) -> u64
-    requires { refusal_day refusal ≤ days_a_week }
-    ensures { result ≡ refusal_code refusal }
-{
-    match refusal {
-        Refusal::Length => 15,
-        Refusal::Times(day) => 16 + 256 * day,
-        Refusal::Minutes(day) => 17 + 256 * day,
-        Refusal::Keyholders => 29,
-        Refusal::StepDown => 30,
-    }
-}
-
 // Tests a week: its edition, or a refusal.
 pub fn desk_week_test(week: &[u8]) -> u64
     ensures { result ≡ week_tested_for week.now }
 {
-    let answer = weeks::week_test(week);
-    match answer {
-        WeekTest::Week(edition) => edition,
-        WeekTest::Refused(refusal) => refusal_code(refusal),
+    match weeks::week_test(week) {
+        Ok(edition) => edition,
+        Err(refusal) => u64::from(refusal),
     }
 }
 
@@ -147,9 +129,8 @@ pub fn desk_week_test(week: &[u8]) -> u64
 pub fn desk_convert(week: &[u8], mask: u16, out: &mut [u8]) -> u64
     ensures { (result, out.new) ≡ converted_for week.now mask out.old }
 {
-    let answer = weeks::convert(week, mask, out);
-    match answer {
-        Conversion::Converted => 0,
-        Conversion::Refused(refusal) => refusal_code(refusal),
+    match weeks::convert(week, mask, out) {
+        Ok(()) => 0,
+        Err(refusal) => u64::from(refusal),
     }
 }

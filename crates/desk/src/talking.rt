@@ -188,9 +188,10 @@ fn converse(sheet: &mut [u8], fates: &mut [u8], rows: &mut [u64], desk: Desk, li
     requires { length rows.old ≡ row_length * most_files }
     ensures { left_after result sheet.new fates.new rows.new ≡ conversed desk sheet.old fates.old rows.old (parsed line.now) line.now }
 {
-    let command = parse(line);
+    let Some(command) = parse(line) else {
+        return only(Reply::What, desk);
+    };
     match command {
-        Command::What => only(Reply::What, desk),
         Command::BareOpen => bare_start(&sheet[..], fates, rows, desk),
         Command::Open(files, floor) => start(&sheet[..], fates, rows, desk, files, floor),
         Command::Cut(n) => only(Reply::Cut(n), with_cut(desk, n)),

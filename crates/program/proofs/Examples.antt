@@ -1,5 +1,6 @@
 -- Document 01's listing as a conversation: it keeps one file count, so it is a run. And short ones, computed: the text that one shows was
 -- typed; a commit that is asked again while a cut waits; what a bare `open` protects from, and what not.
+use Rattle.std.proofs.Common.{Some}
 use Prim.Native.Nat.{ℕ, ◌*◌, ◌<◌}
 use mathlib.Core.Path.{◌≡◌, refl}
 use mathlib.Core.List.{List, [], ◌∷◌, ◌++◌}
@@ -103,7 +104,7 @@ short_keeps : AllKeep 8 short
 unfolding words number_of three is_text alone with_one with_two with_three with_text command_of parsed decimal spaced open_name begin_name write_name read_name test_name commit_name abort_name cut_name
 short_keeps = (refl, (tt, (tt, tt)))
 
-asks_read : parsed (reads 3 10 1) ≡ command.Command.Call (code.Call.Read 3 10 1) 11
+asks_read : parsed (reads 3 10 1) ≡ Some (command.Command.Call (code.Call.Read 3 10 1) 11)
 unfolding words number_of three is_text alone with_one with_two with_three with_text command_of parsed decimal spaced open_name begin_name write_name read_name test_name commit_name abort_name cut_name
 asks_read = refl
 
@@ -147,7 +148,7 @@ begun_keeps : AllKeep 8 begun
 unfolding words number_of three is_text alone with_one with_two with_three with_text command_of parsed decimal spaced open_name begin_name write_name read_name test_name commit_name abort_name cut_name begun
 begun_keeps = (refl, (tt, (tt, tt)))
 
-is_bare : parsed open_name ≡ command.Command.BareOpen
+is_bare : parsed open_name ≡ (Some command.Command.BareOpen)
 unfolding words number_of three is_text alone with_one with_two with_three with_text command_of parsed decimal spaced open_name begin_name write_name read_name test_name commit_name abort_name cut_name
 is_bare = refl
 

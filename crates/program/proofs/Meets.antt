@@ -1,4 +1,5 @@
 -- A line said to the program and the event that it is: they leave the same sheet, and the reply is what the box answers. Assumes nothing.
+use Rattle.std.proofs.Common.{Option, Some, None}
 use Prim.Native.Nat.{ℕ, ◌*◌, ◌/◌, ◌≤◌}
 use mathlib.Core.Path.{◌≡◌, refl, sym, ap, ◌∙◌, subst}
 use mathlib.Core.List.{List, [], ◌++◌}
@@ -197,9 +198,9 @@ waits m b n (met_on o a) = met_on o a
 waits m b n (met_off o) = met_off o
 
 module _ (m : Memory) (s : AllRows m.rows) (b : Box) (h : Met m b) (line : List ℕ) where
-  pub line_steps : (c : Command) → Steps (conversed m.desk m.sheet m.fates m.rows c line) (runs b (events_of m c line)) (reply_heard b m c line)
-  line_steps command.Command.What = record { next = h; rows = s; reply = refl }
-  line_steps command.Command.BareOpen = open_steps m s bare_files (bare_floor m.sheet) b h
-  line_steps (command.Command.Open files floor) = open_steps m s files floor b h
-  line_steps (command.Command.Cut n) = record { next = waits m b n h; rows = s; reply = refl }
-  line_steps (command.Command.Call k from) = call_steps m s k (drop from line) b h
+  pub line_steps : (c : Option Command) → Steps (conversed m.desk m.sheet m.fates m.rows c line) (runs b (events_of m c line)) (reply_heard b m c line)
+  line_steps None = record { next = h; rows = s; reply = refl }
+  line_steps (Some command.Command.BareOpen) = open_steps m s bare_files (bare_floor m.sheet) b h
+  line_steps (Some (command.Command.Open files floor)) = open_steps m s files floor b h
+  line_steps (Some (command.Command.Cut n)) = record { next = waits m b n h; rows = s; reply = refl }
+  line_steps (Some (command.Command.Call k from)) = call_steps m s k (drop from line) b h

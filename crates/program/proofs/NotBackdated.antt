@@ -1,5 +1,6 @@
 -- From a bare `open` on nothing is backdated: its floor stays until the next opening, and the next bare one finds the same images. Shuts out a
 -- program whose floor is 0 after a cut, or goes by the committed images alone, or is passed over while a cut waits. Assumes nothing.
+use Rattle.std.proofs.Common.{Option, Some, None}
 use Prim.Native.Nat.{ℕ, ◌*◌, ◌≤◌, ◌<◌}
 use mathlib.Core.Path.{◌≡◌, refl, sym, ap, ◌∙◌, subst}
 use mathlib.Core.List.{List, [], ◌∷◌, ◌++◌}
@@ -63,7 +64,7 @@ module _ (low : ℕ) where
   abbrev Above : Desk → Type 0
   Above d = d.on ≡ true → low ≤ d.state.floor
 
-  open_above : (m : Memory) (line : List ℕ) → low ≤ bare_floor m.sheet → Above (conversed m.desk m.sheet m.fates m.rows command.Command.BareOpen line).turn.desk
+  open_above : (m : Memory) (line : List ℕ) → low ≤ bare_floor m.sheet → Above (conversed m.desk m.sheet m.fates m.rows (Some command.Command.BareOpen) line).turn.desk
   unfolding started_for opened_for
   open_above m line l h =
       let x : Left = open_leaves m.sheet m.fates (take (row_length * bare_files) m.rows) (bare_floor m.sheet) in
@@ -89,12 +90,12 @@ module _ (low : ℕ) where
 call_stays : (b : Box) (m : Memory) (k : Call) → is_moved b (call_event m k) ≡ false
 call_stays b m k = by_test (λ e. is_moved b e ≡ false) (strikes m k) (λ e. refl) (λ e. refl)
 
-no_move : (b : Box) (m : Memory) (c : Command) (line : List ℕ) → moved_in b (events_of m c line) ≡ false
-no_move b m command.Command.What line = refl
-no_move b m command.Command.BareOpen line = refl
-no_move b m (command.Command.Open files floor) line = refl
-no_move b m (command.Command.Cut n) line = refl
-no_move b m (command.Command.Call k from) line = rw (call_stays b m (asked k (drop from line)))
+no_move : (b : Box) (m : Memory) (c : Option Command) (line : List ℕ) → moved_in b (events_of m c line) ≡ false
+no_move b m None line = refl
+no_move b m (Some command.Command.BareOpen) line = refl
+no_move b m (Some (command.Command.Open files floor)) line = refl
+no_move b m (Some (command.Command.Cut n)) line = refl
+no_move b m (Some (command.Command.Call k from)) line = rw (call_stays b m (asked k (drop from line)))
 
 module _ (first : List ℕ) (p : ℕ) (i : Image) where
   -- every image was on the first sheet too, or starts above
@@ -111,12 +112,12 @@ module _ (first : List ℕ) (p : ℕ) (i : Image) where
     pub here : sealed bare_files (sheet_of box) p ≡ image i
     pub others : Others box
 
-  keeps : (c : Command) → IsUnnumbered c → Keeps bare_files c
-  keeps command.Command.What h = tt
-  keeps command.Command.BareOpen h = refl
-  keeps (command.Command.Open files floor) h = absurd h
-  keeps (command.Command.Cut n) h = tt
-  keeps (command.Command.Call k from) h = tt
+  keeps : (c : Option Command) → IsUnnumbered c → Keeps bare_files c
+  keeps None h = tt
+  keeps (Some command.Command.BareOpen) h = refl
+  keeps (Some (command.Command.Open files floor)) h = absurd h
+  keeps (Some (command.Command.Cut n)) h = tt
+  keeps (Some (command.Command.Call k from)) h = tt
 
   -- ---- an event, and a line of one or none
 
@@ -145,38 +146,38 @@ module _ (first : List ℕ) (p : ℕ) (i : Image) where
 
     -- what a line leaves
     module _ (line : List ℕ) where
-      abbrev next : Command → Memory
+      abbrev next : Option Command → Memory
       next c = memory_of (conversed m.desk m.sheet m.fates m.rows c line)
 
-      stepped : (c : Command) → AllAllowed bare_files x.box (events_of m c line) → Others (runs x.box (events_of m c line)) → Holds (next c)
+      stepped : (c : Option Command) → AllAllowed bare_files x.box (events_of m c line) → Others (runs x.box (events_of m c line)) → Holds (next c)
       stepped c al o = let y = line_steps m x.rows x.box x.met line c in goes_on (next c) (events_of m c line) al (no_move x.box m c line) y.next y.rows o
 
-      allowed : (c : Command) → Fits line c → IsUnnumbered c → AllAllowed bare_files x.box (events_of m c line)
+      allowed : (c : Option Command) → Fits line c → IsUnnumbered c → AllAllowed bare_files x.box (events_of m c line)
       allowed c f h = event_allowed bare_files m x.rows x.box c line f (keeps c h)
 
-      bare_holds : Holds (next command.Command.BareOpen)
-      bare_holds = let al = allowed command.Command.BareOpen tt tt in stepped command.Command.BareOpen al (after_event (open_event m bare_files (bare_floor m.sheet)) al.0 refl (λ q j h. absurd h.whole))
+      bare_holds : Holds (next (Some command.Command.BareOpen))
+      bare_holds = let al = allowed (Some command.Command.BareOpen) tt tt in stepped (Some command.Command.BareOpen) al (after_event (open_event m bare_files (bare_floor m.sheet)) al.0 refl (λ q j h. absurd h.whole))
 
-      bare_above : Above i.start (next command.Command.BareOpen).desk
+      bare_above : Above i.start (next (Some command.Command.BareOpen)).desk
       bare_above = open_above i.start m line (none_later bare_files m.sheet p i (ap (λ s. sealed bare_files s p) (met_sheet m x.box x.met) ∙ x.here))
 
-      line_holds : (c : Command) → Fits line c → IsUnnumbered c → Above i.start m.desk → Holds (next c)
-      line_holds command.Command.What f h u = stepped command.Command.What tt x.others
-      line_holds command.Command.BareOpen f h u = bare_holds
-      line_holds (command.Command.Open files floor) f h u = absurd h
-      line_holds (command.Command.Cut n) f h u = stepped (command.Command.Cut n) tt x.others
-      line_holds (command.Command.Call k from) f h u =
-          let c : Command = command.Command.Call k from in
+      line_holds : (c : Option Command) → Fits line c → IsUnnumbered c → Above i.start m.desk → Holds (next c)
+      line_holds None f h u = stepped None tt x.others
+      line_holds (Some command.Command.BareOpen) f h u = bare_holds
+      line_holds (Some (command.Command.Open files floor)) f h u = absurd h
+      line_holds (Some (command.Command.Cut n)) f h u = stepped (Some (command.Command.Cut n)) tt x.others
+      line_holds (Some (command.Command.Call k from)) f h u =
+          let c : Option Command = Some (command.Command.Call k from) in
           let e : Event = call_event m (asked k (drop from line)) in
           let al = allowed c f h in
           stepped c al (after_event e al.0 (call_stays x.box m (asked k (drop from line))) (adds_late i.start m x.box x.met u e))
 
-      line_above : (c : Command) → IsUnnumbered c → Above i.start m.desk → Above i.start (next c).desk
-      line_above command.Command.What h u = u
-      line_above command.Command.BareOpen h u = bare_above
-      line_above (command.Command.Open files floor) h u = absurd h
-      line_above (command.Command.Cut n) h u = u
-      line_above (command.Command.Call k from) h u = call_above i.start m k (drop from line) u
+      line_above : (c : Option Command) → IsUnnumbered c → Above i.start m.desk → Above i.start (next c).desk
+      line_above None h u = u
+      line_above (Some command.Command.BareOpen) h u = bare_above
+      line_above (Some (command.Command.Open files floor)) h u = absurd h
+      line_above (Some (command.Command.Cut n)) h u = u
+      line_above (Some (command.Command.Call k from)) h u = call_above i.start m k (drop from line) u
 
   lines_hold : (m : Memory) (lines : List (List ℕ)) → AllLines IsUnnumbered lines → Above i.start m.desk → Holds m → Holds (talked m lines)
   lines_hold m [] h u x = x

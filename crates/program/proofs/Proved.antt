@@ -1,4 +1,5 @@
 -- A conversation is a run: the one theorem of this crate. Assumes nothing.
+use Rattle.std.proofs.Common.{Option, Some, None}
 use Prim.Native.Nat.{ℕ, ◌*◌}
 use mathlib.Core.Path.{◌≡◌, refl, sym, ap, ◌∙◌, subst}
 use mathlib.Core.List.{List, [], ◌∷◌, ◌++◌}
@@ -29,12 +30,12 @@ use Rattle.program.proofs.Meets.{Met, met_off, met_sheet, AllRows, line_steps}
 -- ---- each event is allowed
 
 -- a start that was typed fits 64 bits: the parser takes no other number
-abbrev pub Fits : List ℕ → Command → Type 0
-Fits line command.Command.What = Unit {0}
-Fits line command.Command.BareOpen = Unit {0}
-Fits line (command.Command.Open files floor) = Unit {0}
-Fits line (command.Command.Cut n) = Unit {0}
-Fits line (command.Command.Call k from) = Typed (asked k (drop from line))
+abbrev pub Fits : List ℕ → Option Command → Type 0
+Fits line None = Unit {0}
+Fits line (Some command.Command.BareOpen) = Unit {0}
+Fits line (Some (command.Command.Open files floor)) = Unit {0}
+Fits line (Some (command.Command.Cut n)) = Unit {0}
+Fits line (Some (command.Command.Call k from)) = Typed (asked k (drop from line))
 
 pub start_fits : (line : List ℕ) → Fits line (parsed line)
 start_fits line = every_line line (Fits line) (record {
@@ -64,12 +65,12 @@ module _ (files : ℕ) (m : Memory) (s : AllRows m.rows) (b : Box) where
           length-take-le (row_length * n) m.rows (omega (arith, s)) ∙ ap (λ m. row_length * m) (h e)
       go false e q = absurd (omega (arith, (sizes_right_lem (length (sheet_of b)) (length m.fates) 0 q).some_files))
 
-  pub event_allowed : (c : Command) (line : List ℕ) → Fits line c → Keeps files c → AllAllowed files b (events_of m c line)
-  event_allowed command.Command.What line f h = tt
-  event_allowed command.Command.BareOpen line f h = (open_allowed bare_files (bare_floor m.sheet) (λ e. h), tt)
-  event_allowed (command.Command.Open n floor) line f h = (open_allowed n floor h, tt)
-  event_allowed (command.Command.Cut n) line f h = tt
-  event_allowed (command.Command.Call k from) line f h = (call_allowed (asked k (drop from line)) f, tt)
+  pub event_allowed : (c : Option Command) (line : List ℕ) → Fits line c → Keeps files c → AllAllowed files b (events_of m c line)
+  event_allowed None line f h = tt
+  event_allowed (Some command.Command.BareOpen) line f h = (open_allowed bare_files (bare_floor m.sheet) (λ e. h), tt)
+  event_allowed (Some (command.Command.Open n floor)) line f h = (open_allowed n floor h, tt)
+  event_allowed (Some (command.Command.Cut n)) line f h = tt
+  event_allowed (Some (command.Command.Call k from)) line f h = (call_allowed (asked k (drop from line)) f, tt)
 
 -- ---- a conversation
 

@@ -1,4 +1,6 @@
 -- What is read was typed. Assumes nothing.
+use Rattle.std.proofs.Common as prelude
+use Rattle.std.proofs.Common.{Some, None}
 use Prim.Native.Nat.{ℕ, ◌*◌}
 use mathlib.Core.Path.{◌≡◌, refl, sym, ap, ◌∙◌, subst}
 use mathlib.Core.List.{List, [], ◌∷◌, ◌++◌}
@@ -61,19 +63,19 @@ line_of m (line ∷ lines) before rest e h = go (parsed line) refl h (line_of (m
     here x q [] h r = let z : x ≡ e = cc in record { before = []; line = line; rest = lines; parts = refl; memory = m; is = q ∙ ap (λ y. y ∷ []) z }
     here x q (y ∷ before) h r = later (r before rest e cc)
 
-    go : (c : Command) → events_of m (parsed line) line ≡ events_of m c line → events_of m c line ++ events_in (memory_of (turned m line)) lines ≡ before ++ e ∷ rest
+    go : (c : prelude.Option Command) → events_of m (parsed line) line ≡ events_of m c line → events_of m c line ++ events_in (memory_of (turned m line)) lines ≡ before ++ e ∷ rest
         → ((before rest : List Event) (e : Event) → events_in (memory_of (turned m line)) lines ≡ before ++ e ∷ rest → LineOf lines e) → LineOf (line ∷ lines) e
-    go command.Command.What q h r = later (r before rest e h)
-    go command.Command.BareOpen q h r = here (open_event m bare_files (bare_floor m.sheet)) q before h r
-    go (command.Command.Open files floor) q h r = here (open_event m files floor) q before h r
-    go (command.Command.Cut n) q h r = later (r before rest e h)
-    go (command.Command.Call k from) q h r = here (call_event m (asked k (drop from line))) q before h r
+    go None q h r = later (r before rest e h)
+    go (Some command.Command.BareOpen) q h r = here (open_event m bare_files (bare_floor m.sheet)) q before h r
+    go (Some (command.Command.Open files floor)) q h r = here (open_event m files floor) q before h r
+    go (Some (command.Command.Cut n)) q h r = later (r before rest e h)
+    go (Some (command.Command.Call k from)) q h r = here (call_event m (asked k (drop from line))) q before h r
 
 -- ---- the write of an event
 
-record IsWrite (c : Command) (line : List ℕ) (file start action : ℕ) (value : List ℕ) : Type 0 where
+record IsWrite (c : prelude.Option Command) (line : List ℕ) (file start action : ℕ) (value : List ℕ) : Type 0 where
   pub from : ℕ
-  pub is : c ≡ command.Command.Call (code.Call.Write file start action) from
+  pub is : c ≡ Some (command.Command.Call (code.Call.Write file start action) from)
   pub text : drop from line ≡ value
 
 -- the call of an event whose page is stored whole
@@ -88,25 +90,25 @@ one_same : {A : Type 0} {x y : A} → x ∷ [] ≡ y ∷ [] → x ≡ y
 one_same e = cc
 
 module _ (m : Memory) (line : List ℕ) (e : Event) (file start action : ℕ) (value : List ℕ) (w : IsWhole (call.write file start action value) e) where
-  write_by : (k : code.Call) (from : ℕ) → asked k (drop from line) ≡ call.write file start action value → IsWrite (command.Command.Call k from) line file start action value
+  write_by : (k : code.Call) (from : ℕ) → asked k (drop from line) ≡ call.write file start action value → IsWrite (Some (command.Command.Call k from)) line file start action value
   write_by code.Call.Begin from q = clash cc
   write_by (code.Call.Write f s a) from q =
       let i : f ≡ file = cc in
       let j : s ≡ start = cc in
       let k : a ≡ action = cc in
       let v : drop from line ≡ value = cc in
-      record { from = from; is = λ x. command.Command.Call (code.Call.Write (i x) (j x) (k x)) from; text = v }
+      record { from = from; is = λ x. Some (command.Command.Call (code.Call.Write (i x) (j x) (k x)) from); text = v }
   write_by (code.Call.Read f time a) from q = clash cc
   write_by (code.Call.Test a) from q = clash cc
   write_by (code.Call.Commit a) from q = clash cc
   write_by (code.Call.Abort a) from q = clash cc
 
-  write_of : (c : Command) → events_of m c line ≡ e ∷ [] → IsWrite c line file start action value
-  write_of command.Command.What h = clash cc
-  write_of command.Command.BareOpen h = absurd (subst (IsWhole (call.write file start action value)) (sym (one_same h)) w)
-  write_of (command.Command.Open files floor) h = absurd (subst (IsWhole (call.write file start action value)) (sym (one_same h)) w)
-  write_of (command.Command.Cut n) h = clash cc
-  write_of (command.Command.Call k from) h = write_by k from (whole_call m (asked k (drop from line)) (call.write file start action value) e (one_same h) w)
+  write_of : (c : prelude.Option Command) → events_of m c line ≡ e ∷ [] → IsWrite c line file start action value
+  write_of None h = clash cc
+  write_of (Some command.Command.BareOpen) h = absurd (subst (IsWhole (call.write file start action value)) (sym (one_same h)) w)
+  write_of (Some (command.Command.Open files floor)) h = absurd (subst (IsWhole (call.write file start action value)) (sym (one_same h)) w)
+  write_of (Some (command.Command.Cut n)) h = clash cc
+  write_of (Some (command.Command.Call k from)) h = write_by k from (whole_call m (asked k (drop from line)) (call.write file start action value) e (one_same h) w)
 
 -- ---- a reply that shows a value
 
@@ -175,8 +177,8 @@ module _ (pages files : ℕ) (sized : sizes pages pages files ≡ true) (fates r
   run = record { sized = sized; allowed = r.allowed }
 
   module _ (line : List ℕ) (file time action from place start size : ℕ) where
-    abbrev c : Command
-    c = command.Command.Call (code.Call.Read file time action) from
+    abbrev c : prelude.Option Command
+    c = Some (command.Command.Call (code.Call.Read file time action) from)
 
     abbrev x : After
     x = conversed m.desk m.sheet m.fates m.rows c line

@@ -1,6 +1,6 @@
 -- Nothing is backdated: from a bare `open` on, past any cuts and bare `open`s more, until an opening with numbers, every image that is stored
 -- starts above every one that was on the sheet at that `open`, whatever became of their actions. The openings before were for eight files.
-use Rattle.std.specs.Prelude.{ℕ, ◌<◌, ◌≡◌, List, ◌∷◌, ◌++◌, ◌⊎◌}
+use Rattle.std.specs.Prelude.{ℕ, ◌<◌, ◌≡◌, List, ◌∷◌, ◌++◌, ◌⊎◌, Option, Some, None}
 use Rattle.recovery.specs.Log.{Image, Entry, image}
 use Rattle.recovery.specs.Sheet.{sealed}
 use Rattle.commands.specs.declared.parsing.Command as command
@@ -10,12 +10,12 @@ use Rattle.desk.specs.Conversation.{bare_files}
 use Rattle.program.specs.Program.{memory_after, AllLines, AllKeep}
 
 -- no opening with numbers
-abbrev pub IsUnnumbered : Command → Type 0
-IsUnnumbered command.Command.What = Unit {0}
-IsUnnumbered command.Command.BareOpen = Unit {0}
-IsUnnumbered (command.Command.Open files floor) = ⊥
-IsUnnumbered (command.Command.Cut n) = Unit {0}
-IsUnnumbered (command.Command.Call k from) = Unit {0}
+abbrev pub IsUnnumbered : Option Command → Type 0
+IsUnnumbered None = Unit {0}
+IsUnnumbered (Some command.Command.BareOpen) = Unit {0}
+IsUnnumbered (Some (command.Command.Open files floor)) = ⊥
+IsUnnumbered (Some (command.Command.Cut n)) = Unit {0}
+IsUnnumbered (Some (command.Command.Call k from)) = Unit {0}
 
 module _ (pages : ℕ) (fates rows : List ℕ) where
   -- the page at a place of the sheet after these lines
@@ -24,5 +24,5 @@ module _ (pages : ℕ) (fates rows : List ℕ) where
 
   abbrev pub NothingBackdated : Type 0
   NothingBackdated = (before : List (List ℕ)) (bare : List ℕ) (later : List (List ℕ)) (p q : ℕ) (i j : Image)
-      → AllKeep bare_files before → parsed bare ≡ command.Command.BareOpen → AllLines IsUnnumbered later
+      → AllKeep bare_files before → parsed bare ≡ (Some command.Command.BareOpen) → AllLines IsUnnumbered later
       → page_after before p ≡ image i → page_after (before ++ bare ∷ later) q ≡ image j → (page_after before q ≡ image j) ⊎ (i.start < j.start)

@@ -1,6 +1,7 @@
 -- A conversation with the command program is a run: its lines are the run's events, its sheet is the run's sheet, and each reply is
 -- what the run hears, in document 01's words. So every promise holds of what a person types and reads.
-use Rattle.std.specs.Prelude.{ℕ, ◌*◌, ◌≡◌, List, [], ◌∷◌, ◌++◌, Bool, true, cond, ◌&&◌, take, drop, replicate}
+use Rattle.std.specs.Prelude as prelude
+use Rattle.std.specs.Prelude.{ℕ, ◌*◌, ◌≡◌, List, [], ◌∷◌, ◌++◌, Bool, true, cond, ◌&&◌, take, drop, replicate, Some, None}
 use Rattle.std.proofs.Math.Option.{Option, some, none}
 use Rattle.page.specs.Layout.{page_size, most_files}
 use Rattle.recovery.specs.World.{is_file}
@@ -57,12 +58,12 @@ abbrev pub open_event : Memory → ℕ → ℕ → Event
 open_event m files floor = opens floor m.fates (cond (is_file most_files files) (take (row_length * files) m.rows) [])
 
 -- `what` and `cut` are no events
-abbrev pub events_of : Memory → Command → List ℕ → List Event
-events_of m command.Command.What line = []
-events_of m command.Command.BareOpen line = open_event m bare_files (bare_floor m.sheet) ∷ []
-events_of m (command.Command.Open files floor) line = open_event m files floor ∷ []
-events_of m (command.Command.Cut n) line = []
-events_of m (command.Command.Call k from) line = call_event m (asked k (drop from line)) ∷ []
+abbrev pub events_of : Memory → prelude.Option Command → List ℕ → List Event
+events_of m None line = []
+events_of m (Some command.Command.BareOpen) line = open_event m bare_files (bare_floor m.sheet) ∷ []
+events_of m (Some (command.Command.Open files floor)) line = open_event m files floor ∷ []
+events_of m (Some (command.Command.Cut n)) line = []
+events_of m (Some (command.Command.Call k from)) line = call_event m (asked k (drop from line)) ∷ []
 
 abbrev pub events_in : Memory → List (List ℕ) → List Event
 events_in m [] = []
@@ -86,28 +87,28 @@ abbrev pub open_heard : Box → Memory → ℕ → ℕ → Reply
 open_heard b m files floor = in_words open_reply (open_event m files floor) (numbered (answer_to b (open_event m files floor)))
 
 -- the reply to a line, by what the box is heard to answer to its event
-abbrev pub reply_heard : Box → Memory → Command → List ℕ → Reply
-reply_heard b m command.Command.What line = reply.Reply.What
-reply_heard b m command.Command.BareOpen line = open_heard b m bare_files (bare_floor m.sheet)
-reply_heard b m (command.Command.Open files floor) line = open_heard b m files floor
-reply_heard b m (command.Command.Cut n) line = reply.Reply.Cut n
-reply_heard b m (command.Command.Call k from) line =
+abbrev pub reply_heard : Box → Memory → prelude.Option Command → List ℕ → Reply
+reply_heard b m None line = reply.Reply.What
+reply_heard b m (Some command.Command.BareOpen) line = open_heard b m bare_files (bare_floor m.sheet)
+reply_heard b m (Some (command.Command.Open files floor)) line = open_heard b m files floor
+reply_heard b m (Some (command.Command.Cut n)) line = reply.Reply.Cut n
+reply_heard b m (Some (command.Command.Call k from)) line =
     in_words (call_reply k) (call_event m (asked k (drop from line))) (numbered (answer_to b (call_event m (asked k (drop from line)))))
 
 -- ---- the statements
 
 -- each line's command is so
-abbrev pub AllLines : (Command → Type 0) → List (List ℕ) → Type 0
+abbrev pub AllLines : (prelude.Option Command → Type 0) → List (List ℕ) → Type 0
 AllLines is [] = Unit {0}
 AllLines is (line ∷ lines) = is (parsed line) × AllLines is lines
 
 -- the openings keep one file count: a bare one, which is for eight, and every other that could have rows
-abbrev pub Keeps : ℕ → Command → Type 0
-Keeps files command.Command.What = Unit {0}
-Keeps files command.Command.BareOpen = bare_files ≡ files
-Keeps files (command.Command.Open n floor) = is_file most_files n ≡ true → n ≡ files
-Keeps files (command.Command.Cut n) = Unit {0}
-Keeps files (command.Command.Call k from) = Unit {0}
+abbrev pub Keeps : ℕ → prelude.Option Command → Type 0
+Keeps files None = Unit {0}
+Keeps files (Some command.Command.BareOpen) = bare_files ≡ files
+Keeps files (Some (command.Command.Open n floor)) = is_file most_files n ≡ true → n ≡ files
+Keeps files (Some (command.Command.Cut n)) = Unit {0}
+Keeps files (Some (command.Command.Call k from)) = Unit {0}
 
 abbrev pub AllKeep : ℕ → List (List ℕ) → Type 0
 AllKeep files lines = AllLines (Keeps files) lines

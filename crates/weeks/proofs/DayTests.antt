@@ -1,15 +1,17 @@
 -- A day tested by its times, and the days one by one from the last, as a loop has them; and the times of all days. Assumes nothing.
-use Prim.Native.Nat.{ℕ, suc, ◌+◌, ◌*◌, ◌-◌, ◌/◌, ◌%◌, ◌≤◌, ◌<◌}
+use Prim.Native.Nat.{ℕ, zero, suc, ◌+◌, ◌*◌, ◌-◌, ◌/◌, ◌%◌, ◌≤◌, ◌<◌}
 use mathlib.Core.Path.{◌≡◌, refl, sym, ap, ap₂, ◌∙◌}
 use mathlib.Core.Bool.{Bool, true, false, ◌||◌, cond}
 use mathlib.Core.List.{List}
+use Rattle.std.proofs.Common.{Option, Some, None}
 use native.Mathlib.Omega.{arith}
 use borrow.Author.Tests.{eqb-true, eqb-false, ne_eqb, ltb-true, ltb-false, lt-ltb}
 use lib.Dec.{eqb, ltb}
+use Rattle.encoding.proofs.Logic.{clash}
 use Rattle.encoding.specs.Lowest.{lowest}
 use Rattle.weeks.specs.declared.Edition.{Edition}
-use Rattle.weeks.specs.Editions.{days_a_week, times_a_week}
-use Rattle.weeks.specs.Weeks.{time, wrong, wrong_day, uneven, uneven_day}
+use Rattle.weeks.specs.Editions.{days_a_week, times_a_week, minutes}
+use Rattle.weeks.specs.Weeks.{time, wrong, wrong_day, uneven, uneven_day, some_day}
 
 -- an opening above the limit is wrong by its closing too
 pub short_test : (l x y : ℕ) → (ltb l y || ltb y x) ≡ (ltb l x || ltb l y || ltb y x)
@@ -29,41 +31,52 @@ module _ (e : Edition) (s : List ℕ) (d : ℕ) {x y : ℕ} (opens : x ≡ time 
   unfolding wrong_day
   is_wrong_day r = r ∙ ap₂ (wrong e) opens closes
 
-  pub is_uneven_day : (o : Edition) {b c : Bool} → b ≡ uneven o (e.minutes * x) → c ≡ uneven o (e.minutes * y) → (b || c) ≡ uneven_day e o s d
+  pub is_uneven_day : (o : Edition) {b c : Bool} → b ≡ uneven o (minutes e * x) → c ≡ uneven o (minutes e * y) → (b || c) ≡ uneven_day e o s d
   unfolding uneven_day
   is_uneven_day o r t =
-      ap₂ ◌||◌ (r ∙ ap (λ (z : ℕ). uneven o (e.minutes * z)) opens) (t ∙ ap (λ (z : ℕ). uneven o (e.minutes * z)) closes)
+      ap₂ ◌||◌ (r ∙ ap (λ (z : ℕ). uneven o (minutes e * z)) opens) (t ∙ ap (λ (z : ℕ). uneven o (minutes e * z)) closes)
+
+-- a day that was found is the lowest, and is not 0; where none was found, there is none
+pub day_found : (n : ℕ) {d : ℕ} {x : Option ℕ} → x ≡ some_day n → x ≡ Some d → (d ≡ n) × (d ≡ 0 → ⊥)
+day_found zero e h = clash cc
+day_found (suc n) {d} e h = let q : d ≡ suc n = cc in (q, λ z. omega arith)
+
+pub none_found : (n : ℕ) {x : Option ℕ} → x ≡ some_day n → x ≡ None → n ≡ 0
+none_found zero e h = refl
+none_found (suc n) e h = clash cc
 
 -- what was found above day d, with the days up to it: the lowest of all
-unfoldable pub over : (ℕ → Bool) → ℕ → ℕ → ℕ
-over t d found = cond (eqb (lowest t d) 0) found (lowest t d)
+unfoldable pub over : (ℕ → Bool) → ℕ → Option ℕ → Option ℕ
+over t d found = cond (eqb (lowest t d) 0) found (some_day (lowest t d))
 
-pub over_start : (t : ℕ → Bool) (n : ℕ) → over t n 0 ≡ lowest t n
+pub over_start : (t : ℕ → Bool) (n : ℕ) → over t n None ≡ some_day (lowest t n)
 unfolding over
-over_start t n = go (eqb (lowest t n) 0) refl
+over_start t n = go (lowest t n)
   where
-    go : (b : Bool) → eqb (lowest t n) 0 ≡ b → cond b 0 (lowest t n) ≡ lowest t n
-    go true e = sym (eqb-true (lowest t n) 0 e)
-    go false e = refl
+    go : (k : ℕ) → cond (eqb k 0) None (some_day k) ≡ some_day k
+    go zero = refl
+    go (suc k) = rw (ne_eqb (suc k) 0 (λ z. omega arith))
 
 -- one day down
-over_turn : (t : ℕ → Bool) (n found : ℕ) → over t (suc n) found ≡ over t n (cond (t (suc n)) (suc n) found)
+over_turn : (t : ℕ → Bool) (n : ℕ) (found : Option ℕ) → over t (suc n) found ≡ over t n (cond (t (suc n)) (Some (suc n)) found)
 unfolding over lowest
 over_turn t n found = go (eqb (lowest t n) 0) refl (t (suc n))
   where
     go : (b : Bool) → eqb (lowest t n) 0 ≡ b → (c : Bool)
-        → cond (eqb (cond b (cond c (suc n) 0) (lowest t n)) 0) found (cond b (cond c (suc n) 0) (lowest t n)) ≡ cond b (cond c (suc n) found) (lowest t n)
+        → cond (eqb (cond b (cond c (suc n) 0) (lowest t n)) 0) found (some_day (cond b (cond c (suc n) 0) (lowest t n)))
+        ≡ cond b (cond c (Some (suc n)) found) (some_day (lowest t n))
     go true e true = rw (ne_eqb (suc n) 0 (λ z. omega arith))
     go true e false = refl
     go false e c = rw e
 
-pub day_turn : (t : ℕ → Bool) (d n found : ℕ) {r : ℕ} {b : Bool} → 0 < d → over t d found ≡ lowest t n → b ≡ t d → r ≡ cond b d found → over t (d - 1) r ≡ lowest t n
-day_turn t d n found l h e f =
+pub day_turn : (t : ℕ → Bool) (d n : ℕ) (found : Option ℕ) {r : Option ℕ} {b : Bool} {k : ℕ} → 0 < d → k ≡ d → over t d found ≡ some_day (lowest t n)
+    → b ≡ t d → r ≡ cond b (Some k) found → over t (d - 1) r ≡ some_day (lowest t n)
+day_turn t d n found {r} {b} {k} l i h e f =
     let next : d ≡ suc (d - 1) = omega arith in
-    ap (over t (d - 1)) (f ∙ ap (λ (c : Bool). cond c d found) e ∙ ap (λ (k : ℕ). cond (t k) k found) next)
-    ∙ sym (over_turn t (d - 1) found) ∙ ap (λ (k : ℕ). over t k found) (sym next) ∙ h
+    let turn : r ≡ cond (t (suc (d - 1))) (Some (suc (d - 1))) found = f ∙ ap₂ (λ (c : Bool) (k : ℕ). cond c (Some k) found) (e ∙ ap t next) (i ∙ next) in
+    ap (over t (d - 1)) turn ∙ sym (over_turn t (d - 1) found) ∙ ap (λ (k : ℕ). over t k found) (sym next) ∙ h
 
-pub over_end : (t : ℕ → Bool) (d n found : ℕ) → d ≤ 0 → over t d found ≡ lowest t n → found ≡ lowest t n
+pub over_end : (t : ℕ → Bool) (d n : ℕ) (found : Option ℕ) → d ≤ 0 → over t d found ≡ some_day (lowest t n) → found ≡ some_day (lowest t n)
 unfolding over lowest
 over_end t d n found l h = let z : d ≡ 0 = omega arith in rw z at h
 

@@ -1,4 +1,5 @@
 -- A refused week: what a refused conversion leaves, and the day that a refusal names. Assumes nothing.
+use Rattle.std.proofs.Common.{Option, Some, None, Result, Err}
 use Prim.Native.Nat.{ℕ, ◌≤◌}
 use mathlib.Core.Path.{◌≡◌, refl, subst}
 use mathlib.Core.Bool.{Bool, true, false, cond}
@@ -10,15 +11,9 @@ use lib.ListN.{length}
 use Rattle.encoding.proofs.Logic.{by_test, clash}
 use Rattle.encoding.proofs.Lowest.{lowest_within}
 use Rattle.weeks.specs.declared.Edition.{Edition}
-use Rattle.weeks.specs.declared.Named.{Named}
-use Rattle.weeks.specs.declared.Named.TheVariants.{Known, Unknown}
 use Rattle.weeks.specs.declared.Refusal.{Refusal}
 use Rattle.weeks.specs.declared.Refusal.TheVariants.{Length, Times, Minutes, Keyholders, StepDown}
-use Rattle.weeks.specs.declared.WeekTest as test
-use Rattle.weeks.specs.declared.WeekTest.{WeekTest}
-use Rattle.weeks.specs.declared.Conversion as conversion
-use Rattle.weeks.specs.declared.Conversion.{Conversion}
-use Rattle.weeks.specs.Editions.{days_a_week, named, on_known}
+use Rattle.weeks.specs.Editions.{days_a_week, named, on_known, mask_size}
 use Rattle.weeks.specs.Weeks.{wrong_day, uneven_day, lowest_day, keyholders, enough_keyholders}
 use Rattle.weeks.specs.Answers.{tested_by, week_test, refused, converted_by, converted, refusal_day}
 use Rattle.weeks.specs.Facts.{NamesDay}
@@ -27,8 +22,8 @@ use Rattle.weeks.proofs.Editions.{by_lengths}
 -- ---- the converter
 
 -- what a refused conversion leaves and names
-abbrev pub Refuses : List ℕ → Conversion × List ℕ → Type 0
-Refuses out x = (r : Refusal) → x.0 ≡ conversion.Conversion.Refused r → (x.1 ≡ out) × NamesDay r
+abbrev pub Refuses : List ℕ → Result (Unit {0}) Refusal × List ℕ → Type 0
+Refuses out x = (r : Refusal) → x.0 ≡ Err r → (x.1 ≡ out) × NamesDay r
 
 refuses : (q : Refusal) (out : List ℕ) → NamesDay q → Refuses out (refused q out)
 refuses q out h r e = let same : q ≡ r = cc in (refl, subst NamesDay same h)
@@ -38,14 +33,14 @@ is_day : (t : ℕ → Bool) → eqb (lowest_day t) 0 ≡ false → (1 ≤ lowest
 is_day t e = (omega (arith, eqb-false (lowest_day t) 0 e), lowest_within t days_a_week)
 
 -- one check that refuses, and those after it
-check_refuses : (b : Bool) (x : Conversion × List ℕ) (q : Refusal) (out : List ℕ) → (b ≡ false → NamesDay q) → Refuses out x → Refuses out (cond b x (refused q out))
+check_refuses : (b : Bool) (x : Result (Unit {0}) Refusal × List ℕ) (q : Refusal) (out : List ℕ) → (b ≡ false → NamesDay q) → Refuses out x → Refuses out (cond b x (refused q out))
 check_refuses true x q out h later = later
 check_refuses false x q out h later = refuses q out (h refl)
 
 step_refuses : (e o : Edition) (s : List ℕ) (m : ℕ) (out : List ℕ) → Refuses out (converted_by e o s m out)
 unfolding converted_by
 step_refuses e o s m out =
-    check_refuses (leb e.mask o.mask) _ StepDown out (λ _. tt)
+    check_refuses (leb (mask_size e) (mask_size o)) _ StepDown out (λ _. tt)
     (check_refuses (eqb (lowest_day (wrong_day e s)) 0) _ (Times (lowest_day (wrong_day e s))) out (is_day (wrong_day e s))
     (check_refuses (enough_keyholders o m) _ Keyholders out (λ _. tt)
     (check_refuses (eqb (lowest_day (uneven_day e o s)) 0) _ (Minutes (lowest_day (uneven_day e o s))) out (is_day (uneven_day e o s))
@@ -58,22 +53,22 @@ converter_refuses s m out =
 
 -- ---- the week test
 
-abbrev pub TestRefuses : WeekTest → Type 0
-TestRefuses x = (r : Refusal) → x ≡ test.WeekTest.Refused r → NamesDay r
+abbrev pub TestRefuses : Result ℕ Refusal → Type 0
+TestRefuses x = (r : Refusal) → x ≡ Err r → NamesDay r
 
-test_refuses : (q : Refusal) → NamesDay q → TestRefuses (test.WeekTest.Refused q)
+test_refuses : (q : Refusal) → NamesDay q → TestRefuses (Err q)
 test_refuses q h r e = let same : q ≡ r = cc in subst NamesDay same h
 
 pub tester_refuses : (s : List ℕ) → TestRefuses (week_test s)
 unfolding week_test tested_by
 tester_refuses s = from (named (length s))
   where
-    from : (n : Named) → TestRefuses (on_known n (λ (e : Edition). tested_by e s) (test.WeekTest.Refused Length))
-    from (Known e) =
+    from : (n : Option Edition) → TestRefuses (on_known n (λ (e : Edition). tested_by e s) (Err Length))
+    from (Some e) =
         by_test TestRefuses (eqb (lowest_day (wrong_day e s)) 0)
         (λ _. by_test TestRefuses (enough_keyholders e (keyholders e s)) (λ _. λ r h. clash cc) (λ _. test_refuses Keyholders tt))
         (λ t. test_refuses (Times (lowest_day (wrong_day e s))) (is_day (wrong_day e s) t))
-    from Unknown = test_refuses Length tt
+    from None = test_refuses Length tt
 
 -- ---- the day as a number
 
@@ -84,8 +79,8 @@ day_within (Minutes d) h = h.1
 day_within Keyholders h = omega arith
 day_within StepDown h = omega arith
 
-pub tested_within : (s : List ℕ) (r : Refusal) → week_test s ≡ test.WeekTest.Refused r → refusal_day r ≤ days_a_week
+pub tested_within : (s : List ℕ) (r : Refusal) → week_test s ≡ Err r → refusal_day r ≤ days_a_week
 tested_within s r h = day_within r (tester_refuses s r h)
 
-pub converted_within : (s : List ℕ) (m : ℕ) (out : List ℕ) (r : Refusal) → (converted s m out).0 ≡ conversion.Conversion.Refused r → refusal_day r ≤ days_a_week
+pub converted_within : (s : List ℕ) (m : ℕ) (out : List ℕ) (r : Refusal) → (converted s m out).0 ≡ Err r → refusal_day r ≤ days_a_week
 converted_within s m out r h = day_within r (converter_refuses s m out r h).1

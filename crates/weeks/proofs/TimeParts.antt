@@ -1,6 +1,6 @@
 -- A time read off a week and put into one: its bytes one by one, and its minutes as another edition's units. Assumes nothing.
 use Prim.Native.Nat.{ℕ, suc, ◌+◌, ◌*◌, ◌/◌, ◌%◌, ◌≤◌, ◌<◌}
-use mathlib.Core.Path.{◌≡◌, refl, sym, ap, ◌∙◌}
+use mathlib.Core.Path.{◌≡◌, sym, ap, ◌∙◌}
 use mathlib.Core.Bool.{true, false, not}
 use mathlib.Core.List.{List, [], ◌∷◌, ◌++◌, append_assoc}
 use native.Mathlib.Omega.{arith}
@@ -14,6 +14,7 @@ use Rattle.encoding.specs.Bytes.{number, bytes}
 use Rattle.encoding.proofs.Logic.{bool_ext}
 use Rattle.encoding.proofs.Numbers.{number_first, number_byte}
 use Rattle.weeks.specs.declared.Edition.{Edition}
+use Rattle.weeks.specs.Editions.{width, minutes}
 use Rattle.weeks.specs.Weeks.{time, uneven}
 
 -- ---- read
@@ -26,13 +27,13 @@ two_read s at {x} {y} low high small =
     let last : y ≡ number (take 1 (drop (suc at) s)) = high ∙ ap (λ (i : ℕ). get_or s i 0) next ∙ sym (number_byte s (suc at)) in
     omega (arith, number_first 1 s at)
 
-pub one_byte : (e : Edition) (s : List ℕ) (k : ℕ) {x : ℕ} → e.width ≡ 1 → x ≡ get_or s (e.width * k) 0 → x ≡ time e s k
+pub one_byte : (e : Edition) (s : List ℕ) (k : ℕ) {x : ℕ} → width e ≡ 1 → x ≡ get_or s k 0 → x ≡ time e s k
 unfolding time
-one_byte e s k h r = r ∙ sym (number_byte s (e.width * k)) ∙ ap (λ (n : ℕ). number (take n (drop (e.width * k) s))) (sym h)
+one_byte e s k h r = let one : 1 * k ≡ k = omega arith in rw (h, one) (r ∙ sym (number_byte s k))
 
-pub two_bytes : (e : Edition) (s : List ℕ) (k : ℕ) {x : ℕ} → e.width ≡ 2 → x ≡ number (take 2 (drop (e.width * k) s)) → x ≡ time e s k
+pub two_bytes : (e : Edition) (s : List ℕ) (k : ℕ) {x : ℕ} → width e ≡ 2 → x ≡ number (take 2 (drop (2 * k) s)) → x ≡ time e s k
 unfolding time
-two_bytes e s k h r = r ∙ ap (λ (n : ℕ). number (take n (drop (e.width * k) s))) (sym h)
+two_bytes e s k h r = rw h r
 
 -- ---- units
 
@@ -45,29 +46,29 @@ fifteenth m l h =
     let low : (q + 1048576 * (14 * q)) % 1048576 ≡ q = omega arith in
     ap (λ (x : ℕ). 15 * (x % 1048576)) split ∙ ap (λ (x : ℕ). 15 * x) low ∙ whole
 
-pub units_by_15 : (o : Edition) (m : ℕ) {x : ℕ} → o.minutes ≡ 15 → m < 1048576 → x ≡ m * 978671 % 1048576
-    → (uneven o m ≡ not (eqb (o.minutes * x) m)) × (x < 1048576)
+pub units_by_15 : (o : Edition) (m : ℕ) {x : ℕ} → minutes o ≡ 15 → m < 1048576 → x ≡ m * 978671 % 1048576
+    → (uneven o m ≡ not (eqb (minutes o * x) m)) × (x < 1048576)
 units_by_15 o m {x} h l q = (ap not (bool_ext _ _ there back), omega arith)
   where
-    there : eqb (m % o.minutes) 0 ≡ true → eqb (o.minutes * x) m ≡ true
+    there : eqb (m % minutes o) 0 ≡ true → eqb (minutes o * x) m ≡ true
     there e =
-        let z : m % 15 ≡ 0 = rw h at (eqb-true (m % o.minutes) 0 e) in
+        let z : m % 15 ≡ 0 = rw h at (eqb-true (m % minutes o) 0 e) in
         eq-eqb _ m (rw (h, q) (fifteenth m l z))
 
-    back : eqb (o.minutes * x) m ≡ true → eqb (m % o.minutes) 0 ≡ true
-    back e = eq-eqb _ 0 (ap (λ (y : ℕ). y % o.minutes) (sym (eqb-true _ m e)) ∙ mul-mod_right o.minutes x)
+    back : eqb (minutes o * x) m ≡ true → eqb (m % minutes o) 0 ≡ true
+    back e = eq-eqb _ 0 (ap (λ (y : ℕ). y % minutes o) (sym (eqb-true _ m e)) ∙ mul-mod_right (minutes o) x)
 
-pub units_by_1 : (o : Edition) (m : ℕ) → o.minutes ≡ 1 → uneven o m ≡ not (eqb (o.minutes * m) m)
+pub units_by_1 : (o : Edition) (m : ℕ) → minutes o ≡ 1 → uneven o m ≡ not (eqb (minutes o * m) m)
 units_by_1 o m h =
-    let z : m % o.minutes ≡ 0 = rw h (omega arith) in
-    let q : o.minutes * m ≡ m = rw h (omega arith) in
-    rw (eq-eqb (m % o.minutes) 0 z, eq-eqb (o.minutes * m) m q)
+    let z : m % minutes o ≡ 0 = rw h (omega arith) in
+    let q : minutes o * m ≡ m = rw h (omega arith) in
+    rw (eq-eqb (m % minutes o) 0 z, eq-eqb (minutes o * m) m q)
 
 -- the number that gives the minutes is their quotient
-pub units_are : (o : Edition) (m x : ℕ) → 0 < o.minutes → uneven o m ≡ not (eqb (o.minutes * x) m) → uneven o m ≡ false → x ≡ m / o.minutes
+pub units_are : (o : Edition) (m x : ℕ) → 0 < minutes o → uneven o m ≡ not (eqb (minutes o * x) m) → uneven o m ≡ false → x ≡ m / minutes o
 units_are o m x some e f =
-    let q : o.minutes * x ≡ m = eqb-true (o.minutes * x) m (not-false (eqb (o.minutes * x) m) (sym e ∙ f)) in
-    sym (ap (λ (y : ℕ). y / o.minutes) (sym q) ∙ mul-div_right x some)
+    let q : minutes o * x ≡ m = eqb-true (minutes o * x) m (not-false (eqb (minutes o * x) m) (sym e ∙ f)) in
+    sym (ap (λ (y : ℕ). y / minutes o) (sym q) ∙ mul-div_right x some)
 
 -- ---- written
 
@@ -82,12 +83,13 @@ two_written x at out l =
     ∙ ap (λ (t : List ℕ). t ++ (x / 256 % 256 ∷ [])) low
     ∙ append_assoc (take at out) (x % 256 ∷ []) (x / 256 % 256 ∷ []))
 
-pub put_one : (w k x : ℕ) (out : List ℕ) → w ≡ 1 → w * k < length out → take (w * k + w) (set out (w * k) (x % 256)) ≡ take (w * k) out ++ bytes w x
-put_one w k x out h l =
-    let next : w * k + w ≡ suc (w * k) = omega arith in
-    let one : bytes w x ≡ x % 256 ∷ [] = rw h refl in
-    rw (next, one) (take-suc-set out (w * k) (x % 256) l)
+pub put_one : (o : Edition) (k x : ℕ) (out : List ℕ) → width o ≡ 1 → k < length out
+    → take (width o * k + width o) (set out k (x % 256)) ≡ take (width o * k) out ++ bytes (width o) x
+put_one o k x out h l =
+    let one : 1 * k ≡ k = omega arith in
+    let next : k + 1 ≡ suc k = omega arith in
+    rw (h, one, next) (take-suc-set out k (x % 256) l)
 
-pub put_two : (w k x : ℕ) (out next : List ℕ) → w ≡ 2 → take (w * k + 2) next ≡ take (w * k) out ++ bytes 2 x
-    → take (w * k + w) next ≡ take (w * k) out ++ bytes w x
-put_two w k x out next h e = ap (λ (n : ℕ). take (w * k + n) next) h ∙ e ∙ ap (λ (n : ℕ). take (w * k) out ++ bytes n x) (sym h)
+pub put_two : (o : Edition) (k x : ℕ) (out next : List ℕ) → width o ≡ 2 → take (2 * k + 2) next ≡ take (2 * k) out ++ bytes 2 x
+    → take (width o * k + width o) next ≡ take (width o * k) out ++ bytes (width o) x
+put_two o k x out next h e = rw h e

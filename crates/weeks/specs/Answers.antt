@@ -1,47 +1,43 @@
 -- What the week test and the converter answer and leave, on all inputs, check by check; and each answer in numbers.
-use Rattle.std.specs.Prelude.{ℕ, ◌+◌, ◌*◌, List, cond, eqb, leb, length}
+use Rattle.std.specs.Prelude.{ℕ, ◌+◌, ◌*◌, List, cond, eqb, leb, length, Result, Ok, Err}
 use Rattle.weeks.specs.declared.Edition.{Edition}
 use Rattle.weeks.specs.declared.Refusal.{Refusal}
 use Rattle.weeks.specs.declared.Refusal.TheVariants.{Length, Times, Minutes, Keyholders, StepDown}
-use Rattle.weeks.specs.declared.WeekTest as test
-use Rattle.weeks.specs.declared.WeekTest.{WeekTest}
-use Rattle.weeks.specs.declared.Conversion as conversion
-use Rattle.weeks.specs.declared.Conversion.{Conversion}
-use Rattle.weeks.specs.Editions.{named, on_known, on_lengths}
+use Rattle.weeks.specs.Editions.{named, on_known, on_lengths, mask_size, edition_number}
 use Rattle.weeks.specs.Weeks.{wrong_day, uneven_day, lowest_day, keyholders, enough_keyholders, in_edition}
 
 -- ---- the week test
 
-unfoldable pub tested_by : Edition → List ℕ → WeekTest
+unfoldable pub tested_by : Edition → List ℕ → Result ℕ Refusal
 tested_by e s =
     cond (eqb (lowest_day (wrong_day e s)) 0)
     (cond (enough_keyholders e (keyholders e s))
-    (test.WeekTest.Week e.number)
-    (test.WeekTest.Refused Keyholders))
-    (test.WeekTest.Refused (Times (lowest_day (wrong_day e s))))
+    (Ok (edition_number e))
+    (Err Keyholders))
+    (Err (Times (lowest_day (wrong_day e s))))
 
-unfoldable pub week_test : List ℕ → WeekTest
-week_test s = on_known (named (length s)) (λ (e : Edition). tested_by e s) (test.WeekTest.Refused Length)
+unfoldable pub week_test : List ℕ → Result ℕ Refusal
+week_test s = on_known (named (length s)) (λ (e : Edition). tested_by e s) (Err Length)
 
 -- ---- the converter: its answer, and the bytes that it leaves
 
-abbrev pub refused : Refusal → List ℕ → Conversion × List ℕ
-refused r out = (conversion.Conversion.Refused r, out)
+abbrev pub refused : Refusal → List ℕ → Result (Unit {0}) Refusal × List ℕ
+refused r out = (Err r, out)
 
 -- from edition e to edition o, with the caller's mask m; a step down, a downgrade, leads from an edition with a mask to one without
-unfoldable pub converted_by : Edition → Edition → List ℕ → ℕ → List ℕ → Conversion × List ℕ
+unfoldable pub converted_by : Edition → Edition → List ℕ → ℕ → List ℕ → Result (Unit {0}) Refusal × List ℕ
 converted_by e o s m out =
-    cond (leb e.mask o.mask)
+    cond (leb (mask_size e) (mask_size o))
     (cond (eqb (lowest_day (wrong_day e s)) 0)
     (cond (enough_keyholders o m)
     (cond (eqb (lowest_day (uneven_day e o s)) 0)
-    (conversion.Conversion.Converted, in_edition e o s m)
+    (Ok tt, in_edition e o s m)
     (refused (Minutes (lowest_day (uneven_day e o s))) out))
     (refused Keyholders out))
     (refused (Times (lowest_day (wrong_day e s))) out))
     (refused StepDown out)
 
-unfoldable pub converted : List ℕ → ℕ → List ℕ → Conversion × List ℕ
+unfoldable pub converted : List ℕ → ℕ → List ℕ → Result (Unit {0}) Refusal × List ℕ
 converted s m out = on_lengths (length s) (length out) (λ (e o : Edition). converted_by e o s m out) (refused Length out)
 
 -- ---- in numbers
@@ -66,10 +62,10 @@ abbrev pub refusal_code : Refusal → ℕ
 refusal_code r = refusal_number r + 256 * refusal_day r
 
 -- the edition's number, or a refusal
-abbrev pub test_code : WeekTest → ℕ
-test_code (test.WeekTest.Week n) = n
-test_code (test.WeekTest.Refused r) = refusal_code r
+abbrev pub test_code : Result ℕ Refusal → ℕ
+test_code (Ok n) = n
+test_code (Err r) = refusal_code r
 
-abbrev pub conversion_code : Conversion → ℕ
-conversion_code conversion.Conversion.Converted = 0
-conversion_code (conversion.Conversion.Refused r) = refusal_code r
+abbrev pub conversion_code : Result (Unit {0}) Refusal → ℕ
+conversion_code (Ok _) = 0
+conversion_code (Err r) = refusal_code r

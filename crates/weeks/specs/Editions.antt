@@ -1,9 +1,8 @@
--- The editions of the lock heads. An edition is one record: its number, the bytes of a time, the highest time, the minutes of a unit of
--- time, and the bytes of the keyholder mask. A new edition is one more record in the list: the tests and the converter are said over the record.
-use Rattle.std.specs.Prelude.{ℕ, ◌+◌, ◌*◌, ◌≡◌, List, [], ◌∷◌, cond, eqb}
+-- The editions of the lock heads. Of each: its number, the bytes of a time, the highest time, the minutes of a unit of time, and the bytes of
+-- the keyholder mask. A new edition is one more case of each, and one more in the list: the tests and the converter are said over these.
+use Rattle.std.specs.Prelude.{ℕ, ◌+◌, ◌*◌, List, [], ◌∷◌, cond, eqb, Option, Some, None}
+use Rattle.weeks.specs.declared.Edition.TheVariants.{First, Second, Third}
 use Rattle.weeks.specs.declared.Edition.{Edition}
-use Rattle.weeks.specs.declared.Named.{Named}
-use Rattle.weeks.specs.declared.Named.TheVariants.{Known, Unknown}
 
 -- Monday, day 1, to Sunday
 abbrev pub days_a_week : ℕ
@@ -13,42 +12,56 @@ days_a_week = 7
 abbrev pub times_a_week : ℕ
 times_a_week = 14
 
--- quarter hours, 0 to 96
-abbrev pub first : Edition
-first = record { number = 1; width = 1; limit = 96; minutes = 15; mask = 0 }
+-- its number
+abbrev pub edition_number : Edition → ℕ
+edition_number First = 1
+edition_number Second = 2
+edition_number Third = 3
 
--- minutes, 0 to 1,440, in two bytes
-abbrev pub second : Edition
-second = record { number = 2; width = 2; limit = 1440; minutes = 1; mask = 0 }
+-- the bytes of a time
+abbrev pub width : Edition → ℕ
+width First = 1
+width Second = 2
+width Third = 2
 
--- as the second, and 16 bits for the keyholders who must attend
-abbrev pub third : Edition
-third = record { number = 3; width = second.width; limit = second.limit; minutes = second.minutes; mask = 2 }
+-- the highest time: 96 quarter hours, or 1,440 minutes
+abbrev pub limit : Edition → ℕ
+limit First = 96
+limit Second = 1440
+limit Third = 1440
+
+-- the minutes of a unit of time
+abbrev pub minutes : Edition → ℕ
+minutes First = 15
+minutes Second = 1
+minutes Third = 1
+
+-- the bytes of the mask: 16 bits for the keyholders who must attend, in the third alone
+abbrev pub mask_size : Edition → ℕ
+mask_size First = 0
+mask_size Second = 0
+mask_size Third = 2
 
 abbrev pub editions : List Edition
-editions = first ∷ second ∷ third ∷ []
+editions = First ∷ Second ∷ Third ∷ []
 
 -- the bytes of an edition's week: its times, then its mask
 unfoldable pub size : Edition → ℕ
-size e = e.width * times_a_week + e.mask
+size e = width e * times_a_week + mask_size e
 
 -- lengths name the editions
-unfoldable pub named_in : List Edition → ℕ → Named
-named_in [] n = Unknown
-named_in (e ∷ es) n = cond (eqb n (size e)) (Known e) (named_in es n)
+unfoldable pub named_in : List Edition → ℕ → Option Edition
+named_in [] n = None
+named_in (e ∷ es) n = cond (eqb n (size e)) (Some e) (named_in es n)
 
-unfoldable pub named : ℕ → Named
+unfoldable pub named : ℕ → Option Edition
 named n = named_in editions n
 
 -- by cases: f of the edition that a length names, d where it names none
-abbrev pub on_known : {A : Type 0} → Named → (Edition → A) → A → A
-on_known (Known e) f d = f e
-on_known Unknown f d = d
+abbrev pub on_known : {A : Type 0} → Option Edition → (Edition → A) → A → A
+on_known (Some e) f d = f e
+on_known None f d = d
 
 -- by both lengths: f of the editions that they name, d where one of them names none, or they are equal
 abbrev pub on_lengths : {A : Type 0} → ℕ → ℕ → (Edition → Edition → A) → A → A
 on_lengths n k f d = on_known (named n) (λ (e : Edition). on_known (named k) (λ (o : Edition). cond (eqb n k) d (f e o)) d) d
-
--- an edition of the list
-abbrev pub IsEdition : Edition → Type 0
-IsEdition e = named (size e) ≡ Known e

@@ -1,7 +1,7 @@
 // The keyholder mask of a week: read, tested and written. It stands behind the times.
 ghost use Rattle.std.specs.Prelude.{◌≡◌, ◌++◌, ◌*◌, length, take};
 ghost use Rattle.encoding.specs.Bytes.{bytes};
-ghost use Rattle.weeks.specs.Editions.{times_a_week, size, IsEdition};
+ghost use Rattle.weeks.specs.Editions.{times_a_week, size, width, mask_size};
 ghost use Rattle.weeks.specs.Weeks.{keyholders, enough_keyholders};
 
 use crate::Edition;
@@ -9,29 +9,29 @@ use crate::times::{put_two, two_bytes};
 
 // The mask of a week, 0 where its edition has none.
 pub(crate) fn keyholders(e: Edition, week: &[u8]) -> u16
-    requires { IsEdition e × (length week.now ≡ size e) }
+    requires { length week.now ≡ size e }
     ensures { result ≡ keyholders e week.now }
 {
-    if e.mask == 0 {
+    if e.mask_size() == 0 {
         return 0;
     }
-    two_bytes(week, e.width * Edition::TIMES) as u16
+    two_bytes(week, e.width() * Edition::TIMES) as u16
 }
 
 // Dual custody: where the edition has a mask, at least two of its bits are set.
 pub(crate) fn enough_keyholders(e: Edition, mask: u16) -> bool
     ensures { result ≡ enough_keyholders e mask }
 {
-    (e.mask == 0) | (2 <= u16::count_ones(mask))
+    (e.mask_size() == 0) | (2 <= u16::count_ones(mask))
 }
 
 // Writes the mask behind the times, where the edition has one.
 pub(crate) fn put_mask(o: Edition, mask: u16, out: &mut [u8])
-    requires { IsEdition o × (length out.old ≡ size o) }
-    ensures { out.new ≡ take (o.width * times_a_week) out.old ++ bytes o.mask mask }
+    requires { length out.old ≡ size o }
+    ensures { out.new ≡ take (width o * times_a_week) out.old ++ bytes (mask_size o) mask }
 {
-    if o.mask == 0 {
+    if o.mask_size() == 0 {
         return;
     }
-    put_two(out, o.width * Edition::TIMES, mask as u64);
+    put_two(out, o.width() * Edition::TIMES, mask as u64);
 }

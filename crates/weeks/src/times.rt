@@ -1,7 +1,7 @@
 // The bytes of a week and its times: read, brought to another edition's units, and written.
 ghost use Rattle.std.specs.Prelude.{not, ◌≡◌, ◌++◌, ◌+◌, ◌*◌, ◌≤◌, ◌<◌, eqb, length, take, drop, get_or};
 ghost use Rattle.encoding.specs.Bytes.{number, bytes};
-ghost use Rattle.weeks.specs.Editions.{times_a_week, size, IsEdition};
+ghost use Rattle.weeks.specs.Editions.{times_a_week, size, width, minutes};
 ghost use Rattle.weeks.specs.Weeks.{time, uneven};
 
 use crate::Edition;
@@ -32,26 +32,25 @@ pub(crate) fn two_bytes(week: &[u8], at: usize) -> u64
 
 // Time k of a week, from 0.
 pub(crate) fn time_at(e: Edition, week: &[u8], k: usize) -> u64
-    requires { IsEdition e × (length week.now ≡ size e) × (k < times_a_week) }
+    requires { (length week.now ≡ size e) × (k < times_a_week) }
     ensures value { result ≡ time e week.now k }
     ensures fits { result < 65536 }
 {
-    let at = e.width * k;
-    if e.width == 1 {
-        return byte(week, at);
+    match e {
+        Edition::First => byte(week, k),
+        Edition::Second | Edition::Third => two_bytes(week, 2 * k),
     }
-    two_bytes(week, at)
 }
 
 // Time t of edition e in o's units: the number of them that gives the same minutes, if there is one. It is an exact division by 15 as a
 // product: 15 × 978,671 leaves 1 by 1,048,576, so that 978,671 times a multiple of 15 leaves a fifteenth of it.
 pub(crate) fn units(e: Edition, o: Edition, t: u64) -> u64
-    requires { IsEdition e × IsEdition o × (t < 65536) }
-    ensures t_value { uneven o (e.minutes * t) ≡ not (eqb (o.minutes * result) (e.minutes * t)) }
+    requires { t < 65536 }
+    ensures t_value { uneven o (minutes e * t) ≡ not (eqb (minutes o * result) (minutes e * t)) }
     ensures fits { result < 1048576 }
 {
-    let m = e.minutes * t;
-    if o.minutes == 1 {
+    let m = e.minutes() * t;
+    if o.minutes() == 1 {
         return m;
     }
     (m * 978671) & 0xfffff
@@ -68,13 +67,11 @@ pub(crate) fn put_two(out: &mut [u8], at: usize, x: u64)
 
 // Writes time k; the bytes before it stay.
 pub(crate) fn put_time(o: Edition, out: &mut [u8], k: usize, x: u64)
-    requires { IsEdition o × (length out.old ≡ size o) × (k < times_a_week) }
-    ensures { take (o.width * k + o.width) out.new ≡ take (o.width * k) out.old ++ bytes o.width x }
+    requires { (length out.old ≡ size o) × (k < times_a_week) }
+    ensures { take (width o * k + width o) out.new ≡ take (width o * k) out.old ++ bytes (width o) x }
 {
-    let at = o.width * k;
-    if o.width == 1 {
-        out[at] = (x % 256) as u8;
-        return;
+    match o {
+        Edition::First => out[k] = (x % 256) as u8,
+        Edition::Second | Edition::Third => put_two(out, 2 * k, x),
     }
-    put_two(out, at, x);
 }

@@ -1,12 +1,12 @@
 -- `weeks::write_times`. The invariant: the times before k are written. Assumes nothing.
 use Prim.Native.Nat.{ℕ}
-use mathlib.Core.Path.{◌≡◌, refl, ap, ◌∙◌}
+use mathlib.Core.Path.{◌≡◌, ap, ◌∙◌}
 use native.Mathlib.Omega.{arith}
 use native.Mathlib.Nat.{mul-zero}
 use lib.ListN.{take}
 use Rattle.encoding.specs.Concat.{concat}
 use Rattle.encoding.proofs.Concat.{concat_turn}
-use Rattle.weeks.specs.Editions.{times_a_week}
+use Rattle.weeks.specs.Editions.{times_a_week, width}
 use Rattle.weeks.specs.Weeks.{time_in, times_in}
 use Rattle.weeks.proofs.Written.{put_there}
 use Rattle.weeks.proofs.write_times.Goals as goal
@@ -15,22 +15,18 @@ pub loop-k-init : goal.loop-k-init
 unfolding concat
 loop-k-init c =
     let a = c.args in
-    (ap (λ (n : ℕ). take n a.out.now) (mul-zero a.o.width), omega arith, refl)
+    ap (λ (n : ℕ). take n a.out.now) (mul-zero (width a.o))
 
 pub loop-k-preserved : goal.loop-k-preserved
 loop-k-preserved c =
     let a = c.args in
-    let more = c.loop-k-test.true in
     let put = c.put_time in
     let units = c.units in
-    let there = put_there a.e a.o a.week.now c.loop-k.out c.loop-k.k units.result c.requires.1 c.requires.4 more c.time_at.ensures.value units.ensures.t_value in (
-      concat_turn a.o.width c.loop-k.k c.loop-k.out put.new.out (time_in a.e a.o a.week.now) c.loop-k.invariant.0 (put.ensures ∙ there),
-      omega (arith, more),
-      put.auto.out ∙ c.loop-k.invariant.2,
-    )
+    let there = put_there a.e a.o a.week.now c.loop-k.out c.loop-k.k units.result c.requires.2 c.loop-k-test.true c.time_at.ensures.value units.ensures.t_value in
+    concat_turn (width a.o) c.loop-k.k c.loop-k.out put.new.out (time_in a.e a.o a.week.now) c.loop-k.invariant (put.ensures ∙ there)
 
 pub returns : goal.returns
 unfolding times_in
 returns c =
     let all : c.loop-k.k ≡ times_a_week = omega arith in
-    rw all at c.loop-k.invariant.0
+    rw all at c.loop-k.invariant

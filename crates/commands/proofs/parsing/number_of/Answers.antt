@@ -1,23 +1,22 @@
--- `commands::parsing::number_of`. The invariant: the bytes before i are digits, and n is their value. Assumes nothing.
+-- `commands::parsing::number_of`. The invariant: the bytes before this one are digits, and n is their value. Assumes nothing.
 use Rattle.commands.proofs.Numerals.{reading_turn, reading_stop, reading_end, empty_word}
 use mathlib.Core.Path.{refl, sym, ◌∙◌}
 use native.Mathlib.Omega.{arith}
+use borrow.Author.Tests.{eqb-true, eqb-false}
 use Rattle.commands.proofs.parsing.number_of.Goals as goal
 
-pub returns-then-w-eq0 : goal.returns-then-w-eq0
-returns-then-w-eq0 c = empty_word c.args.w.now c.if-w-eq0.true
+pub returns-then-is_empty : goal.returns-then-is_empty
+returns-then-is_empty c = empty_word c.args.w.now (eqb-true _ 0 (sym c.is_empty.ensures ∙ c.if-is_empty.true))
 
-pub loop-i-init : goal.loop-i-init
-loop-i-init c = (record { ahead = refl; value = refl; small = omega arith }, omega arith)
+pub returns-in_err-n : goal.returns-in_err-n
+returns-in_err-n c =
+    rw c.from_residual.ensures (sym (reading_stop c.args.w.now c.loop-b.b-index c.loop-b.n _ c.loop-b-test.true refl (sym c.add_digit.ensures ∙ c.in_err-n.was) c.loop-b.invariant))
 
-pub returns-in_default : goal.returns-in_default
-returns-in_default c =
-    sym (reading_stop c.args.w.now c.loop-i.i c.loop-i.n _ (omega arith) c.byte_at.ensures.value (sym c.add_digit.ensures ∙ c.in_default.is) c.loop-i.invariant.0)
-
-pub loop-i-preserved : goal.loop-i-preserved
-loop-i-preserved c =
-    (reading_turn c.args.w.now c.loop-i.i c.loop-i.n _ _ (omega arith) c.byte_at.ensures.value (sym c.add_digit.ensures ∙ c.in-Is.is) c.loop-i.invariant.0, omega arith)
+pub loop-b-preserved : goal.loop-b-preserved
+loop-b-preserved c =
+    reading_turn c.args.w.now c.loop-b.b-index c.loop-b.n _ _ c.loop-b-test.true refl (sym c.add_digit.ensures ∙ c.in_ok-n.was) c.loop-b.invariant
 
 pub returns : goal.returns
 returns c =
-    reading_end c.args.w.now c.loop-i.i c.loop-i.n (omega arith) (omega arith) c.loop-i.invariant.0
+    let some = eqb-false _ 0 (sym c.is_empty.ensures ∙ c.if-is_empty.false) in
+    reading_end c.args.w.now c.loop-b.b-index c.loop-b.n (omega (arith, some)) (omega arith) c.loop-b.invariant

@@ -1,14 +1,10 @@
 -- `desk::exports::desk_week_test`, answer by answer. Assumes nothing.
-use mathlib.Core.Path.{sym, ◌∙◌}
-use Rattle.weeks.proofs.Refused.{tested_within}
+use mathlib.Core.Path.{◌∙◌}
 use Rattle.desk.proofs.Exported.{week_told}
 use Rattle.desk.proofs.exports.desk_week_test.Goals as goal
 
-pub refusal_code-requires : goal.refusal_code-requires
-refusal_code-requires c = tested_within _ _ (sym c.week_test-answer.ensures ∙ c.in-Refused.is)
+pub returns-in-Ok : goal.returns-in-Ok
+returns-in-Ok c = week_told _ _ _ c.week_test.ensures c.in-Ok.is
 
-pub returns-in-Week : goal.returns-in-Week
-returns-in-Week c = week_told _ _ _ c.week_test-answer.ensures c.in-Week.is
-
-pub returns-in-Refused : goal.returns-in-Refused
-returns-in-Refused c = c.refusal_code.ensures ∙ week_told _ _ _ c.week_test-answer.ensures c.in-Refused.is
+pub returns-in-Err : goal.returns-in-Err
+returns-in-Err c = c.from.ensures ∙ week_told _ _ _ c.week_test.ensures c.in-Err.is

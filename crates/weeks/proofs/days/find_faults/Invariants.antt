@@ -1,12 +1,10 @@
 -- `weeks::days::find_faults`. The invariant: what was found above day d, with the days up to it, is the lowest of all. Assumes nothing.
-use Prim.Native.Nat.{◌≤◌}
 use mathlib.Core.Path.{◌≡◌}
-use Rattle.weeks.specs.Weeks.{wrong_day, uneven_day, lowest_day}
+use Rattle.weeks.specs.Weeks.{wrong_day, uneven_day, lowest_day, some_day}
 use Rattle.weeks.proofs.DayTests.{over}
 use Rattle.weeks.proofs.days.find_faults.Given as goal
 
 abbrev pub invariant-loop-d : goal.invariant-loop-d
-invariant-loop-d l = (over (wrong_day l.e l.week) l.d l.wrong ≡ lowest_day (wrong_day l.e l.week)) × (over (uneven_day l.e l.o l.week) l.d l.uneven ≡ lowest_day (uneven_day l.e l.o l.week)) × (l.d ≤ 7)
-
-abbrev pub decreases-loop-d : goal.decreases-loop-d
-decreases-loop-d l = l.d
+invariant-loop-d l =
+    (over (wrong_day l.e l.week) l.d l.wrong ≡ some_day (lowest_day (wrong_day l.e l.week)))
+    × (over (uneven_day l.e l.o l.week) l.d l.uneven ≡ some_day (lowest_day (uneven_day l.e l.o l.week)))

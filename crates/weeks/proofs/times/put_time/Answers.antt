@@ -1,25 +1,19 @@
 -- `weeks::times::put_time`: one byte, or two. Assumes nothing.
 use native.Mathlib.Omega.{arith}
-use Rattle.weeks.proofs.Editions.{wide, time_small, time_within}
+use Rattle.weeks.proofs.Editions.{one_wide, two_wide, time_within}
 use Rattle.weeks.proofs.TimeParts.{put_one, put_two}
 use Rattle.weeks.proofs.times.put_time.Goals as goal
 
-pub overflow_mul-at : goal.overflow_mul-at
-overflow_mul-at c = omega (arith, time_small c.requires.0 c.args.k c.requires.2)
-
-pub bounds-out-at : goal.bounds-out-at
-bounds-out-at c =
-    omega (arith, c.if-o-eq1.true, time_within c.args.o c.args.k c.requires.2, c.requires.1)
-
-pub returns-then-o-eq1 : goal.returns-then-o-eq1
-returns-then-o-eq1 c =
-    put_one c.args.o.width c.args.k c.args.x c.args.out.now c.if-o-eq1.true (omega (arith, c.if-o-eq1.true, time_within c.args.o c.args.k c.requires.2, c.requires.1))
+pub bounds-out-k : goal.bounds-out-k
+bounds-out-k c = let one = one_wide c.in-First.is in omega (arith, rw one at (time_within c.args.o c.args.k c.requires.1))
 
 pub put_two-requires : goal.put_two-requires
-put_two-requires c =
-    omega (arith, time_within c.args.o c.args.k c.requires.2, wide c.requires.0 c.if-o-eq1.false, c.requires.1)
+put_two-requires c = let two = two_wide c.in-Second.is in omega (arith, rw two at (time_within c.args.o c.args.k c.requires.1))
 
-pub returns : goal.returns
-returns c =
-    let put = c.put_two in
-    put_two c.args.o.width c.args.k c.args.x c.args.out.now put.new.out (wide c.requires.0 c.if-o-eq1.false) put.ensures
+pub returns-in-First : goal.returns-in-First
+returns-in-First c =
+    let one = one_wide c.in-First.is in
+    put_one c.args.o c.args.k c.args.x c.args.out.now one (omega (arith, rw one at (time_within c.args.o c.args.k c.requires.1)))
+
+pub returns-in-Second : goal.returns-in-Second
+returns-in-Second c = put_two c.args.o c.args.k c.args.x c.args.out.now c.put_two.new.out (two_wide c.in-Second.is) c.put_two.ensures
