@@ -1,10 +1,9 @@
 -- Read: of the versions, of the token, and the ways it ends. Assumes nothing.
 use Prim.Native.Nat.{ℕ, ◌/◌, ◌≤◌, ◌<◌}
 use mathlib.Core.Path.{◌≡◌, refl, sym, ap, ◌∙◌}
-use mathlib.Core.Bool.{Bool, true, false, cond}
+use mathlib.Core.Bool.{Bool, true, false}
 use mathlib.Core.List.{List}
 use lib.ListN.{length}
-use lib.Dec.{eqb}
 use borrow.Author.Tests.{eq-eqb, ne_eqb, le-leb, lt-leb}
 use Rattle.page.specs.declared.Page.{Page}
 use Rattle.page.specs.declared.Sought as sought
@@ -18,7 +17,7 @@ use Rattle.recovery.specs.declared.Row.{Row}
 use Rattle.recovery.specs.declared.State.{State}
 use Rattle.recovery.specs.declared.Answer.{Answer}
 use Rattle.recovery.specs.declared.Answer.TheVariants.{Refused, Value, Nothing}
-use Rattle.recovery.specs.World.{World, is_file, with_row, warm_row, row_holds, refuse}
+use Rattle.recovery.specs.World.{World, is_file, with_row, warm_row, row_holds}
 use Rattle.recovery.specs.Lent.{row_length, rows_of, pages_of, lent, refused}
 use Rattle.recovery.specs.Steps.{line_one, sealed_image, row_holds_by, row_holds_in, with_row_of, Warmed}
 use Rattle.recovery.proofs.Held.{row_held}

@@ -21,7 +21,8 @@ pub fn begin(sheet: &mut [u8], fates: &mut [u8], rows: &[u64], state: State) -> 
         return refuse(why, state);
     }
     let place = end + 1;
-    append(sheet, end, files, Page::opening(place), &[0u8; Page::VALUE_SIZE]);
+    let page = Page::opening(place);
+    append(sheet, end, files, page, &[0u8; Page::VALUE_SIZE]);
     fates[end as usize] = 1;
     Done {
         answer: Answer::Stored(place),

@@ -38,13 +38,7 @@ fn pad(value: &[u8]) -> [u8; Page::VALUE_SIZE]
 
 // Lines 10 to 12 of write.
 #[tactic(auto, unfolding(calls::specs::ReadSteps::store_line))]
-fn store_line(
-    sheet: &[u8],
-    state: State,
-    files: u64,
-    start: u64,
-    row: Row,
-) -> Result<(), Refusal>
+fn store_line(sheet: &[u8], state: State, files: u64, start: u64, row: Row) -> Result<(), Refusal>
     ensures { result ≡ store_line sheet.now files state start row }
 {
     if start <= row.currentend {

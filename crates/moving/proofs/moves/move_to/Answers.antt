@@ -7,12 +7,12 @@ use Rattle.moving.proofs.moves.move_to.Goals as goal
 pub returns-then-not-is_movable : goal.returns-then-not-is_movable
 returns-then-not-is_movable c =
     let a = c.args in
-    move_refused a.sheet.now a.fates.now a.rows.now a.state a.fresh.now (refused c.is_movable.ensures c.if-not-is_movable.true) _ c.refuse_at.ensures
+    move_refused a.sheet.now a.fates.now a.rows.now a.state a.fresh.now (refused c.is_movable.ensures c.if-not-is_movable.true) _ c.refuse.ensures
 
 pub returns-then-busy-ne0 : goal.returns-then-busy-ne0
 returns-then-busy-ne0 c =
     let a = c.args in
-    move_busy a.sheet.now a.fates.now a.rows.now a.state a.fresh.now (passed c.is_movable.ensures c.if-not-is_movable.false) _ c.lowest_undecided-busy.ensures c.if-busy-ne0.true _ c.refuse_at-then-busy-ne0.ensures
+    move_busy a.sheet.now a.fates.now a.rows.now a.state a.fresh.now (passed c.is_movable.ensures c.if-not-is_movable.false) _ c.lowest_undecided-busy.ensures c.if-busy-ne0.true _ c.refuse_at.ensures
 
 pub warm_rows-requires : goal.warm_rows-requires
 warm_rows-requires c =

@@ -54,4 +54,4 @@ pub returns : goal.returns
 returns c =
     let fit = passed c.is_lent_right.ensures c.if-not-is_lent_right.false in
     let a = c.args in
-    begin_done _ _ _ _ fit _ (rw c.file_count-files.ensures at c.room_line.ensures) c.in_default.is _ (rw c.opening.ensures at (c.append.ensures ∙ appended_is _ _ _ _ _ (rw (c.opening.ensures, c.file_count-files.ensures) (begin_asked a.sheet.now a.fates.now a.rows.now a.state fit _ (rw c.file_count-files.ensures at c.room_line.ensures) c.in_default.is))))
+    begin_done _ _ _ _ fit _ (rw c.file_count-files.ensures at c.room_line.ensures) c.in_default.is _ (rw c.opening-page.ensures at (c.append.ensures ∙ appended_is _ _ _ _ _ (rw (c.opening-page.ensures, c.file_count-files.ensures) (begin_asked a.sheet.now a.fates.now a.rows.now a.state fit _ (rw c.file_count-files.ensures at c.room_line.ensures) c.in_default.is))))
