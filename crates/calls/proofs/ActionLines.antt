@@ -1,19 +1,23 @@
 -- Lines 5 and 6: the fate of an action as the code looks it up, the line that refuses the action, and the calls that ask them.
 -- Assumes nothing.
-use Prim.Native.Nat.{ℕ, zero, suc, ◌≤◌, ◌<◌}
+use Prim.Native.Nat.{ℕ, zero, suc, ◌≤◌}
 use mathlib.Core.Path.{◌≡◌, refl, sym, ◌∙◌}
 use mathlib.Core.Bool.{Bool, true, false, cond, ◌&&◌, false≢true}
 use mathlib.Core.List.{List}
 use native.Mathlib.Omega.{arith}
 use lib.Dec.{eqb, leb}
-use borrow.Author.Tests.{eq-eqb, ne_eqb, le-leb, lt-leb, eqb-true, eqb-false, leb-true}
-use Rattle.encoding.proofs.Logic.{and_true, by_test}
+use borrow.Author.Tests.{eq-eqb, ne_eqb, eqb-true, leb-true}
+use Rattle.encoding.proofs.Logic.{and_true, by_test, clash}
+use Rattle.std.specs.Prelude.{Ok, Err}
+use Rattle.std.specs.Prelude as std
 use Rattle.recovery.specs.Places.{nth}
 use Rattle.recovery.specs.Log.{unknown, undecided, committed, aborted}
 use Rattle.recovery.specs.World.{World, Result, refuse, fate_number, fate_from, fate_in}
 use Rattle.calls.specs.Calls.{is_known, is_decided, for_undecided}
-use Rattle.calls.specs.LineSteps.{known_fate, action_line}
+use Rattle.calls.specs.LineSteps.{Line, free, and_then, known_fate, action_line}
 use Rattle.calls.specs.ReadSteps.{read_line}
+use Rattle.recovery.specs.declared.Refusal.{Refusal}
+use Rattle.recovery.specs.declared.Refusal.TheVariants.{NoAction, AlreadyDecided}
 
 -- ---- the fate of an action
 
@@ -27,40 +31,10 @@ known_number x h = go (eqb x 1) refl (eqb x 2) refl (eqb x 3) refl h
     go false p false q true r k = sym (eqb-true x 3 r)
     go false p false q false r k = let z : ◌≡◌ {A = ℕ} 0 1 = cc in absurd (omega arith)
 
-low_number : (x : ℕ) → x ≤ 3 → x ≡ cond (is_known (fate_from x)) x 0
-low_number zero k = refl
-low_number (suc zero) k = refl
-low_number (suc (suc zero)) k = refl
-low_number (suc (suc (suc zero))) k = refl
-low_number (suc (suc (suc (suc x)))) k = absurd (omega arith)
-
 module _ (fates : List ℕ) (end a : ℕ) where
   -- line 5
   abbrev pub acts : Bool
   acts = leb 1 a && leb a end && is_known (fate_in fates a)
-
-  pub fate_above : end < a → 0 ≡ known_fate fates end a
-  unfolding known_fate
-  fate_above h = let l : 1 ≤ a = omega arith in simp (le-leb 1 a l, lt-leb a end h)
-
-  pub fate_high : (x : ℕ) → x ≡ nth 0 fates a → a ≤ end → 3 < x → 0 ≡ known_fate fates end a
-  unfolding known_fate
-  fate_high x e h k = go (leb 1 a)
-    where
-      no : is_known (fate_in fates a) ≡ false
-      no = rw (← e) (simp (ne_eqb x 1 (λ q. omega arith), ne_eqb x 2 (λ q. omega arith), ne_eqb x 3 (λ q. omega arith)))
-
-      go : (b : Bool) → 0 ≡ cond (b && leb a end && is_known (fate_in fates a)) (nth 0 fates a) 0
-      go true = simp (le-leb a end h, no)
-      go false = refl
-
-  pub fate_low : (x : ℕ) → x ≡ nth 0 fates a → a ≤ end → x ≤ 3 → x ≡ known_fate fates end a
-  unfolding known_fate
-  fate_low x e h k = go a e h
-    where
-      go : (b : ℕ) → x ≡ nth 0 fates b → b ≤ end → x ≡ cond (leb 1 b && leb b end && is_known (fate_from (nth 0 fates b))) (nth 0 fates b) 0
-      go zero e h = e
-      go (suc b) e h = rw (← e) (simp (le-leb 1 (suc b) (omega arith), le-leb (suc b) end h) (low_number x k))
 
   -- what line 5 lets through, with the number of the fate
   pub record Known (x : ℕ) : Type 0 where
@@ -70,59 +44,52 @@ module _ (fates : List ℕ) (end a : ℕ) where
     pub low : 1 ≤ a
     pub high : a ≤ end
 
-  pub fate_none : known_fate fates end a ≡ 0 → acts ≡ false
-  unfolding known_fate
-  fate_none h = go acts refl h
-    where
-      go : (b : Bool) → acts ≡ b → cond b (nth 0 fates a) 0 ≡ 0 → b ≡ false
-      go false p q = refl
-      go true p q =
-          let k : is_known (fate_in fates a) ≡ true = (and_true (leb 1 a && leb a end) (is_known (fate_in fates a)) p).1 in
-          let z : false ≡ true = rw q at k in sym z
+  pub record Unknown (why : Refusal) : Type 0 where
+    pub acts_not : acts ≡ false
+    pub why_is : why ≡ NoAction
 
-  pub fate_some : (x : ℕ) → x ≡ known_fate fates end a → (x ≡ 0 → ⊥) → Known x
+  pub fate_none : (why : Refusal) → Err why ≡ known_fate fates end a → Unknown why
   unfolding known_fate
-  fate_some x h n = go acts refl h
+  fate_none why h = go acts refl h
     where
-      go : (b : Bool) → acts ≡ b → x ≡ cond b (nth 0 fates a) 0 → Known x
-      go false p q = absurd (n q)
+      go : (b : Bool) → acts ≡ b → Err why ≡ cond b (Ok (nth 0 fates a)) (Err NoAction) → Unknown why
+      go false p q = record { acts_not = p; why_is = cc }
+      go true p q = clash cc
+
+  pub fate_some : (x : ℕ) → Ok x ≡ known_fate fates end a → Known x
+  unfolding known_fate
+  fate_some x h = go acts refl h
+    where
+      go : (b : Bool) → acts ≡ b → Ok x ≡ cond b (Ok (nth 0 fates a)) (Err NoAction) → Known x
+      go false p q = clash cc
       go true p q =
           let k = and_true (leb 1 a && leb a end) (is_known (fate_in fates a)) p in
           let j = and_true (leb 1 a) (leb a end) k.0 in
-          record { acts_is = p; byte = sym q; number = known_number (nth 0 fates a) k.1 ∙ sym q; low = leb-true 1 a j.0; high = leb-true a end j.1 }
+          let e : x ≡ nth 0 fates a = cc in
+          record { acts_is = p; byte = sym e; number = known_number (nth 0 fates a) k.1 ∙ sym e; low = leb-true 1 a j.0; high = leb-true a end j.1 }
 
-  -- ---- the line that refuses, by the fate
-
-  module _ (x : ℕ) (hx : x ≡ known_fate fates end a) where
-    pub line_5 : x ≡ 0 → 5 ≡ action_line fates end a
-    unfolding action_line
-    line_5 z = rw (← hx, eq-eqb x 0 z)
-
-    module _ (some : x ≡ 0 → ⊥) where
-      pub line_6 : (x ≡ 1 → ⊥) → 6 ≡ action_line fates end a
-      unfolding action_line
-      line_6 n = rw (← hx, ne_eqb x 0 some, ne_eqb x 1 n)
-
-      pub line_none : x ≡ 1 → 0 ≡ action_line fates end a
-      unfolding action_line
-      line_none o = rw (← hx, ne_eqb x 0 some, eq-eqb x 1 o)
+  -- ---- lines 5 and 6
 
   -- what the two lines let through
-  pub acting : action_line fates end a ≡ 0 → Known 1
+  pub acting : free ≡ action_line fates end a → Known 1
   unfolding action_line
-  acting h =
-      by_test (λ (m : ℕ). m ≡ 0 → Known 1) (eqb (known_fate fates end a) 0) (λ e q. absurd (omega arith))
-      (λ e. by_test (λ (m : ℕ). m ≡ 0 → Known 1) (eqb (known_fate fates end a) 1)
-      (λ o q. fate_some 1 (sym (eqb-true (known_fate fates end a) 1 o)) (λ y. omega arith))
-      (λ o q. absurd (omega arith))) h
+  acting h = go (known_fate fates end a) refl h
+    where
+      go : (f : std.Result ℕ Refusal) → f ≡ known_fate fates end a → free ≡ and_then f (λ fate. cond (eqb fate 1) free (Err AlreadyDecided)) → Known 1
+      go (Err why) e q = clash cc
+      go (Ok x) e q =
+          by_test (λ (l : Line). free ≡ l → Known 1) (eqb x 1) (λ o r. let z : x ≡ 1 = eqb-true x 1 o in fate_some 1 (rw z at e)) (λ o r. clash cc) q
 
-  pub past_5 : (action_line fates end a ≡ 5 → ⊥) → acts ≡ true
+  -- and what line 5 lets through, where line 6 refuses
+  pub past_5 : Err AlreadyDecided ≡ action_line fates end a → acts ≡ true
   unfolding action_line
-  past_5 h =
-      by_test (λ (m : ℕ). (m ≡ 5 → ⊥) → acts ≡ true) (eqb (known_fate fates end a) 0) (λ e n. absurd (n refl))
-      (λ e n. (fate_some (known_fate fates end a) refl (eqb-false (known_fate fates end a) 0 e)).acts_is) h
+  past_5 h = go (known_fate fates end a) refl h
+    where
+      go : (f : std.Result ℕ Refusal) → f ≡ known_fate fates end a → Err AlreadyDecided ≡ and_then f (λ fate. cond (eqb fate 1) free (Err AlreadyDecided)) → acts ≡ true
+      go (Err why) e q = let k : why ≡ NoAction = (fate_none why e).why_is in clash cc
+      go (Ok x) e q = (fate_some x e).acts_is
 
-  pub any_line : a ≡ 0 → 0 ≡ read_line fates end a
+  pub any_line : a ≡ 0 → free ≡ read_line fates end a
   unfolding read_line
   any_line h = rw (eq-eqb a 0 h)
 
@@ -130,14 +97,17 @@ module _ (fates : List ℕ) (end a : ℕ) where
   unfolding read_line
   own_line h = rw (ne_eqb a 0 h)
 
--- ---- the definitions by those numbers
+-- ---- the definitions by those lines
+
+-- a call goes on where the lines let it through
+abbrev pub by_line : World → Result → Line → Result
+by_line w k (Ok _) = k
+by_line w k (Err why) = refuse why 0 w
 
 module _ (w : World) (a : ℕ) (k : Result) where
-  abbrev by_number : ℕ → Result
-  by_number n = cond (eqb n 0) k (refuse n 0 w)
-
   by_fate : (x : ℕ) (b : Bool) → (b ≡ true → is_known (fate_from x) ≡ true)
-      → cond b (cond (is_decided (fate_from x)) (refuse 6 0 w) k) (refuse 5 0 w) ≡ by_number (cond (eqb (cond b x 0) 0) 5 (cond (eqb (cond b x 0) 1) 0 6))
+      → cond b (cond (is_decided (fate_from x)) (refuse AlreadyDecided 0 w) k) (refuse NoAction 0 w)
+      ≡ by_line w k (and_then (cond b (Ok x) (Err NoAction)) (λ fate. cond (eqb fate 1) free (Err AlreadyDecided)))
   by_fate x false h = refl
   by_fate zero true h = absurd (false≢true (h refl))
   by_fate (suc zero) true h = refl
@@ -148,16 +118,16 @@ module _ (w : World) (a : ℕ) (k : Result) where
       let z : false ≡ true = simp (ne_eqb y 1 (λ q. omega arith), ne_eqb y 2 (λ q. omega arith), ne_eqb y 3 (λ q. omega arith)) at (h refl) in
       absurd (false≢true z)
 
-  pub undecided_by : for_undecided w a k ≡ by_number (action_line w.fates w.end a)
+  pub undecided_by : for_undecided w a k ≡ by_line w k (action_line w.fates w.end a)
   unfolding action_line known_fate
   undecided_by =
       by_fate (nth 0 w.fates a) (leb 1 a && leb a w.end && is_known (fate_in w.fates a))
       (λ e. (and_true (leb 1 a && leb a w.end) (is_known (fate_in w.fates a)) e).1)
 
-  pub read_by : cond (eqb a 0) k (for_undecided w a k) ≡ by_number (read_line w.fates w.end a)
+  pub read_by : cond (eqb a 0) k (for_undecided w a k) ≡ by_line w k (read_line w.fates w.end a)
   unfolding read_line
   read_by = go (eqb a 0)
     where
-      go : (b : Bool) → cond b k (for_undecided w a k) ≡ by_number (cond b 0 (action_line w.fates w.end a))
+      go : (b : Bool) → cond b k (for_undecided w a k) ≡ by_line w k (cond b free (action_line w.fates w.end a))
       go true = refl
       go false = undecided_by

@@ -8,8 +8,9 @@ use native.Mathlib.Omega.{arith}
 use native.Mathlib.Numerals.{add-one, sub-one}
 use lib.ListN.{length, set, replicate}
 use lib.Dec.{eqb}
-use borrow.Author.Tests.{eq-eqb, ne_eqb, eqb-true, eqb-false}
-use Rattle.encoding.proofs.Logic.{by_test, and_true}
+use borrow.Author.Tests.{eq-eqb, ne_eqb, eqb-true}
+use Rattle.encoding.proofs.Logic.{by_test, and_true, clash}
+use Rattle.std.specs.Prelude.{Ok, Err}
 use Rattle.page.specs.declared.Page.{Page}
 use Rattle.page.specs.Layout.{page_size, most_places, value_size}
 use Rattle.page.specs.Table.{packed, meets_rules}
@@ -18,6 +19,8 @@ use Rattle.page.specs.Answers.{in_bounds}
 use Rattle.page.proofs.Obeyed.{outcome_rules}
 use Rattle.recovery.specs.Places.{nth, put}
 use Rattle.recovery.specs.Log.{outcome, verdict}
+use Rattle.recovery.specs.declared.Refusal.{Refusal}
+use Rattle.recovery.specs.declared.Refusal.TheVariants.{WrongSizes, NoAction, AlreadyDecided}
 use Rattle.recovery.specs.declared.State.{State}
 use Rattle.recovery.specs.declared.Answer.TheVariants.{Refused, Stored}
 use Rattle.recovery.specs.declared.Done.{Done}
@@ -26,12 +29,12 @@ use Rattle.recovery.specs.Lent.{row_length, rows_of, lent, refused, left_by}
 use Rattle.recovery.specs.Steps.{line_one, outcome_in, refusal}
 use Rattle.calls.specs.Calls.{decide, on, append, settled, each_row, on_decide, is_decided_as, if_undecided, for_undecided}
 use Rattle.calls.specs.Leaves.{packed_entry, with_page, call_leaves}
-use Rattle.calls.specs.LineSteps.{known_fate, action_line, room_line}
+use Rattle.calls.specs.LineSteps.{Line, free, and_then, known_fate, action_line, room_line}
 use Rattle.calls.specs.DecideSteps.{decide_line, decided_again, settled_rows}
 use Rattle.calls.proofs.Ends.{Lent, lent_is, ends_line_1, ends_same, ends_grown}
 use Rattle.calls.proofs.AskedAgain.{again_unchanged}
-use Rattle.calls.proofs.ActionLines.{acts, Known, acting, past_5, undecided_by}
-use Rattle.calls.proofs.RoomLines.{room_high, room_is, room_by, append_fits}
+use Rattle.calls.proofs.ActionLines.{acts, Known, acting, past_5, by_line, undecided_by}
+use Rattle.calls.proofs.RoomLines.{room_not_6, room_is, room_by, append_fits}
 
 -- ---- an outcome's page and its fate
 
@@ -63,7 +66,7 @@ decided_as_lem false (suc (suc (suc zero))) = refl
 decided_as_lem c (suc (suc (suc (suc x)))) = other_fate c (suc (suc (suc (suc x)))) (omega arith)
 
 module _ (s fs : List ℕ) (files : ℕ) (st : State) (a : ℕ) (c : Bool) (x q : ℕ) (hx : x ≡ nth 0 fs a) (hq : q ≡ fate_number (verdict c)) where
-  pub other_decision : (x ≡ q → ⊥) → refusal 6 st ≡ decided_again s fs files st a c
+  pub other_decision : (x ≡ q → ⊥) → refusal AlreadyDecided st ≡ decided_again s fs files st a c
   unfolding decided_again
   other_decision n = rw (← hx, ← hq, ne_eqb x q n)
 
@@ -74,54 +77,53 @@ module _ (s fs : List ℕ) (files : ℕ) (st : State) (a : ℕ) (c : Bool) (x q 
 -- ---- the line that refuses
 
 module _ (s fs rs : List ℕ) (st : State) (a : ℕ) where
-  pub line_1 : line_one (length s) (length fs) (length rs) st.end st.undecided ≡ false → 1 ≡ decide_line s fs rs st a
+  pub line_1 : line_one (length s) (length fs) (length rs) st.end st.undecided ≡ false → Err WrongSizes ≡ decide_line s fs rs st a
   unfolding decide_line
   line_1 h = rw h
 
-  module _ (h : line_one (length s) (length fs) (length rs) st.end st.undecided ≡ true) (x : ℕ) (hx : x ≡ action_line fs st.end a) where
-    pub line_action : (x ≡ 0 → ⊥) → x ≡ decide_line s fs rs st a
+  module _ (h : line_one (length s) (length fs) (length rs) st.end st.undecided ≡ true) where
+    pub line_action : (n : Refusal) → Err n ≡ action_line fs st.end a → Err n ≡ decide_line s fs rs st a
     unfolding decide_line
-    line_action n = rw (h, ← hx, ne_eqb x 0 n)
+    line_action n hn = rw (h, ← hn)
 
-    pub line_room : x ≡ 0 → (y : ℕ) → y ≡ room_line s st.end (length rs / row_length) 1 → y ≡ decide_line s fs rs st a
+    pub line_room : free ≡ action_line fs st.end a → (l : Line) → l ≡ room_line s st.end (length rs / row_length) 1 → l ≡ decide_line s fs rs st a
     unfolding decide_line
-    line_room z y hy = rw (h, ← hx, eq-eqb x 0 z) hy
+    line_room z l hl = rw (h, ← z) hl
 
   -- what is known where line 6 refuses
   pub record Decided : Type 0 where
     pub fits : line_one (length s) (length fs) (length rs) st.end st.undecided ≡ true
     pub acts_is : acts fs st.end a ≡ true
 
-  pub line_6 : decide_line s fs rs st a ≡ 6 → Decided
+  pub line_6 : Err AlreadyDecided ≡ decide_line s fs rs st a → Decided
   unfolding decide_line
-  line_6 e = go (line_one (length s) (length fs) (length rs) st.end st.undecided) refl e
+  line_6 e = go (line_one (length s) (length fs) (length rs) st.end st.undecided) refl (action_line fs st.end a) refl e
     where
-      go : (b : Bool) → line_one (length s) (length fs) (length rs) st.end st.undecided ≡ b
-          → cond b (cond (eqb (action_line fs st.end a) 0) (room_line s st.end (length rs / row_length) 1) (action_line fs st.end a)) 1 ≡ 6 → Decided
-      go false h q = absurd (omega arith)
-      go true h q =
-          by_test (λ (m : ℕ). m ≡ 6 → Decided) (eqb (action_line fs st.end a) 0)
-          (λ o r. absurd (omega (arith, room_high s st.end (length rs / row_length) 1 6 r (λ z. omega arith))))
-          (λ o r. record { fits = h; acts_is = past_5 fs st.end a (λ z. omega arith) }) q
+      go : (b : Bool) → line_one (length s) (length fs) (length rs) st.end st.undecided ≡ b → (l : Line) → l ≡ action_line fs st.end a
+          → Err AlreadyDecided ≡ cond b (and_then l (λ _. room_line s st.end (length rs / row_length) 1)) (Err WrongSizes) → Decided
+      go false h l k q = clash cc
+      go true h (Ok u) k q = absurd (room_not_6 s st.end (length rs / row_length) 1 q)
+      go true h (Err n) k q = record { fits = h; acts_is = past_5 fs st.end a (q ∙ k) }
 
   -- what is known where no line refuses
   pub record Ready : Type 0 where
     pub fits : line_one (length s) (length fs) (length rs) st.end st.undecided ≡ true
-    pub none_is : decide_line s fs rs st a ≡ 0
+    pub none_is : decide_line s fs rs st a ≡ free
     pub act : Known fs st.end a 1
     pub room : st.end < length fs
 
-  pub ready : (n : ℕ) → n ≡ decide_line s fs rs st a → n ≡ 0 → Ready
+  pub ready : free ≡ decide_line s fs rs st a → Ready
   unfolding decide_line
-  ready n e z =
-      by_test (λ (m : ℕ). m ≡ 0 → Ready) (line_one (length s) (length fs) (length rs) st.end st.undecided)
-      (λ h. by_test (λ (m : ℕ). m ≡ 0 → Ready) (eqb (action_line fs st.end a) 0)
-      (λ o q.
-      let k = (lent_is (length s) (length fs) (length rs) st.end st.undecided h).sizes in
-      let l = room_is s st.end (length rs / row_length) 1 q in
-      record { fits = h; none_is = sym e ∙ z; act = acting fs st.end a (eqb-true _ 0 o); room = omega arith })
-      (λ o q. absurd (eqb-false _ 0 o q)))
-      (λ h q. absurd (omega arith)) (sym e ∙ z)
+  ready e = go (line_one (length s) (length fs) (length rs) st.end st.undecided) refl (action_line fs st.end a) refl e
+    where
+      go : (b : Bool) → line_one (length s) (length fs) (length rs) st.end st.undecided ≡ b → (l : Line) → l ≡ action_line fs st.end a
+          → free ≡ cond b (and_then l (λ _. room_line s st.end (length rs / row_length) 1)) (Err WrongSizes) → Ready
+      go false h l k q = clash cc
+      go true h (Err n) k q = clash cc
+      go true h (Ok u) k q =
+          let j = (lent_is (length s) (length fs) (length rs) st.end st.undecided h).sizes in
+          let m = room_is s st.end (length rs / row_length) 1 q in
+          record { fits = h; none_is = sym e; act = acting fs st.end a k; room = omega arith }
 
 -- ---- the ends
 
@@ -129,13 +131,9 @@ joined : (a b : Bool) (x y z : Result) → cond a (cond b x y) z ≡ cond (a && 
 joined true b x y z = refl
 joined false b x y z = refl
 
-two_lines : (k : Result) (w : World) (x y : ℕ)
-    → cond (eqb x 0) (cond (eqb y 0) k (refuse y 0 w)) (refuse x 0 w) ≡ cond (eqb (cond (eqb x 0) y x) 0) k (refuse (cond (eqb x 0) y x) 0 w)
-two_lines k w x y = go (eqb x 0) refl
-  where
-    go : (b : Bool) → eqb x 0 ≡ b → cond b (cond (eqb y 0) k (refuse y 0 w)) (refuse x 0 w) ≡ cond (eqb (cond b y x) 0) k (refuse (cond b y x) 0 w)
-    go true e = refl
-    go false e = rw e
+two_lines : (k : Result) (w : World) (x y : Line) → by_line w (by_line w k y) x ≡ by_line w k (and_then x (λ _. y))
+two_lines k w (Ok u) y = refl
+two_lines k w (Err n) y = refl
 
 module _ (s fs rs : List ℕ) (st : State) (a : ℕ) (c : Bool) where
   abbrev w : World
@@ -144,13 +142,12 @@ module _ (s fs rs : List ℕ) (st : State) (a : ℕ) (c : Bool) where
   abbrev stored : Result
   stored = (Stored (suc st.end), append w (outcome a c) (put fs a (fate_number (verdict c))) (each_row (settled w a c) 0 (rows_of rs)) (pred st.undecided))
 
-  first_line : line_one (length s) (length fs) (length rs) st.end st.undecided ≡ true
-      → for_undecided w a (on_decide w a c) ≡ cond (eqb (decide_line s fs rs st a) 0) stored (refuse (decide_line s fs rs st a) 0 w)
+  first_line : line_one (length s) (length fs) (length rs) st.end st.undecided ≡ true → for_undecided w a (on_decide w a c) ≡ by_line w stored (decide_line s fs rs st a)
   unfolding decide_line
   first_line h =
       rw h
       (undecided_by w a (on_decide w a c)
-      ∙ ap (λ (x : Result). cond (eqb (action_line fs st.end a) 0) x (refuse (action_line fs st.end a) 0 w))
+      ∙ ap (λ (x : Result). by_line w x (action_line fs st.end a))
       (room_by (length rs / row_length) s fs (rows_of rs) st.end st.floor st.undecided 1 (omega arith) stored)
       ∙ two_lines stored w (action_line fs st.end a) (room_line s st.end (length rs / row_length) 1))
 
@@ -159,47 +156,47 @@ module _ (s fs rs : List ℕ) (st : State) (a : ℕ) (c : Bool) where
   again = acts fs st.end a && eqb (nth 0 fs a) (fate_number (verdict c))
 
   decide_by : on w (decide a c) ≡ cond again (Stored (outcome_at w a), w) (for_undecided w a (on_decide w a c))
-  decide_by = ap (λ b. cond (acts fs st.end a) (cond b (Stored (outcome_at w a), w) (if_undecided w a (on_decide w a c))) (refuse 5 0 w)) (decided_as_lem c (nth 0 fs a))
+  decide_by = ap (λ b. cond (acts fs st.end a) (cond b (Stored (outcome_at w a), w) (if_undecided w a (on_decide w a c))) (refuse NoAction 0 w)) (decided_as_lem c (nth 0 fs a))
       ∙ joined (acts fs st.end a) (eqb (nth 0 fs a) (fate_number (verdict c))) _ _ _
 
-  again_line : line_one (length s) (length fs) (length rs) st.end st.undecided ≡ true → again ≡ true → decide_line s fs rs st a ≡ 6
+  again_line : line_one (length s) (length fs) (length rs) st.end st.undecided ≡ true → again ≡ true → decide_line s fs rs st a ≡ Err AlreadyDecided
   unfolding decide_line action_line known_fate
   again_line h e =
       let k = and_true (acts fs st.end a) (eqb (nth 0 fs a) (fate_number (verdict c))) e in
       let n : nth 0 fs a ≡ fate_number (verdict c) = eqb-true _ _ k.1 in
-      rw (h, k.0, n, verdict_line c)
+      rw (h, k.0, n, verdict_line c (room_line s st.end (length rs / row_length) 1))
     where
-      verdict_line : (d : Bool) → ◌≡◌ {A = ℕ} (cond (eqb (fate_number (verdict d)) 0) 5 (cond (eqb (fate_number (verdict d)) 1) 0 6)) 6
-      verdict_line true = refl
-      verdict_line false = refl
+      verdict_line : (d : Bool) (l : Line) → and_then (cond (eqb (fate_number (verdict d)) 1) free (Err AlreadyDecided)) (λ _. l) ≡ Err AlreadyDecided
+      verdict_line true l = refl
+      verdict_line false l = refl
 
-  on_line : line_one (length s) (length fs) (length rs) st.end st.undecided ≡ true → (decide_line s fs rs st a ≡ 6 → ⊥)
-      → on w (decide a c) ≡ cond (eqb (decide_line s fs rs st a) 0) stored (refuse (decide_line s fs rs st a) 0 w)
+  on_line : line_one (length s) (length fs) (length rs) st.end st.undecided ≡ true → (decide_line s fs rs st a ≡ Err AlreadyDecided → ⊥)
+      → on w (decide a c) ≡ by_line w stored (decide_line s fs rs st a)
   on_line h n =
       decide_by
-      ∙ by_test (λ (x : Result). x ≡ cond (eqb (decide_line s fs rs st a) 0) stored (refuse (decide_line s fs rs st a) 0 w)) again
+      ∙ by_test (λ (x : Result). x ≡ by_line w stored (decide_line s fs rs st a)) again
       {x = (Stored (outcome_at w a), w)} {y = for_undecided w a (on_decide w a c)} (λ e. absurd (n (again_line h e))) (λ e. first_line h)
 
-  pub decide_again : (n : ℕ) → n ≡ decide_line s fs rs st a → n ≡ 6 → (d : Done) → d ≡ decided_again s fs (length rs / row_length) st a c → left_by d s fs rs ≡ call_leaves s fs rs st (decide a c)
+  pub decide_again : Err AlreadyDecided ≡ decide_line s fs rs st a → (d : Done) → d ≡ decided_again s fs (length rs / row_length) st a c → left_by d s fs rs ≡ call_leaves s fs rs st (decide a c)
   unfolding decided_again outcome_in
-  decide_again n e z d hd =
-      let k = line_6 s fs rs st a (sym e ∙ z) in
+  decide_again e d hd =
+      let k = line_6 s fs rs st a e in
       ap (λ (y : Done). left_by y s fs rs) hd ∙ go k.fits k.acts_is (eqb (nth 0 fs a) (fate_number (verdict c))) refl
     where
       go : line_one (length s) (length fs) (length rs) st.end st.undecided ≡ true → acts fs st.end a ≡ true → (b : Bool) → eqb (nth 0 fs a) (fate_number (verdict c)) ≡ b
-          → left_by (cond b (record { answer = Stored (outcome_at w a); state = st }) (refusal 6 st)) s fs rs ≡ call_leaves s fs rs st (decide a c)
+          → left_by (cond b (record { answer = Stored (outcome_at w a); state = st }) (refusal AlreadyDecided st)) s fs rs ≡ call_leaves s fs rs st (decide a c)
       go h k true q = sym (again_unchanged s fs rs st a c h k (decided_as_lem c (nth 0 fs a) ∙ q))
       go h k false q =
           let n : again ≡ false = rw (k, q) in
-          ends_same s fs rs st (decide a c) h (Refused 6 0) (decide_by ∙ ap (λ b. cond b (Stored (outcome_at w a), w) (for_undecided w a (on_decide w a c))) n ∙ first_line h ∙ rw (sym e ∙ z))
+          ends_same s fs rs st (decide a c) h (Refused AlreadyDecided 0) (decide_by ∙ ap (λ b. cond b (Stored (outcome_at w a), w) (for_undecided w a (on_decide w a c))) n ∙ first_line h ∙ rw (← e))
 
   -- a line refuses
-  pub decide_refused : (n : ℕ) → n ≡ decide_line s fs rs st a → (n ≡ 6 → ⊥) → (n ≡ 0 → ⊥) → refused n 0 s fs rs st ≡ call_leaves s fs rs st (decide a c)
-  decide_refused n e m z = go (line_one (length s) (length fs) (length rs) st.end st.undecided) refl
+  pub decide_refused : (n : Refusal) → Err n ≡ decide_line s fs rs st a → (n ≡ AlreadyDecided → ⊥) → refused n 0 s fs rs st ≡ call_leaves s fs rs st (decide a c)
+  decide_refused n e m = go (line_one (length s) (length fs) (length rs) st.end st.undecided) refl
     where
       go : (b : Bool) → line_one (length s) (length fs) (length rs) st.end st.undecided ≡ b → refused n 0 s fs rs st ≡ call_leaves s fs rs st (decide a c)
-      go false h = rw (e ∙ sym (line_1 s fs rs st a h)) (ends_line_1 s fs rs st (decide a c) h)
-      go true h = ends_same s fs rs st (decide a c) h (Refused n 0) (on_line h (λ q. m (e ∙ q)) ∙ rw (← e, ne_eqb n 0 z))
+      go false h = let k = line_1 s fs rs st a h in let z : n ≡ WrongSizes = cc in rw z (ends_line_1 s fs rs st (decide a c) h)
+      go true h = ends_same s fs rs st (decide a c) h (Refused n 0) (on_line h (λ q. m cc) ∙ rw (← e))
 
   module _ (r : Ready s fs rs st a) where
     sure : Lent (length s) (length fs) (length rs) st.end st.undecided
@@ -236,4 +233,4 @@ module _ (s fs rs : List ℕ) (st : State) (a : ℕ) (c : Bool) where
     decide_done page hp s'' rs'' q n hs hq hr hn =
         let e : st.end + 1 ≡ suc st.end = add-one st.end in
         rw (e, hn) (ends_grown s fs rs st (decide a c) r.fits (outcome a c) (put fs a (fate_number (verdict c))) (each_row (settled (lent s fs rs st) a c) 0 (rows_of rs)) (pred st.undecided)
-        (on_line r.fits (λ q. omega (arith, r.none_is)) ∙ rw r.none_is) room' s'' (set fs (a - 1) q) rs'' (rw hp at hs) (ap (λ (v : ℕ). set fs (a - 1) v) hq ∙ put_index fs a (fate_number (verdict c)) r.act.low) hr)
+        (on_line r.fits (λ q. let n = r.none_is in clash cc) ∙ rw r.none_is) room' s'' (set fs (a - 1) q) rs'' (rw hp at hs) (ap (λ (v : ℕ). set fs (a - 1) v) hq ∙ put_index fs a (fate_number (verdict c)) r.act.low) hr)

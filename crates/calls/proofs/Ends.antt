@@ -13,6 +13,8 @@ use Rattle.encoding.proofs.Logic.{and_true}
 use Rattle.page.specs.Layout.{page_size}
 use Rattle.recovery.specs.Places.{put}
 use Rattle.recovery.specs.Log.{Entry, blank}
+use Rattle.recovery.specs.declared.Refusal.{Refusal}
+use Rattle.recovery.specs.declared.Refusal.TheVariants.{WrongSizes}
 use Rattle.recovery.specs.declared.Row.{Row}
 use Rattle.recovery.specs.declared.State.{State}
 use Rattle.recovery.specs.declared.Answer.{Answer}
@@ -41,7 +43,7 @@ lent_is s f r e n h =
     record { sizes = sizes_right_lem s f r b.0; end_in = leb-true e (s / page_size) b.1; few = leb-true n e a.1 }
 
 -- a refusal as the code makes it
-pub by_refuse : (d : Done) (n : ℕ) (s fs rs : List ℕ) (st : State) {x : Left} → d ≡ refusal n st → refused n 0 s fs rs st ≡ x → left_by d s fs rs ≡ x
+pub by_refuse : (d : Done) (n : Refusal) (s fs rs : List ℕ) (st : State) {x : Left} → d ≡ refusal n st → refused n 0 s fs rs st ≡ x → left_by d s fs rs ≡ x
 by_refuse d n s fs rs st h e = ap (λ (y : Done). left_by y s fs rs) h ∙ e
 
 module _ (s fs rs : List ℕ) (st : State) (k : Call) where
@@ -53,12 +55,12 @@ module _ (s fs rs : List ℕ) (st : State) (k : Call) where
   lower_same w a = rw (eq-eqb st.end st.end refl) (ap (told a) (sym (rows_back s fs rs st w)))
 
   -- line 1
-  pub ends_line_1 : line_one (length s) (length fs) (length rs) st.end st.undecided ≡ false → refused 1 0 s fs rs st ≡ call_leaves s fs rs st k
+  pub ends_line_1 : line_one (length s) (length fs) (length rs) st.end st.undecided ≡ false → refused WrongSizes 0 s fs rs st ≡ call_leaves s fs rs st k
   unfolding call_leaves call
   ends_line_1 h = go (whole (length s) (length rs)) refl
     where
-      go : (b : Bool) → whole (length s) (length rs) ≡ b → refused 1 0 s fs rs st ≡ call_leaves s fs rs st k
-      go true e = simp (e, lent_right_lem s fs rs st e ∙ h) (lower_same e (Refused 1 0))
+      go : (b : Bool) → whole (length s) (length rs) ≡ b → refused WrongSizes 0 s fs rs st ≡ call_leaves s fs rs st k
+      go true e = simp (e, lent_right_lem s fs rs st e ∙ h) (lower_same e (Refused WrongSizes 0))
       go false e = simp e
 
   module _ (h : line_one (length s) (length fs) (length rs) st.end st.undecided ≡ true) where

@@ -13,6 +13,8 @@ use Rattle.encoding.proofs.Logic.{and_true, by_test}
 use Rattle.page.specs.Layout.{value_size}
 use Rattle.recovery.specs.Places.{put}
 use Rattle.recovery.specs.Log.{Image, Entry, opening, image, outcome, verdict}
+use Rattle.recovery.specs.declared.Refusal.{Refusal}
+use Rattle.recovery.specs.declared.Refusal.TheVariants.{WrongSizes, NoFile, LongValue, NoAction, AlreadyDecided, DamagedRow, OtherToken, HangingRead, EarlyStart, NoRoom, NotBlank, LostLink, OnOlderSheet}
 use Rattle.recovery.specs.declared.Row.{Row}
 use Rattle.recovery.specs.declared.Answer.{Answer}
 use Rattle.recovery.specs.declared.Answer.TheVariants.{Rebuilt, Stored, Nothing, Told}
@@ -57,7 +59,7 @@ pub record Grows (asked : Call) (w : World) (g : Entry) (rows : List Row) : Type
 
 -- the four ways of a call, from one world
 pub record Ways (P : Result → Type 0) (asked : Call) (w : World) : Type 0 where
-  pub refusing : (n p : ℕ) → among (lines asked) n ≡ true → P (refuse n p w)
+  pub refusing : (n : Refusal) (p : ℕ) → among (lines asked) n ≡ true → P (refuse n p w)
   pub answering : (a : Answer) → is_refused a ≡ false → Passed asked w → P (a, w)
   pub changing : (a : Answer) (r : Row) → is_refused a ≡ false → Passed asked w → P (a, with_row w (file_of asked) r)
   pub growing : (g : Entry) (fates : List ℕ) (rows : List Row) (n : ℕ) → Grows asked w g rows → Passed asked w → P (Stored (suc w.end), append w g fates rows n)
@@ -68,35 +70,35 @@ module _ (P : Result → Type 0) where
 
   module _ (asked : Call) (w : World) (h : Ways P asked w) where
     -- it has this line
-    abbrev Has : ℕ → Type 0
+    abbrev Has : Refusal → Type 0
     Has n = among (lines asked) n ≡ true
 
     -- lines 11 and 12
-    stores : Has 11 → Has 12 → (m : ℕ) → 1 ≤ m → (g : Entry) (fates : List ℕ) (rows : List Row) (n : ℕ) → length (value_at g) ≡ value_size → RowsLeft asked w rows → Passed asked w
-        → P (cond (has_room w m) (store w g fates rows n) (refuse 11 0 w))
+    stores : Has NoRoom → Has NotBlank → (m : ℕ) → 1 ≤ m → (g : Entry) (fates : List ℕ) (rows : List Row) (n : ℕ) → length (value_at g) ≡ value_size → RowsLeft asked w rows → Passed asked w
+        → P (cond (has_room w m) (store w g fates rows n) (refuse NoRoom 0 w))
     stores l11 l12 m l g fates rows n v k q =
-        by_test P (has_room w m) {x = store w g fates rows n} {y = refuse 11 0 w} (λ e.
+        by_test P (has_room w m) {x = store w g fates rows n} {y = refuse NoRoom 0 w} (λ e.
         let room : m ≤ length w.sheet - w.end = leb-true m (length w.sheet - w.end) e in
-        either (is_blank (entry_at w (suc w.end))) (Stored (suc w.end), append w g fates rows n) (refuse 12 0 w)
-        (h.growing g fates rows n (record { room = omega arith; long = v; left = k }) q) (h.refusing 12 0 l12)) (λ e. h.refusing 11 0 l11)
+        either (is_blank (entry_at w (suc w.end))) (Stored (suc w.end), append w g fates rows n) (refuse NotBlank 0 w)
+        (h.growing g fates rows n (record { room = omega arith; long = v; left = k }) q) (h.refusing NotBlank 0 l12)) (λ e. h.refusing NoRoom 0 l11)
 
     -- line 7
-    holds : Has 7 → (f : ℕ) (r : Row) (k : Result) → P k → P (cond (row_holds w f r) k (refuse 7 0 w))
-    holds l7 f r k q = either (row_holds w f r) k (refuse 7 0 w) q (h.refusing 7 0 l7)
+    holds : Has DamagedRow → (f : ℕ) (r : Row) (k : Result) → P k → P (cond (row_holds w f r) k (refuse DamagedRow 0 w))
+    holds l7 f r k q = either (row_holds w f r) k (refuse DamagedRow 0 w) q (h.refusing DamagedRow 0 l7)
 
     -- lines 5 and 6
-    actions : Has 5 → (a : ℕ) (k : Result) → P k → P (for_action w a k)
-    actions l5 a k q = either (has_action w a) k (refuse 5 0 w) q (h.refusing 5 0 l5)
+    actions : Has NoAction → (a : ℕ) (k : Result) → P k → P (for_action w a k)
+    actions l5 a k q = either (has_action w a) k (refuse NoAction 0 w) q (h.refusing NoAction 0 l5)
 
-    unlesses : Has 6 → (a : ℕ) (k : Result) → P k → P (if_undecided w a k)
-    unlesses l6 a k q = either (is_decided (fate_at w a)) (refuse 6 0 w) k (h.refusing 6 0 l6) q
+    unlesses : Has AlreadyDecided → (a : ℕ) (k : Result) → P k → P (if_undecided w a k)
+    unlesses l6 a k q = either (is_decided (fate_at w a)) (refuse AlreadyDecided 0 w) k (h.refusing AlreadyDecided 0 l6) q
 
-    undecideds : Has 5 → Has 6 → (a : ℕ) (k : Result) → P k → P (for_undecided w a k)
+    undecideds : Has NoAction → Has AlreadyDecided → (a : ℕ) (k : Result) → P k → P (for_undecided w a k)
     undecideds l5 l6 a k q = actions l5 a (if_undecided w a k) (unlesses l6 a k q)
 
     -- line 3
-    files : Has 3 → (f : ℕ) (k : Result) → P k → P (for_file w f k)
-    files l3 f k q = either (is_file (length w.rows) f) k (refuse 3 0 w) q (h.refusing 3 0 l3)
+    files : Has NoFile → (f : ℕ) (k : Result) → P k → P (for_file w f k)
+    files l3 f k q = either (is_file (length w.rows) f) k (refuse NoFile 0 w) q (h.refusing NoFile 0 l3)
 
   module _ (w : World) where
     begins : Ways P begin w → P (on_begin w)
@@ -113,15 +115,15 @@ module _ (P : Result → Type 0) where
     writes f start a v r h short =
         let g : Entry = image (record { file = f; action = a; link = r.current; start = start; value = v }) in
         let rows : List Row = put w.rows f (written r (suc w.end) start a) in
-        let room : Result = cond (has_room w (w.undecided + 1)) (store w g w.fates rows w.undecided) (refuse 11 0 w) in
+        let room : Result = cond (has_room w (w.undecided + 1)) (store w g w.fates rows w.undecided) (refuse NoRoom 0 w) in
         let long : length (padded v) ≡ value_size = simp (length-append, length-replicate) (omega arith) in
         let late : Bool = ltb r.currentend start && ltb w.floor start in
-        let timely : Result = cond late room (refuse 10 0 w) in
-        holds (write f start a v) w h refl f r (cond (is_free_for a r) timely (refuse 8 r.tokenaction w)) (either (is_free_for a r) timely (refuse 8 r.tokenaction w)
-        (by_test P late {x = room} {y = refuse 10 0 w} (λ e.
+        let timely : Result = cond late room (refuse EarlyStart 0 w) in
+        holds (write f start a v) w h refl f r (cond (is_free_for a r) timely (refuse OtherToken r.tokenaction w)) (either (is_free_for a r) timely (refuse OtherToken r.tokenaction w)
+        (by_test P late {x = room} {y = refuse EarlyStart 0 w} (λ e.
         stores (write f start a v) w h refl refl (w.undecided + 1) (omega arith) g w.fates rows w.undecided long (written r (suc w.end) start a, refl)
         (ltb-true w.floor start (and_true (ltb r.currentend start) (ltb w.floor start) e).1))
-        (λ e. h.refusing 10 0 refl)) (h.refusing 8 r.tokenaction refl))
+        (λ e. h.refusing EarlyStart 0 refl)) (h.refusing OtherToken r.tokenaction refl))
 
     row_answers : (f : ℕ) (r : Row) → Ways P (rebuild f) w → P (answer_row w f r)
     unfolding is_refused
@@ -133,8 +135,8 @@ module _ (P : Result → Type 0) where
       unfolding is_refused file_of
       walks r (met x) = h.changing (version_answer x) r refl tt
       walks r nothing = h.changing Nothing r refl tt
-      walks r early = h.refusing 25 0 refl
-      walks r (lost place) = h.refusing 13 place refl
+      walks r early = h.refusing OnOlderSheet 0 refl
+      walks r (lost place) = h.refusing LostLink place refl
 
       versions : (r : Row) → P (on_versions w f time r)
       versions r =
@@ -146,13 +148,13 @@ module _ (P : Result → Type 0) where
       tokens r (some i) =
           let x : Answer = version_answer (record { place = r.token; image = i }) in
           let own : Result = (x, with_row w f (read_token time r)) in
-          either (leb i.start time) (cond (eqb i.action a) own (refuse 9 i.action w)) (on_versions w f time r)
-          (either (eqb i.action a) own (refuse 9 i.action w) (h.changing x (read_token time r) refl tt) (h.refusing 9 i.action refl)) (versions r)
+          either (leb i.start time) (cond (eqb i.action a) own (refuse HangingRead i.action w)) (on_versions w f time r)
+          (either (eqb i.action a) own (refuse HangingRead i.action w) (h.changing x (read_token time r) refl tt) (h.refusing HangingRead i.action refl)) (versions r)
 
       reads : (r : Row) → P (on_read w f time a r)
       reads r = let x : Option Image = image_of (entry_at w r.token) in holds (read f time a) w h refl f r (on_token w f time a r x) (tokens r x)
 
-pub line_1 : (k : Call) → among (lines k) 1 ≡ true
+pub line_1 : (k : Call) → among (lines k) WrongSizes ≡ true
 line_1 begin = refl
 line_1 (write f start a v) = refl
 line_1 (read f time a) = refl
@@ -170,10 +172,10 @@ module _ (P : Result → Type 0) (w : World) where
   past_line_1 begin h g l = begins P w h
   past_line_1 (write f start a v) h g l =
       let x : Result = on_write (warmed w f) f start a v (warm_row w f) in
-      files P (write f start a v) w h refl f (cond (leb (length v) value_size) (for_undecided w a x) (refuse 4 0 w))
-      (by_test P (leb (length v) value_size) {x = for_undecided w a x} {y = refuse 4 0 w}
+      files P (write f start a v) w h refl f (cond (leb (length v) value_size) (for_undecided w a x) (refuse LongValue 0 w))
+      (by_test P (leb (length v) value_size) {x = for_undecided w a x} {y = refuse LongValue 0 w}
       (λ e. undecideds P (write f start a v) w h refl refl a x (writes P (warmed w f) f start a v (warm_row w f) g (leb-true (length v) value_size e)))
-      (λ e. h.refusing 4 0 refl))
+      (λ e. h.refusing LongValue 0 refl))
   past_line_1 (read f time a) h g l =
       let x : Result = on_read (warmed w f) f time a (warm_row w f) in
       let q : P x = reads P (warmed w f) f time a g (warm_row w f) in
@@ -191,4 +193,4 @@ module _ (P : Result → Type 0) (w : World) where
 
   pub every_call : (k : Call) → Ways P k w → Ways P k (warmed w (file_of k)) → P (call w k)
   unfolding call
-  every_call k h g = by_test P (lent_right w) {x = on w k} {y = refuse 1 0 w} (past_line_1 k h g) (λ e. h.refusing 1 0 (line_1 k))
+  every_call k h g = by_test P (lent_right w) {x = on w k} {y = refuse WrongSizes 0 w} (past_line_1 k h g) (λ e. h.refusing WrongSizes 0 (line_1 k))

@@ -9,6 +9,7 @@ use lib.ListN.{length}
 use Rattle.encoding.proofs.Logic.{by_test, clash}
 use Rattle.recovery.specs.Log.{Image, image}
 use Rattle.recovery.specs.Sheet.{sealed}
+use Rattle.recovery.specs.declared.Refusal.TheVariants.{WrongSizes}
 use Rattle.recovery.specs.declared.State.{State}
 use Rattle.recovery.specs.declared.Answer.TheVariants.{Stored}
 use Rattle.recovery.specs.Numbers.{is_refused}
@@ -32,7 +33,7 @@ pub floor_stays : (s fates rows : List ℕ) (state : State) (k : Call) → (call
 unfolding call_leaves SameFloor
 floor_stays s fates rows state k =
     let w : World = lent s fates rows state in
-    by_test (λ (x : Left). x.state.floor ≡ state.floor) (whole (length s) (length rows)) {x = lower s state.end (call w k)} {y = refused 1 0 s fates rows state}
+    by_test (λ (x : Left). x.state.floor ≡ state.floor) (whole (length s) (length rows)) {x = lower s state.end (call w k)} {y = refused WrongSizes 0 s fates rows state}
     (λ e. every_call (SameFloor w) w k (ways w k w refl) (ways w k (warmed w (file_of k)) refl)) (λ e. refl)
 
 -- ---- a write that is answered starts above it
@@ -55,7 +56,7 @@ module _ (s fates rows : List ℕ) (state : State) (f start a : ℕ) (value : Li
   above_floor =
       let w : World = lent s fates rows state in
       by_test (λ (x : Left). x.answer ≡ Stored place → state.floor < start) (whole (length s) (length rows))
-      {x = lower s state.end (call w (write f start a value))} {y = refused 1 0 s fates rows state} (λ _ h.
+      {x = lower s state.end (call w (write f start a value))} {y = refused WrongSizes 0 s fates rows state} (λ _ h.
       every_call (Late w start) w (write f start a value) (late_ways w w f start a value refl) (late_ways w (warmed w (file_of (write f start a value))) f start a value refl) (ap is_refused h)) (λ _ h. clash cc)
 
   -- and so above every sealed image of a sheet whose highest start is no higher than the floor

@@ -14,6 +14,7 @@ use Rattle.encoding.proofs.Logic.{by_test}
 use Rattle.page.specs.Layout.{page_size, value_size}
 use Rattle.page.proofs.RoundTrip.{length_packed}
 use Rattle.recovery.specs.Log.{Entry, blank}
+use Rattle.recovery.specs.declared.Refusal.TheVariants.{WrongSizes}
 use Rattle.recovery.specs.declared.State.{State}
 use Rattle.recovery.specs.World.{World, Result, entry_at}
 use Rattle.recovery.specs.Lent.{lent, whole, row_length, refused}
@@ -84,7 +85,7 @@ module _ (s fs rs : List ℕ) (st : State) where
   unfolding call_leaves
   only_one_page k = go (whole (length s) (length rs))
     where
-      go : (b : Bool) → SameBut st.end s (cond b (lower s st.end (call (lent s fs rs st) k)) (refused 1 0 s fs rs st)).sheet
+      go : (b : Bool) → SameBut st.end s (cond b (lower s st.end (call (lent s fs rs st) k)) (refused WrongSizes 0 s fs rs st)).sheet
       go true = lowered (call (lent s fs rs st) k) (grows (lent s fs rs st) k)
       go false = same st.end s
 
@@ -98,6 +99,6 @@ module _ (s fs rs : List ℕ) (st : State) where
   unfolding call_leaves
   room_above k = go (whole (length s) (length rs))
     where
-      go : (b : Bool) → ((cond b (lower s st.end (call (lent s fs rs st) k)) (refused 1 0 s fs rs st)).state.end ≡ st.end → ⊥) → page_size * st.end + page_size ≤ length s
+      go : (b : Bool) → ((cond b (lower s st.end (call (lent s fs rs st) k)) (refused WrongSizes 0 s fs rs st)).state.end ≡ st.end → ⊥) → page_size * st.end + page_size ≤ length s
       go true h = raised (call (lent s fs rs st) k) (grows (lent s fs rs st) k) h
       go false h = absurd (h refl)

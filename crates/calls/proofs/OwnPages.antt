@@ -14,6 +14,7 @@ use Rattle.recovery.specs.Log.{Entry, blank}
 use Rattle.recovery.specs.World.{World, Result, cold, entry_at, is_image_of, image_action, is_rebuilt_for}
 use Rattle.recovery.specs.Lent.{row_length, Left, pages_of, lent, whole, rows_of, flat, refused}
 use Rattle.recovery.specs.Steps.{row_of, sheet_world}
+use Rattle.recovery.specs.declared.Refusal.TheVariants.{WrongSizes}
 use Rattle.recovery.specs.declared.Row.{Row}
 use Rattle.recovery.specs.declared.State.{State}
 use Rattle.recovery.proofs.Leaves.{rows_back}
@@ -85,7 +86,7 @@ module _ (a : ℕ) (c : Bool) where
         lowered e (inl h) = inl (h.0, ap flat h.1 ∙ rows_back s fates rows state e)
         lowered e (inr h) = inr (h.0, ap flat h.1)
 
-        go : (b : Bool) → whole (length s) (length rows) ≡ b → Leaves s (cond b (lower s state.end (call w (decide a c))) (refused 1 0 s fates rows state))
+        go : (b : Bool) → whole (length s) (length rows) ≡ b → Leaves s (cond b (lower s state.end (call w (decide a c))) (refused WrongSizes 0 s fates rows state))
         go true e = lowered e (settles w)
         go false e = inl (refl, refl)
 

@@ -11,6 +11,7 @@ use Rattle.page.specs.Layout.{page_size, value_size}
 use Rattle.recovery.specs.Log.{Placed}
 use Rattle.recovery.specs.Sheet.{page_bytes, image_from, decoded}
 use Rattle.recovery.specs.World.{is_carried}
+use Rattle.recovery.specs.declared.Refusal.TheVariants.{LostLink}
 use Rattle.recovery.specs.declared.Answer.TheVariants.{Refused, Value}
 use Rattle.recovery.specs.Lent.{pages_of}
 use Rattle.recovery.specs.Steps.{sealed_image}
@@ -49,7 +50,7 @@ module _ (files : ℕ) (s : List ℕ) (f t : ℕ) (b : Bool) (p : ℕ) (x : Page
     walk_end e = sym (ap walk_answer (unlinked (carried_in files s) (pages_of s files) f t b here low e ∙ ap none_below flag))
 
     module _ (z : x.link ≡ 0 → ⊥) (r : Option Page) (hr : r ≡ sealed_image files s f x.link) where
-      pub walk_lost : r ≡ None → Refused 13 p ≡ walk_at files s f t b p x
+      pub walk_lost : r ≡ None → Refused LostLink p ≡ walk_at files s f t b p x
       unfolding walk_at
       walk_lost e = sym (ap walk_answer (mislinked (carried_in files s) (pages_of s files) f t b here low (falls files s f p x m) z (none_at files s f x.link (sym e ∙ hr))))
 

@@ -4,7 +4,7 @@
 -- Assumes nothing.
 use Prim.Native.Nat.{ℕ}
 use mathlib.Core.Path.{◌≡◌, refl, sym, ap, ◌∙◌}
-use mathlib.Core.Bool.{Bool, true, false, cond, false≢true}
+use mathlib.Core.Bool.{Bool, true, false, cond}
 use mathlib.Core.List.{List}
 use mathlib.Core.Logic.{◌⊎◌, inl, inr}
 use native.Mathlib.Omega.{arith}
@@ -12,17 +12,38 @@ use lib.ListN.{length}
 use borrow.Author.Tests.{eq-eqb}
 use Rattle.encoding.proofs.Logic.{by_test}
 use Rattle.recovery.specs.Places.{put}
+use Rattle.recovery.specs.declared.Refusal.{Refusal}
+use Rattle.recovery.specs.declared.Refusal.TheVariants.{WrongSizes, BadPage, NoFile, LongValue, NoAction, AlreadyDecided, DamagedRow, OtherToken, HangingRead, EarlyStart, NoRoom, NotBlank, LostLink, UndecidedAction, UnfinishedMove, OnOlderSheet}
 use Rattle.recovery.specs.declared.State.{State}
 use Rattle.recovery.specs.declared.Answer.{Answer}
 use Rattle.recovery.specs.declared.Answer.TheVariants.{Refused, Stored}
 use Rattle.recovery.specs.World.{World, Result, with_row, warm_row}
 use Rattle.recovery.specs.Lent.{Left, lent, whole, rows_of, flat, refused}
 use Rattle.recovery.proofs.Leaves.{rows_back}
-use Rattle.calls.specs.Calls.{Call, begin, write, read, test, decide, rebuild, append, call}
+use Rattle.calls.specs.Calls.{Call, append, call}
 use Rattle.calls.specs.Leaves.{lower, call_leaves}
-use Rattle.recovery.specs.Numbers.{is_refused}
+use Rattle.recovery.specs.Numbers.{refusal_number, is_refused}
 use Rattle.calls.specs.Lines.{lines, among}
 use Rattle.calls.proofs.EveryCall.{Ways, file_of, warmed, line_1, every_call}
+
+-- no refusal has that number
+pub no_14 : (n : Refusal) → refusal_number n ≡ 14 → ⊥
+no_14 WrongSizes h = absurd (omega arith)
+no_14 BadPage h = absurd (omega arith)
+no_14 NoFile h = absurd (omega arith)
+no_14 LongValue h = absurd (omega arith)
+no_14 NoAction h = absurd (omega arith)
+no_14 AlreadyDecided h = absurd (omega arith)
+no_14 DamagedRow h = absurd (omega arith)
+no_14 OtherToken h = absurd (omega arith)
+no_14 HangingRead h = absurd (omega arith)
+no_14 EarlyStart h = absurd (omega arith)
+no_14 NoRoom h = absurd (omega arith)
+no_14 NotBlank h = absurd (omega arith)
+no_14 LostLink h = absurd (omega arith)
+no_14 UndecidedAction h = absurd (omega arith)
+no_14 UnfinishedMove h = absurd (omega arith)
+no_14 OnOlderSheet h = absurd (omega arith)
 
 -- this world, or this world with the row of a file rebuilt if it is cold
 unfoldable pub Same : World → ℕ → World → Type 0
@@ -30,7 +51,7 @@ Same w f w' = (w' ≡ w) ⊎ (w' ≡ warmed w f)
 
 -- if a call ends so, refused, it is by one of its lines, and nothing more has changed
 abbrev Quiet : World → Call → Result → Type 0
-Quiet w k r = (n p : ℕ) → r.0 ≡ Refused n p → Same w (file_of k) r.1 × (among (lines k) n ≡ true)
+Quiet w k r = (n : Refusal) (p : ℕ) → r.0 ≡ Refused n p → Same w (file_of k) r.1 × (among (lines k) n ≡ true)
 
 module _ (w : World) (k : Call) where
   quiet : (a : Answer) (w' : World) → is_refused a ≡ false → Quiet w k (a, w')
@@ -50,7 +71,7 @@ module _ (w : World) (k : Call) where
   unfolding Same
   quietly = every_call (Quiet w k) w k (ways w (inl refl)) (ways (warmed w (file_of k)) (inr refl))
 
-pub refusals_change_nothing : (w : World) (k : Call) (n p : ℕ) → (call w k).0 ≡ Refused n p → Same w (file_of k) (call w k).1
+pub refusals_change_nothing : (w : World) (k : Call) (n : Refusal) (p : ℕ) → (call w k).0 ≡ Refused n p → Same w (file_of k) (call w k).1
 refusals_change_nothing w k n p e = (quietly w k n p e).0
 
 -- and so of what is lent
@@ -68,32 +89,24 @@ module _ (s fs rs : List ℕ) (st : State) where
   lowered f a w h (inr e) =
       rw e (record { sheet = rw (eq-eqb st.end st.end refl); fates = refl; state = refl; rows = inr refl })
 
-  pub refused_unchanged : (k : Call) (n p : ℕ) → (call_leaves s fs rs st k).answer ≡ Refused n p → Unchanged s fs rs st (file_of k) (call_leaves s fs rs st k)
+  pub refused_unchanged : (k : Call) (n : Refusal) (p : ℕ) → (call_leaves s fs rs st k).answer ≡ Refused n p → Unchanged s fs rs st (file_of k) (call_leaves s fs rs st k)
   unfolding call_leaves
   refused_unchanged k n p = go (whole (length s) (length rs)) refl
     where
-      go : (b : Bool) → whole (length s) (length rs) ≡ b → (cond b (lower s st.end (call (lent s fs rs st) k)) (refused 1 0 s fs rs st)).answer ≡ Refused n p
-          → Unchanged s fs rs st (file_of k) (cond b (lower s st.end (call (lent s fs rs st) k)) (refused 1 0 s fs rs st))
+      go : (b : Bool) → whole (length s) (length rs) ≡ b → (cond b (lower s st.end (call (lent s fs rs st) k)) (refused WrongSizes 0 s fs rs st)).answer ≡ Refused n p
+          → Unchanged s fs rs st (file_of k) (cond b (lower s st.end (call (lent s fs rs st) k)) (refused WrongSizes 0 s fs rs st))
       go true h e =
           lowered (file_of k) (call (lent s fs rs st) k).0 (call (lent s fs rs st) k).1 h (refusals_change_nothing (lent s fs rs st) k n p e)
       go false h e = record { sheet = refl; fates = refl; state = refl; rows = inl refl }
 
   -- ---- by which lines
 
-  pub own_lines : (k : Call) (n p : ℕ) → (call_leaves s fs rs st k).answer ≡ Refused n p → among (lines k) n ≡ true
+  pub own_lines : (k : Call) (n : Refusal) (p : ℕ) → (call_leaves s fs rs st k).answer ≡ Refused n p → among (lines k) n ≡ true
   unfolding call_leaves
   own_lines k n p =
       by_test (λ (l : Left). l.answer ≡ Refused n p → among (lines k) n ≡ true) (whole (length s) (length rs))
-      {x = lower s st.end (call (lent s fs rs st) k)} {y = refused 1 0 s fs rs st}
-      (λ h e. (quietly (lent s fs rs st) k n p e).1) (λ h e. let z : 1 ≡ n = cc in rw z at (line_1 k))
+      {x = lower s st.end (call (lent s fs rs st) k)} {y = refused WrongSizes 0 s fs rs st}
+      (λ h e. (quietly (lent s fs rs st) k n p e).1) (λ h e. let z : WrongSizes ≡ n = cc in rw z at (line_1 k))
 
-  pub not_14 : (k : Call) (p : ℕ) → (call_leaves s fs rs st k).answer ≡ Refused 14 p → ⊥
-  not_14 k p e = go k (own_lines k 14 p e)
-    where
-      go : (k : Call) → among (lines k) 14 ≡ true → ⊥
-      go begin = false≢true
-      go (write f start a v) = false≢true
-      go (read f time a) = false≢true
-      go (test a) = false≢true
-      go (decide a c) = false≢true
-      go (rebuild f) = false≢true
+  pub not_14 : (k : Call) (n : Refusal) (p : ℕ) → (call_leaves s fs rs st k).answer ≡ Refused n p → refusal_number n ≡ 14 → ⊥
+  not_14 k n p e = no_14 n

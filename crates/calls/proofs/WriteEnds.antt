@@ -6,8 +6,8 @@ use mathlib.Core.List.{List}
 use native.Mathlib.Omega.{arith}
 use lib.ListN.{length}
 use lib.Dec.{eqb, leb, ltb}
-use borrow.Author.Tests.{ne_eqb, le-leb, lt-leb, eqb-true, leb-true, ltb-true}
-use Rattle.encoding.proofs.Logic.{and_true}
+use borrow.Author.Tests.{le-leb, lt-leb, eqb-true, leb-true, ltb-true}
+use Rattle.encoding.proofs.Logic.{and_true, clash}
 use Rattle.page.specs.declared.Page.{Page}
 use Rattle.page.specs.Layout.{page_size, value_size}
 use Rattle.page.specs.Table.{packed, meets_rules}
@@ -16,56 +16,58 @@ use Rattle.page.specs.Answers.{in_bounds}
 use Rattle.page.proofs.Obeyed.{image_rules}
 use Rattle.recovery.specs.Places.{put}
 use Rattle.recovery.specs.Log.{Image, image}
+use Rattle.recovery.specs.declared.Refusal.{Refusal}
+use Rattle.recovery.specs.declared.Refusal.TheVariants.{NoFile, LongValue, DamagedRow, OtherToken, EarlyStart}
 use Rattle.recovery.specs.declared.Row.{Row}
 use Rattle.recovery.specs.declared.State.{State}
 use Rattle.recovery.specs.declared.Answer.{Answer}
 use Rattle.recovery.specs.declared.Answer.TheVariants.{Refused, Stored}
-use Rattle.recovery.specs.World.{World, Result, is_file, entry_at, is_image_of, place_holds, token_holds, row_holds, with_row, warm_row, refuse}
+use Rattle.recovery.specs.World.{World, Result, is_file, entry_at, is_image_of, place_holds, token_holds, row_holds, with_row, warm_row}
 use Rattle.recovery.specs.Lent.{row_length, rows_of, flat, lent, refused}
 use Rattle.recovery.specs.Steps.{line_one, row_holds_in, with_row_of, Warmed}
 use Rattle.recovery.proofs.FlatRows.{rows_long}
 use Rattle.calls.specs.Calls.{write, on, is_free_for, written, on_write, append}
 use Rattle.calls.specs.Leaves.{call_leaves, packed_entry, padded, with_page}
-use Rattle.calls.specs.LineSteps.{action_line, room_line}
-use Rattle.calls.specs.ReadSteps.{store_answer, write_answer}
+use Rattle.std.specs.Prelude.{Ok, Err}
+use Rattle.calls.specs.LineSteps.{Line, free, action_line, room_line}
+use Rattle.calls.specs.ReadSteps.{store_line, stored_at, write_answer}
 use Rattle.calls.proofs.Ends.{ends_same, ends_row, ends_grown}
-use Rattle.calls.proofs.ActionLines.{acting, undecided_by}
+use Rattle.calls.proofs.ActionLines.{acting, by_line, undecided_by}
 use Rattle.calls.proofs.RoomLines.{room_is, room_by, append_fits}
 use Rattle.calls.proofs.ReadWarming.{warm_is, put_warm}
 use Rattle.calls.proofs.WritePads.{pad_zeros}
 
 -- ---- four tests, one after the other
 
-abbrev answers : ℕ → ℕ → ℕ → Bool → Bool → Bool → Bool → Answer
-answers e k n b1 b2 b3 b4 = cond b1 (cond b2 (cond b3 (cond b4 (Stored e) (Refused n 0)) (Refused 10 0)) (Refused 8 k)) (Refused 7 0)
+abbrev answers : ℕ → ℕ → Line → Bool → Bool → Bool → Answer
+answers e k l b1 b2 b3 = cond b1 (cond b2 (stored_at e (cond b3 l (Err EarlyStart))) (Refused OtherToken k)) (Refused DamagedRow 0)
 
-abbrev four : ℕ → ℕ → ℕ → Bool → Bool → Bool → Bool → World → World → Result
-four e k n b1 b2 b3 b4 g v = cond b1 (cond b2 (cond b3 (cond b4 (Stored e, g) (Refused n 0, v)) (Refused 10 0, v)) (Refused 8 k, v)) (Refused 7 0, v)
+abbrev four : ℕ → ℕ → Line → Bool → Bool → Bool → World → World → Result
+four e k l b1 b2 b3 g v = cond b1 (cond b2 (cond b3 (by_line v (Stored e, g) l) (Refused EarlyStart 0, v)) (Refused OtherToken k, v)) (Refused DamagedRow 0, v)
 
 with_world : (r a : Answer) (v : World) → r ≡ a → ◌≡◌ {A = Result} (a, v) (r, v)
 with_world r a v h = ap (λ (x : Answer). (x, v)) (sym h)
 
-four_no : (e k n : ℕ) (b1 b2 b3 b4 : Bool) (g v : World) (r : Answer) → r ≡ answers e k n b1 b2 b3 b4 → ((place : ℕ) → r ≡ Stored place → ⊥)
-    → four e k n b1 b2 b3 b4 g v ≡ (r, v)
-four_no e k n false b2 b3 b4 g v r h t = with_world r (Refused 7 0) v h
-four_no e k n true false b3 b4 g v r h t = with_world r (Refused 8 k) v h
-four_no e k n true true false b4 g v r h t = with_world r (Refused 10 0) v h
-four_no e k n true true true false g v r h t = with_world r (Refused n 0) v h
-four_no e k n true true true true g v r h t = absurd (t e h)
+four_no : (e k : ℕ) (l : Line) (b1 b2 b3 : Bool) (g v : World) (r : Answer) → r ≡ answers e k l b1 b2 b3 → ((place : ℕ) → r ≡ Stored place → ⊥) → four e k l b1 b2 b3 g v ≡ (r, v)
+four_no e k l false b2 b3 g v r h t = with_world r (Refused DamagedRow 0) v h
+four_no e k l true false b3 g v r h t = with_world r (Refused OtherToken k) v h
+four_no e k l true true false g v r h t = with_world r (Refused EarlyStart 0) v h
+four_no e k (Err n) true true true g v r h t = with_world r (Refused n 0) v h
+four_no e k (Ok u) true true true g v r h t = absurd (t e h)
 
-pub record All (e : ℕ) (b1 b2 b3 b4 : Bool) (q : ℕ) : Type 0 where
+pub record All (e : ℕ) (l : Line) (b1 b2 b3 : Bool) (q : ℕ) : Type 0 where
   pub one : b1 ≡ true
   pub two : b2 ≡ true
   pub three : b3 ≡ true
-  pub four_is : b4 ≡ true
+  pub four_is : l ≡ free
   pub place : q ≡ e
 
-four_yes : (e k n : ℕ) (b1 b2 b3 b4 : Bool) (q : ℕ) → Stored q ≡ answers e k n b1 b2 b3 b4 → All e b1 b2 b3 b4 q
-four_yes e k n false b2 b3 b4 q h = let z : ◌≡◌ {A = ℕ} 0 1 = cc in absurd (omega arith)
-four_yes e k n true false b3 b4 q h = let z : ◌≡◌ {A = ℕ} 0 1 = cc in absurd (omega arith)
-four_yes e k n true true false b4 q h = let z : ◌≡◌ {A = ℕ} 0 1 = cc in absurd (omega arith)
-four_yes e k n true true true false q h = let z : ◌≡◌ {A = ℕ} 0 1 = cc in absurd (omega arith)
-four_yes e k n true true true true q h = record { one = refl; two = refl; three = refl; four_is = refl; place = cc }
+four_yes : (e k : ℕ) (l : Line) (b1 b2 b3 : Bool) (q : ℕ) → Stored q ≡ answers e k l b1 b2 b3 → All e l b1 b2 b3 q
+four_yes e k l false b2 b3 q h = clash cc
+four_yes e k l true false b3 q h = clash cc
+four_yes e k l true true false q h = clash cc
+four_yes e k (Err n) true true true q h = clash cc
+four_yes e k (Ok u) true true true q h = record { one = refl; two = refl; three = refl; four_is = refl; place = cc }
 
 -- ---- lines 3 to 6
 
@@ -73,24 +75,24 @@ module _ (s fs rs : List ℕ) (st : State) (h : line_one (length s) (length fs) 
   abbrev w : World
   w = lent s fs rs st
 
-  pub write_3 : is_file (length rs / row_length) f ≡ false → refused 3 0 s fs rs st ≡ call_leaves s fs rs st (write f t a v)
-  write_3 k = ends_same s fs rs st (write f t a v) h (Refused 3 0) (simp (rows_long rs, k))
+  pub write_3 : is_file (length rs / row_length) f ≡ false → refused NoFile 0 s fs rs st ≡ call_leaves s fs rs st (write f t a v)
+  write_3 k = ends_same s fs rs st (write f t a v) h (Refused NoFile 0) (simp (rows_long rs, k))
 
   module _ (g : is_file (length rs / row_length) f ≡ true) where
-    pub write_4 : value_size < length v → refused 4 0 s fs rs st ≡ call_leaves s fs rs st (write f t a v)
-    write_4 k = ends_same s fs rs st (write f t a v) h (Refused 4 0) (simp (rows_long rs, g, lt-leb (length v) value_size k))
+    pub write_4 : value_size < length v → refused LongValue 0 s fs rs st ≡ call_leaves s fs rs st (write f t a v)
+    write_4 k = ends_same s fs rs st (write f t a v) h (Refused LongValue 0) (simp (rows_long rs, g, lt-leb (length v) value_size k))
 
     module _ (short : length v ≤ value_size) where
       on_line : on w (write f t a v)
-          ≡ cond (eqb (action_line fs st.end a) 0) (on_write (with_row w f (warm_row w f)) f t a v (warm_row w f)) (refuse (action_line fs st.end a) 0 w)
+          ≡ by_line w (on_write (with_row w f (warm_row w f)) f t a v (warm_row w f)) (action_line fs st.end a)
       on_line = simp (rows_long rs, g, le-leb (length v) value_size short) (undecided_by w a (on_write (with_row w f (warm_row w f)) f t a v (warm_row w f)))
 
-      pub write_56 : (n : ℕ) → n ≡ action_line fs st.end a → (n ≡ 0 → ⊥) → refused n 0 s fs rs st ≡ call_leaves s fs rs st (write f t a v)
-      write_56 n hn k = ends_same s fs rs st (write f t a v) h (Refused n 0) (on_line ∙ rw (← hn, ne_eqb n 0 k))
+      pub write_56 : (n : Refusal) → Err n ≡ action_line fs st.end a → refused n 0 s fs rs st ≡ call_leaves s fs rs st (write f t a v)
+      write_56 n hn = ends_same s fs rs st (write f t a v) h (Refused n 0) (on_line ∙ rw (← hn))
 
       -- ---- lines 7 to 12, and the page
 
-      module _ (may : action_line fs st.end a ≡ 0) (r : Row) (xs : List ℕ) (wm : Warmed s fs rs f st.end r xs) where
+      module _ (may : action_line fs st.end a ≡ free) (r : Row) (xs : List ℕ) (wm : Warmed s fs rs f st.end r xs) where
         abbrev w₁ : World
         w₁ = with_row w f r
 
@@ -106,31 +108,31 @@ module _ (s fs rs : List ℕ) (st : State) (h : line_one (length s) (length fs) 
         abbrev g₁ : World
         g₁ = append w₁ (image I) fs (put (put (rows_of rs) f r) f r₁) st.undecided
 
-        abbrev line : ℕ
+        abbrev line : Line
         line = room_line s st.end (length rs / row_length) (st.undecided + 1)
 
         on_room : on w (write f t a v)
-            ≡ four (suc st.end) r.tokenaction line (row_holds w₁ f r) (is_free_for a r) (ltb r.currentend t && ltb st.floor t) (eqb line 0) g₁ w₁
+            ≡ four (suc st.end) r.tokenaction line (row_holds w₁ f r) (is_free_for a r) (ltb r.currentend t && ltb st.floor t) g₁ w₁
         on_room =
             on_warm
             ∙ rw (room_by (length rs / row_length) s fs (put (rows_of rs) f r) st.end st.floor st.undecided (st.undecided + 1) (omega arith) (Stored (suc st.end), g₁))
 
         pub write_refused : (x : Answer) → x ≡ write_answer s (length rs / row_length) st f t a r → ((place : ℕ) → x ≡ Stored place → ⊥)
             → record { answer = x; state = st; sheet = s; fates = fs; rows = xs } ≡ call_leaves s fs rs st (write f t a v)
-        unfolding write_answer store_answer row_holds_in row_holds
+        unfolding write_answer store_line row_holds_in row_holds
         write_refused x hx q =
             ends_row s fs rs st (write f t a v) h f r x
             (on_room
-            ∙ four_no (suc st.end) r.tokenaction line (row_holds w₁ f r) (is_free_for a r) (ltb r.currentend t && ltb st.floor t) (eqb line 0) g₁ w₁ x hx q)
+            ∙ four_no (suc st.end) r.tokenaction line (row_holds w₁ f r) (is_free_for a r) (ltb r.currentend t && ltb st.floor t) g₁ w₁ x hx q)
             g xs wm.left_is
 
         module _ (q : ℕ) (hq : Stored q ≡ write_answer s (length rs / row_length) st f t a r) where
-          all : All (suc st.end) (row_holds w₁ f r) (is_free_for a r) (ltb r.currentend t && ltb st.floor t) (eqb line 0) q
-          unfolding write_answer store_answer row_holds_in row_holds
-          all = four_yes (suc st.end) r.tokenaction line (row_holds w₁ f r) (is_free_for a r) (ltb r.currentend t && ltb st.floor t) (eqb line 0) q hq
+          all : All (suc st.end) line (row_holds w₁ f r) (is_free_for a r) (ltb r.currentend t && ltb st.floor t) q
+          unfolding write_answer store_line row_holds_in row_holds
+          all = four_yes (suc st.end) r.tokenaction line (row_holds w₁ f r) (is_free_for a r) (ltb r.currentend t && ltb st.floor t) q hq
 
           room : st.end < length s / page_size
-          room = omega (arith, room_is s st.end (length rs / row_length) (st.undecided + 1) (eqb-true line 0 all.four_is))
+          room = omega (arith, room_is s st.end (length rs / row_length) (st.undecided + 1) (sym all.four_is))
 
           link_low : r.current < suc st.end
           unfolding row_holds
@@ -150,7 +152,7 @@ module _ (s fs rs : List ℕ) (st : State) (h : line_one (length s) (length fs) 
               → (page_size * st.end + page_size ≤ length s) × (in_bounds page_size (suc st.end) (length rs / row_length) ≡ true) × (meets_rules p pv (suc st.end) (length rs / row_length) ≡ true)
           append_asked u p hg pv hp =
               let k = append_fits (length s) (length fs) (length rs) st.end st.undecided h room in
-              let l = acting fs st.end a may in
+              let l = acting fs st.end a (sym may) in
               let i = file_in in
               let c = ltb-true r.currentend t (and_true (ltb r.currentend t) (ltb st.floor t) all.three).0 in (
                 k.0,

@@ -5,6 +5,7 @@ use Rattle.std.proofs.Math.Option.{Option, some, none}
 use Rattle.page.specs.Layout.{value_size}
 use Rattle.recovery.specs.Places.{put}
 use Rattle.recovery.specs.Log.{Image, Entry, blank, torn, bad, opening, image, outcome, Fate, unknown, undecided, committed, aborted, Placed, verdict}
+use Rattle.recovery.specs.declared.Refusal.TheVariants.{WrongSizes, NoFile, LongValue, NoAction, AlreadyDecided, DamagedRow, OtherToken, HangingRead, EarlyStart, NoRoom, NotBlank, LostLink, OnOlderSheet}
 use Rattle.recovery.specs.declared.Row.{Row}
 use Rattle.recovery.specs.declared.Answer.{Answer}
 use Rattle.recovery.specs.declared.Answer.TheVariants.{Stored, Value, Nothing, Told}
@@ -23,7 +24,7 @@ pub data Call : Type 0 where
 -- ---- lines 3, 5, 6, 11
 
 abbrev pub for_file : World → ℕ → Result → Result
-for_file w f k = cond (is_file (length w.rows) f) k (refuse 3 0 w)
+for_file w f k = cond (is_file (length w.rows) f) k (refuse NoFile 0 w)
 
 abbrev pub is_known : Fate → Bool
 is_known unknown = false
@@ -41,10 +42,10 @@ abbrev pub has_action : World → ℕ → Bool
 has_action w a = leb 1 a && leb a w.end && is_known (fate_at w a)
 
 abbrev pub for_action : World → ℕ → Result → Result
-for_action w a k = cond (has_action w a) k (refuse 5 0 w)
+for_action w a k = cond (has_action w a) k (refuse NoAction 0 w)
 
 abbrev pub if_undecided : World → ℕ → Result → Result
-if_undecided w a k = cond (is_decided (fate_at w a)) (refuse 6 0 w) k
+if_undecided w a k = cond (is_decided (fate_at w a)) (refuse AlreadyDecided 0 w) k
 
 abbrev pub for_undecided : World → ℕ → Result → Result
 for_undecided w a k = for_action w a (if_undecided w a k)
@@ -58,7 +59,7 @@ abbrev pub append : World → Entry → List ℕ → List Row → ℕ → World
 append w g fates rows n = record { sheet = put w.sheet (suc w.end) g; fates = fates; rows = rows; end = suc w.end; floor = w.floor; undecided = n }
 
 abbrev pub store : World → Entry → List ℕ → List Row → ℕ → Result
-store w g fates rows n = cond (is_blank (entry_at w (suc w.end))) (Stored (suc w.end), append w g fates rows n) (refuse 12 0 w)
+store w g fates rows n = cond (is_blank (entry_at w (suc w.end))) (Stored (suc w.end), append w g fates rows n) (refuse NotBlank 0 w)
 
 -- ---- begin: lines 11, 12
 
@@ -66,7 +67,7 @@ abbrev pub on_begin : World → Result
 on_begin w =
     cond (has_room w (w.undecided + 2))
     (store w (opening false) (put w.fates (suc w.end) 1) w.rows (suc w.undecided))
-    (refuse 11 0 w)
+    (refuse NoRoom 0 w)
 
 -- ---- the image that a place of a row holds
 
@@ -99,10 +100,10 @@ on_write w f start a v r =
     (cond (has_room w (w.undecided + 1))
     (store w (image (record { file = f; action = a; link = r.current; start = start; value = v })) w.fates
     (put w.rows f (written r (suc w.end) start a)) w.undecided)
-    (refuse 11 0 w))
-    (refuse 10 0 w))
-    (refuse 8 r.tokenaction w))
-    (refuse 7 0 w)
+    (refuse NoRoom 0 w))
+    (refuse EarlyStart 0 w))
+    (refuse OtherToken r.tokenaction w))
+    (refuse DamagedRow 0 w)
 
 -- ---- read, on a warm row: lines 7, 9, 13, 25
 
@@ -121,8 +122,8 @@ version_answer x = Value x.place x.image.start (length x.image.value)
 abbrev pub answer_walk : World → ℕ → Row → Walk → Result
 answer_walk w f r (met x) = (version_answer x, with_row w f r)
 answer_walk w f r nothing = (Nothing, with_row w f r)
-answer_walk w f r early = refuse 25 0 w
-answer_walk w f r (lost place) = refuse 13 place w
+answer_walk w f r early = refuse OnOlderSheet 0 w
+answer_walk w f r (lost place) = refuse LostLink place w
 
 -- the time is at least the current start, or there is no current version
 abbrev pub reaches : ℕ → Option Image → Bool
@@ -158,11 +159,11 @@ abbrev pub on_token : World → ℕ → ℕ → ℕ → Row → Option Image →
 on_token w f time a r none = on_versions w f time r
 on_token w f time a r (some i) =
     cond (leb i.start time)
-    (cond (eqb i.action a) (version_answer (record { place = r.token; image = i }), with_row w f (read_token time r)) (refuse 9 i.action w))
+    (cond (eqb i.action a) (version_answer (record { place = r.token; image = i }), with_row w f (read_token time r)) (refuse HangingRead i.action w))
     (on_versions w f time r)
 
 abbrev pub on_read : World → ℕ → ℕ → ℕ → Row → Result
-on_read w f time a r = cond (row_holds w f r) (on_token w f time a r (image_of (entry_at w r.token))) (refuse 7 0 w)
+on_read w f time a r = cond (row_holds w f r) (on_token w f time a r (image_of (entry_at w r.token))) (refuse DamagedRow 0 w)
 
 -- ---- commit and abort, asked for the first time: lines 11, 12; and the rows that they change
 
@@ -195,7 +196,7 @@ abbrev pub on_decide : World → ℕ → Bool → Result
 on_decide w a c =
     cond (has_room w 1)
     (store w (outcome a c) (put w.fates a (fate_number (verdict c))) (each_row (settled w a c) 0 w.rows) (pred w.undecided))
-    (refuse 11 0 w)
+    (refuse NoRoom 0 w)
 
 -- ---- commit and abort, asked again: the action has this fate already
 
@@ -214,7 +215,7 @@ unless_decided w a c k = cond (is_decided_as c (fate_at w a)) (Stored (outcome_a
 abbrev pub on : World → Call → Result
 on w begin = on_begin w
 on w (write f start a v) =
-    for_file w f (cond (leb (length v) value_size) (for_undecided w a (on_write (with_row w f (warm_row w f)) f start a v (warm_row w f))) (refuse 4 0 w))
+    for_file w f (cond (leb (length v) value_size) (for_undecided w a (on_write (with_row w f (warm_row w f)) f start a v (warm_row w f))) (refuse LongValue 0 w))
 on w (read f time a) =
     for_file w f (cond (eqb a 0) (on_read (with_row w f (warm_row w f)) f time a (warm_row w f))
     (for_undecided w a (on_read (with_row w f (warm_row w f)) f time a (warm_row w f))))
@@ -223,4 +224,4 @@ on w (decide a c) = for_action w a (unless_decided w a c (on_decide w a c))
 on w (rebuild f) = rebuilt w f
 
 unfoldable pub call : World → Call → Result
-call w k = cond (lent_right w) (on w k) (refuse 1 0 w)
+call w k = cond (lent_right w) (on w k) (refuse WrongSizes 0 w)

@@ -1,28 +1,29 @@
 -- What smaller functions of commit and abort answer. A reader of document 01 can pass this file over: the laws
 -- join it to `call`.
-use Rattle.std.specs.Prelude.{List, Bool, cond, ℕ, ◌/◌, length, eqb}
+use Rattle.std.specs.Prelude.{List, Bool, cond, ℕ, ◌/◌, length, eqb, Err}
 use Rattle.recovery.specs.Lent.{row_length, rows_of, flat}
 use Rattle.recovery.specs.Places.{nth}
 use Rattle.recovery.specs.Log.{verdict}
 use Rattle.recovery.specs.World.{fate_number}
 use Rattle.recovery.specs.Steps.{row_of, with_row_of, sheet_world, line_one, outcome_in, refusal}
+use Rattle.recovery.specs.declared.Refusal.TheVariants.{WrongSizes, AlreadyDecided}
 use Rattle.recovery.specs.declared.State.{State}
 use Rattle.recovery.specs.declared.Done.{Done}
 use Rattle.recovery.specs.declared.Answer.TheVariants.{Stored}
 use Rattle.calls.specs.Calls.{decided, is_token_at, holds_token, settled, each_row}
-use Rattle.calls.specs.LineSteps.{action_line, room_line}
+use Rattle.calls.specs.LineSteps.{Line, and_then, action_line, room_line}
 
--- the first line that commit and abort meet, 0 if none; line 6 is met by a decision that is asked again too
-unfoldable pub decide_line : List ℕ → List ℕ → List ℕ → State → ℕ → ℕ
+-- the lines of commit and abort; line 6 is met by a decision that is asked again too
+unfoldable pub decide_line : List ℕ → List ℕ → List ℕ → State → ℕ → Line
 decide_line s fates rows state a =
     cond (line_one (length s) (length fates) (length rows) state.end state.undecided)
-    (cond (eqb (action_line fates state.end a) 0) (room_line s state.end (length rows / row_length) 1) (action_line fates state.end a))
-    1
+    (and_then (action_line fates state.end a) (λ _. room_line s state.end (length rows / row_length) 1))
+    (Err WrongSizes)
 
 -- a decision of an action that is decided already: the same one, by the lent fate, is answered with the place of its outcome
 unfoldable pub decided_again : List ℕ → List ℕ → ℕ → State → ℕ → Bool → Done
 decided_again s fates files state a c =
-    cond (eqb (nth 0 fates a) (fate_number (verdict c))) (record { answer = Stored (outcome_in s files state.end a); state = state }) (refusal 6 state)
+    cond (eqb (nth 0 fates a) (fate_number (verdict c))) (record { answer = Stored (outcome_in s files state.end a); state = state }) (refusal AlreadyDecided state)
 
 -- whether a place holds a token of this action, by the sheet and the end alone
 unfoldable pub is_token_in : List ℕ → ℕ → ℕ → ℕ → ℕ → ℕ → Bool

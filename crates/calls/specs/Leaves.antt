@@ -6,6 +6,7 @@ use Rattle.page.specs.Table.{packed, meets_rules}
 use Rattle.page.specs.Answers.{in_bounds}
 use Rattle.page.specs.Table as table
 use Rattle.recovery.specs.Log.{Entry, blank, torn, bad, opening, image, outcome}
+use Rattle.recovery.specs.declared.Refusal.TheVariants.{WrongSizes}
 use Rattle.recovery.specs.declared.State.{State}
 use Rattle.recovery.specs.World.{World, Result, entry_at}
 use Rattle.recovery.specs.Lent.{Left, lent, whole, state_of, flat, refused}
@@ -58,4 +59,4 @@ lower s end r = record { answer = r.0; state = state_of r.1; sheet = grown s end
 
 unfoldable pub call_leaves : List ℕ → List ℕ → List ℕ → State → Call → Left
 call_leaves s fates rows state k =
-    cond (whole (length s) (length rows)) (lower s state.end (call (lent s fates rows state) k)) (refused 1 0 s fates rows state)
+    cond (whole (length s) (length rows)) (lower s state.end (call (lent s fates rows state) k)) (refused WrongSizes 0 s fates rows state)

@@ -1,15 +1,18 @@
 -- The lines by which each call can be refused, in checking order (docs/STORE.md, Why a call says no).
-use Rattle.std.specs.Prelude.{List, [], ◌∷◌, Bool, false, ◌||◌, ℕ, eqb}
+use Rattle.std.specs.Prelude.{List, [], ◌∷◌, Bool, false, ◌||◌, eqb}
+use Rattle.recovery.specs.Numbers.{refusal_number}
 use Rattle.calls.specs.Calls.{Call, begin, write, read, test, decide, rebuild}
+use Rattle.recovery.specs.declared.Refusal.{Refusal}
+use Rattle.recovery.specs.declared.Refusal.TheVariants.{WrongSizes, NoFile, LongValue, NoAction, AlreadyDecided, DamagedRow, OtherToken, HangingRead, EarlyStart, NoRoom, NotBlank, LostLink, OnOlderSheet}
 
-abbrev pub lines : Call → List ℕ
-lines begin = 1 ∷ 11 ∷ 12 ∷ []
-lines (write file start action value) = 1 ∷ 3 ∷ 4 ∷ 5 ∷ 6 ∷ 7 ∷ 8 ∷ 10 ∷ 11 ∷ 12 ∷ []
-lines (read file time action) = 1 ∷ 3 ∷ 5 ∷ 6 ∷ 7 ∷ 9 ∷ 13 ∷ 25 ∷ []
-lines (test action) = 1 ∷ 5 ∷ []
-lines (decide action committed) = 1 ∷ 5 ∷ 6 ∷ 11 ∷ 12 ∷ []
-lines (rebuild file) = 1 ∷ 3 ∷ 7 ∷ []
+abbrev pub lines : Call → List Refusal
+lines begin = WrongSizes ∷ NoRoom ∷ NotBlank ∷ []
+lines (write file start action value) = WrongSizes ∷ NoFile ∷ LongValue ∷ NoAction ∷ AlreadyDecided ∷ DamagedRow ∷ OtherToken ∷ EarlyStart ∷ NoRoom ∷ NotBlank ∷ []
+lines (read file time action) = WrongSizes ∷ NoFile ∷ NoAction ∷ AlreadyDecided ∷ DamagedRow ∷ HangingRead ∷ LostLink ∷ OnOlderSheet ∷ []
+lines (test action) = WrongSizes ∷ NoAction ∷ []
+lines (decide action committed) = WrongSizes ∷ NoAction ∷ AlreadyDecided ∷ NoRoom ∷ NotBlank ∷ []
+lines (rebuild file) = WrongSizes ∷ NoFile ∷ DamagedRow ∷ []
 
-abbrev pub among : List ℕ → ℕ → Bool
-among [] n = false
-among (x ∷ xs) n = eqb x n || among xs n
+abbrev pub among : List Refusal → Refusal → Bool
+among [] why = false
+among (x ∷ xs) why = eqb (refusal_number x) (refusal_number why) || among xs why

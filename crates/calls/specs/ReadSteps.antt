@@ -1,10 +1,11 @@
 -- What smaller functions of read and write answer. A reader of document 01 can pass this file over: the laws join it to `on`.
-use Rattle.std.specs.Prelude.{◌≡◌, List, Bool, cond, ◌&&◌, ℕ, suc, ◌+◌, eqb, ltb, Option as Maybe, Some, None}
+use Rattle.std.specs.Prelude.{◌≡◌, List, Bool, cond, ◌&&◌, ℕ, suc, ◌+◌, eqb, ltb, Option as Maybe, Some, None, Ok, Err}
 use Rattle.std.proofs.Math.Option.{Option, some, none}
 use Rattle.page.specs.declared.Page.{Page}
 use Rattle.recovery.specs.Places.{nth}
 use Rattle.recovery.specs.Log.{Image, blank}
 use Rattle.recovery.specs.Sheet.{page_bytes, image_from}
+use Rattle.recovery.specs.declared.Refusal.TheVariants.{DamagedRow, OtherToken, EarlyStart, LostLink, OnOlderSheet}
 use Rattle.recovery.specs.declared.Row.{Row}
 use Rattle.recovery.specs.declared.State.{State}
 use Rattle.recovery.specs.declared.Answer.{Answer}
@@ -12,13 +13,13 @@ use Rattle.recovery.specs.declared.Answer.TheVariants.{Refused, Stored, Nothing}
 use Rattle.recovery.specs.World.{is_carried}
 use Rattle.recovery.specs.Lent.{pages_of}
 use Rattle.recovery.specs.Steps.{sealed_image, row_holds_in}
-use Rattle.calls.specs.LineSteps.{action_line, room_line}
+use Rattle.calls.specs.LineSteps.{Line, free, action_line, room_line}
 use Rattle.calls.specs.Walk.{Walk, met, nothing, early, lost, images_below, follow}
 use Rattle.calls.specs.Calls.{image_of, is_free_for, version_answer}
 
 -- lines 5 and 6 of read, which passes over them for action 0
-unfoldable pub read_line : List ℕ → ℕ → ℕ → ℕ
-read_line fates end a = cond (eqb a 0) 0 (action_line fates end a)
+unfoldable pub read_line : List ℕ → ℕ → ℕ → Line
+read_line fates end a = cond (eqb a 0) free (action_line fates end a)
 
 -- the image of a page's bytes, by the fields that were found
 abbrev pub image_by : List ℕ → Maybe Page → Option Image
@@ -34,8 +35,8 @@ pub record Looked (files : ℕ) (s : List ℕ) (file place : ℕ) (u : Maybe Pag
 abbrev pub walk_answer : Walk → Answer
 walk_answer (met x) = version_answer x
 walk_answer nothing = Nothing
-walk_answer early = Refused 25 0
-walk_answer (lost place) = Refused 13 place
+walk_answer early = Refused OnOlderSheet 0
+walk_answer (lost place) = Refused LostLink place
 
 abbrev pub carried_in : ℕ → List ℕ → ℕ → Bool
 carried_in files s a = is_carried (nth blank (pages_of s files) a)
@@ -44,15 +45,20 @@ unfoldable pub walk_at : ℕ → List ℕ → ℕ → ℕ → Bool → ℕ → P
 walk_at files s file time b place x =
     walk_answer (follow (carried_in files s) time b (record { place = place; image = image_from (page_bytes s place) x }) (images_below (pages_of s files) place file))
 
--- lines 10 to 12 of write, and 7 to 12: what is answered on a warm row
-unfoldable pub store_answer : List ℕ → ℕ → State → ℕ → Row → Answer
-store_answer s files state start r =
-    cond (ltb r.currentend start && ltb state.floor start)
-    (cond (eqb (room_line s state.end files (state.undecided + 1)) 0) (Stored (suc state.end)) (Refused (room_line s state.end files (state.undecided + 1)) 0))
-    (Refused 10 0)
+-- lines 10 to 12 of write on a warm row
+unfoldable pub store_line : List ℕ → ℕ → State → ℕ → Row → Line
+store_line s files state start r =
+    cond (ltb r.currentend start && ltb state.floor start) (room_line s state.end files (state.undecided + 1)) (Err EarlyStart)
+
+-- what is answered by them, for a page stored at a place
+abbrev pub stored_at : ℕ → Line → Answer
+stored_at place (Ok _) = Stored place
+stored_at place (Err why) = Refused why 0
+
+-- lines 7 to 12 of write: what is answered on a warm row
 
 unfoldable pub write_answer : List ℕ → ℕ → State → ℕ → ℕ → ℕ → Row → Answer
 write_answer s files state file start a r =
     cond (row_holds_in s files state.end file r)
-    (cond (is_free_for a r) (store_answer s files state start r) (Refused 8 r.tokenaction))
-    (Refused 7 0)
+    (cond (is_free_for a r) (stored_at (suc state.end) (store_line s files state start r)) (Refused OtherToken r.tokenaction))
+    (Refused DamagedRow 0)

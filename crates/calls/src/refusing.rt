@@ -1,52 +1,51 @@
-// The lines of the refusals (docs/STORE.md, Why a call says no) that several calls test: each function answers the line that
-// refuses, or 0.
+// The lines of the refusals (docs/STORE.md, Why a call says no) that several calls test: `Err` where a line refuses.
 ghost use Rattle.std.specs.Prelude.{◌≡◌, ◌+◌};
 ghost use Rattle.calls.specs.LineSteps.{known_fate, action_line, room_line};
 
 use page::Page;
-use recovery::{fate_at, is_blank_at};
+use recovery::{Refusal, fate_at, is_blank_at};
 
-// An action's fate, 0 where line 5 refuses.
-pub fn known_fate(fates: &[u8], end: u64, action: u64) -> u64
+// Line 5: an action's fate, 1 to 3.
+#[tactic(auto, unfolding(crate::specs::LineSteps::known_fate))]
+pub fn known_fate(fates: &[u8], end: u64, action: u64) -> Result<u64, Refusal>
     ensures { result ≡ known_fate fates.now end action }
 {
     let fate = fate_at(fates, action);
     if end < action {
-        return 0;
+        return Err(Refusal::NoAction);
     }
-    if 3 < fate {
-        return 0;
+    if !matches!(fate, 1..=3) {
+        return Err(Refusal::NoAction);
     }
-    fate
+    Ok(fate)
 }
 
 // Lines 5 and 6.
-pub fn action_line(fates: &[u8], end: u64, action: u64) -> u64
+#[tactic(auto, unfolding(crate::specs::LineSteps::action_line))]
+pub fn action_line(fates: &[u8], end: u64, action: u64) -> Result<(), Refusal>
     ensures { result ≡ action_line fates.now end action }
 {
-    let fate = known_fate(fates, end, action);
-    if fate == 0 {
-        return 5;
-    }
+    let fate = known_fate(fates, end, action)?;
     if fate != 1 {
-        return 6;
+        return Err(Refusal::AlreadyDecided);
     }
-    0
+    Ok(())
 }
 
 // Lines 11 and 12, for a call that stores one page above the end and leaves so many more for outcomes.
-pub fn room_line(sheet: &[u8], end: u64, files: u64, reserve: u64) -> u64
+#[tactic(auto, using(crate::proofs::RoomLines::line_11, crate::proofs::RoomLines::line_12, crate::proofs::RoomLines::line_free))]
+pub fn room_line(sheet: &[u8], end: u64, files: u64, reserve: u64) -> Result<(), Refusal>
     ensures { result ≡ room_line sheet.now end files (reserve + 1) }
 {
     let pages = (sheet.len() / Page::SIZE) as u64;
     if pages <= end {
-        return 11;
+        return Err(Refusal::NoRoom);
     }
     if pages - end <= reserve {
-        return 11;
+        return Err(Refusal::NoRoom);
     }
     if !is_blank_at(sheet, end + 1, files) {
-        return 12;
+        return Err(Refusal::NotBlank);
     }
-    0
+    Ok(())
 }

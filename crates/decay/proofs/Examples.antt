@@ -16,6 +16,7 @@ use Rattle.recovery.specs.Log.{fate_of, images_of, not_by, effective, versions_o
 use Rattle.recovery.specs.Sheet.{page_bytes, decoded, sealed, pages}
 use Rattle.recovery.specs.World.{down, end_of, highest_bad, undecided_of, cold_rows, warm_row, row_holds, lent_right, rebuilt, opened, unfinished}
 use Rattle.recovery.specs.Lent.{row_length, rows_of, flat, Left, refused, closed, open_leaves, rebuild_leaves, sizes_right}
+use Rattle.recovery.specs.declared.Refusal.TheVariants.{BadPage}
 use Rattle.recovery.specs.declared.Answer.{Answer}
 use Rattle.recovery.specs.declared.Answer.TheVariants.{Refused, Opened, Rebuilt}
 use Rattle.std.specs.Prelude.{Ok}
@@ -71,7 +72,7 @@ pub others_stay_met : sealed 9 other_verdict 3 ≡ sealed 9 change 3
 unfolding packed head front fields_of lowest highest within between meets_rules is_page_of torn in_bounds tested decoded sealed
 others_stay_met = verdict_met.others_stay 3 9 (λ e. omega arith) refl
 
-pub not_opened_met : (p : ℕ) × (4 ≤ p) × (opens other_verdict ≡ refused 2 p other_verdict (replicate 4 0) (replicate (row_length * 2) 0) closed)
+pub not_opened_met : (p : ℕ) × (4 ≤ p) × (opens other_verdict ≡ refused BadPage p other_verdict (replicate 4 0) (replicate (row_length * 2) 0) closed)
 unfolding packed head front sizes_right
 not_opened_met = verdict_met.not_opened refl (replicate 4 0) (replicate (row_length * 2) 0) 0 refl
 
@@ -92,7 +93,7 @@ unfolding packed head front within lowest highest between meets_rules in_bounds 
 packed_spoiled_met = decay.packed_spoiled (outcome 1 1) (replicate value_size 0) (replicate page_size 0) (page_bytes change 4) 4 2 256 1 2 refl refl to_two refl
 
 -- and computed
-pub verdict_bad : (pages 2 4 other_verdict ≡ log.opening false ∷ seven ∷ eight ∷ log.bad ∷ []) × ((opens other_verdict).answer ≡ Refused 2 4)
+pub verdict_bad : (pages 2 4 other_verdict ≡ log.opening false ∷ seven ∷ eight ∷ log.bad ∷ []) × ((opens other_verdict).answer ≡ Refused BadPage 4)
 unfolding packed head front fields_of lowest highest within between meets_rules is_page_of torn in_bounds tested tabulate decoded sealed pages down end_of highest_bad rows_of opened open_leaves unfinished
 verdict_bad = (refl, refl)
 
@@ -111,13 +112,13 @@ pub action_bad_met : sealed 9 (spoiled change 1 59 1) 3 ≡ log.bad
 unfolding packed head front fields_of lowest highest within between meets_rules is_page_of torn in_bounds tested decoded sealed
 action_bad_met = (decay.sheet_spoiled change 2 1 59 1 refl to_one).action_bad 3 2 9 refl
 
-pub opening_spoiled : ((opens (spoiled change 1 59 1)).answer ≡ Refused 2 4) × (inspected (spoiled change 1 59 1) 2 ≡ Ok 1)
+pub opening_spoiled : ((opens (spoiled change 1 59 1)).answer ≡ Refused BadPage 4) × (inspected (spoiled change 1 59 1) 2 ≡ Ok 1)
 unfolding packed head front fields_of lowest highest within between meets_rules is_page_of torn in_bounds tested tabulate fate_of images_of not_by effective versions_of token_of decoded sealed pages down end_of highest_bad rows_of opened open_leaves unfinished lowest_unlawful inspectable inspected
 opening_spoiled = (refl, refl)
 
 -- with its end mark at 0 it is torn, and inspect names the lowest page of the action
 pub opening_torn : (sealed 2 (spoiled change 1 mark_at 0) 1 ≡ log.torn)
-    × ((opens (spoiled change 1 mark_at 0)).answer ≡ Refused 2 4) × (inspected (spoiled change 1 mark_at 0) 2 ≡ Ok 2)
+    × ((opens (spoiled change 1 mark_at 0)).answer ≡ Refused BadPage 4) × (inspected (spoiled change 1 mark_at 0) 2 ≡ Ok 2)
 unfolding packed head front fields_of lowest highest within between meets_rules is_page_of torn in_bounds tested tabulate fate_of images_of not_by effective versions_of token_of decoded sealed pages down end_of highest_bad rows_of opened open_leaves unfinished lowest_unlawful inspectable inspected
 opening_torn = (refl, refl, refl)
 

@@ -24,6 +24,7 @@ use Rattle.inspection.proofs.BadPages.{files_within, bad_unlawful, bad_named, la
 use Rattle.decay.specs.Decay.{is_sealed, OtherByte, zeroes_mark, spoiled, Decay}
 use Rattle.decay.proofs.Pages.{page_spoiled}
 use Rattle.decay.proofs.Sheets.{low, room, torn_or_bad, not_sealed, action_bad, others_stay, used, below_stays}
+use Rattle.recovery.specs.declared.Refusal.TheVariants.{BadPage}
 
 module _ (s : List ℕ) (count place i v : ℕ) (was : is_sealed (sealed count s place) ≡ true) (c : OtherByte (page_bytes s place) i v) (kept : zeroes_mark i v ≡ false) where
   abbrev t : List ℕ
@@ -42,7 +43,7 @@ module _ (s : List ℕ) (count place i v : ℕ) (was : is_sealed (sealed count s
   is_bad_lem files w = torn_or_bad s count place i v was c files w ∙ ap (λ (b : Bool). cond b torn bad) kept
 
   not_opened : (fates rows : List ℕ) (floor : ℕ) → sizes_right (length s) (length fates) (length rows) ≡ true
-      → (p : ℕ) × (place ≤ p) × (open_leaves t fates rows floor ≡ refused 2 p t fates rows closed)
+      → (p : ℕ) × (place ≤ p) × (open_leaves t fates rows floor ≡ refused BadPage p t fates rows closed)
   not_opened fates rows floor ok =
       let ok' : sizes_right (length t) (length fates) (length rows) ≡ true = ap (λ (n : ℕ). sizes_right n (length fates) (length rows)) as_long ∙ ok in
       let k : Sizes (length t) (length fates) (length rows) = sizes_right_lem (length t) (length fates) (length rows) ok' in

@@ -10,6 +10,7 @@ use Rattle.recovery.specs.Log.{Entry, blank, torn, bad, opening, image, outcome}
 use Rattle.recovery.specs.Sheet.{page_bytes, sealed}
 use Rattle.recovery.specs.Lent.{sizes_right, refused, closed, open_leaves}
 use Rattle.inspection.specs.Inspected.{inspectable, inspected}
+use Rattle.recovery.specs.declared.Refusal.TheVariants.{BadPage}
 
 -- ---- words of the statement
 
@@ -59,7 +60,7 @@ pub record Spoiled (s : List ℕ) (place i v : ℕ) : Type 0 where
   pub others_stay : (p files : ℕ) → (p ≡ place → ⊥) → is_of place (sealed files s p) ≡ false → sealed files (spoiled s place i v) p ≡ sealed files s p
   -- unless byte 63 became 0: past line 1 open is refused 2 and names a place not below the page; all that is lent is left as it was
   pub not_opened : zeroes_mark i v ≡ false → (fates rows : List ℕ) (floor : ℕ) → sizes_right (length s) (length fates) (length rows) ≡ true
-      → (p : ℕ) × (place ≤ p) × (open_leaves (spoiled s place i v) fates rows floor ≡ refused 2 p (spoiled s place i v) fates rows closed)
+      → (p : ℕ) × (place ≤ p) × (open_leaves (spoiled s place i v) fates rows floor ≡ refused BadPage p (spoiled s place i v) fates rows closed)
   -- and past line 1 inspect does not say lawful: it answers a place not above the page
   pub not_lawful : zeroes_mark i v ≡ false → (files : ℕ) → inspectable (length s) files ≡ true
       → (p : ℕ) × (1 ≤ p) × (p ≤ place) × (inspected (spoiled s place i v) files ≡ Ok p)

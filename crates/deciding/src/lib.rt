@@ -17,24 +17,27 @@ ghost use Rattle.calls.specs.DecideSteps.{decide_line, decided_again, is_token_i
 use calls::{action_line, append, room_line};
 use page::Page;
 use recovery::{
-    Answer, Done, Row, State, fate_at, file_count, is_lent_right, is_opening_at, next_named,
-    outcome_place, refuse, row_of, seek_at, set_row,
+    Answer, Done, Refusal, Row, State, fate_at, file_count, is_lent_right, is_opening_at,
+    next_named, outcome_place, refuse, row_of, seek_at, set_row,
 };
 pub use testing::test;
 
-// The first line that commit and abort meet, 0 if none; line 6 is met by a decision that is asked again too.
-fn decide_line(sheet: &[u8], fates: &[u8], rows: &[u64], state: State, action: u64) -> u64
+// The lines of commit and abort; line 6 is met by a decision that is asked again too.
+#[tactic(auto, unfolding(calls::specs::DecideSteps::decide_line))]
+fn decide_line(
+    sheet: &[u8],
+    fates: &[u8],
+    rows: &[u64],
+    state: State,
+    action: u64,
+) -> Result<(), Refusal>
     ensures { result ≡ decide_line sheet.now fates.now rows.now state action }
 {
     if !is_lent_right(sheet.len(), fates.len(), rows.len(), state) {
-        return 1;
+        return Err(Refusal::WrongSizes);
     }
-    let line = action_line(fates, state.end, action);
-    if line != 0 {
-        return line;
-    }
-    let files = file_count(rows.len());
-    room_line(sheet, state.end, files, 0)
+    action_line(fates, state.end, action)?;
+    room_line(sheet, state.end, file_count(rows.len()), 0)
 }
 
 // An action that is decided: whether it has an opening, and whether it commits.
@@ -162,7 +165,7 @@ fn decided_again(
     ensures { result ≡ decided_again sheet.now fates.now files state action committed }
 {
     if fate_at(fates, action) != outcome_fate(committed) as u64 {
-        return refuse(6, state);
+        return refuse(Refusal::AlreadyDecided, state);
     }
     Done {
         answer: Answer::Stored(outcome_place(sheet, state.end, files, action)),
@@ -182,13 +185,14 @@ fn decide(
 ) -> Done
     ensures { left_by result sheet.new fates.new rows.new ≡ call_leaves sheet.old fates.old rows.old state (Call.decide action committed) }
 {
-    let line = decide_line(&sheet[..], &fates[..], &rows[..], state, action);
     let files = file_count(rows.len());
-    if line == 6 {
-        return decided_again(&sheet[..], &fates[..], files, state, action, committed);
-    }
-    if line != 0 {
-        return refuse(line, state);
+    if let Err(why) = decide_line(&sheet[..], &fates[..], &rows[..], state, action) {
+        return match why {
+            Refusal::AlreadyDecided => {
+                decided_again(&sheet[..], &fates[..], files, state, action, committed)
+            }
+            _ => refuse(why, state),
+        };
     }
     let end = state.end;
     let opened = is_opening_at(&sheet[..], action, files);

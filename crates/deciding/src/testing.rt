@@ -5,19 +5,19 @@ ghost use Rattle.calls.specs.Calls.{Call};
 ghost use Rattle.calls.specs.Leaves.{call_leaves};
 
 use calls::known_fate;
-use recovery::{Answer, Done, State, file_count, is_lent_right, outcome_place, refuse};
+use recovery::{Answer, Done, Refusal, State, file_count, is_lent_right, outcome_place, refuse};
 
 // The fate of an action, and the place of its newest sealed outcome up to the end, 0 if there is none.
 pub fn test(sheet: &[u8], fates: &[u8], rows: &[u64], state: State, action: u64) -> Done
     ensures { left_by result sheet.now fates.now rows.now ≡ call_leaves sheet.now fates.now rows.now state (Call.test action) }
 {
     if !is_lent_right(sheet.len(), fates.len(), rows.len(), state) {
-        return refuse(1, state);
+        return refuse(Refusal::WrongSizes, state);
     }
-    let fate = known_fate(fates, state.end, action);
-    if fate == 0 {
-        return refuse(5, state);
-    }
+    let fate = match known_fate(fates, state.end, action) {
+        Ok(fate) => fate,
+        Err(why) => return refuse(why, state),
+    };
     let place = outcome_place(sheet, state.end, file_count(rows.len()), action);
     Done {
         answer: Answer::Told(fate, place),

@@ -14,6 +14,7 @@ use Rattle.recovery.specs.Sheet.{decoded, sealed, pages}
 use Rattle.recovery.specs.World.{down, warm_row, row_holds, lent_right, end_of, highest_bad, undecided_of, cold_rows, opened, unfinished}
 use Rattle.recovery.specs.Lent.{Left, row_length, rows_of, flat, sizes_right, open_leaves}
 use Rattle.recovery.specs.Numbers.{numbers_of}
+use Rattle.recovery.specs.declared.Refusal.TheVariants.{WrongSizes, NoRoom}
 use Rattle.recovery.specs.declared.Answer.TheVariants.{Refused, Opened, Stored}
 use Rattle.recovery.specs.OpenSteps.{refused_opening}
 use Rattle.recovery.proofs.OpeningLaws.{open_refused}
@@ -31,12 +32,12 @@ fits n some most =
     let whole : page_size * n / page_size ≡ n = omega arith in
     ap numbers_of (opened_blank 8 n some most (omega arith) (omega arith) (replicate (page_size * n / page_size) 0) (replicate (row_length * 8) 0) 0 (length-replicate {A = ℕ} (page_size * n / page_size) 0 ∙ whole) refl)
 
-refuses : (size : ℕ) → sizes_right size (size / page_size) (row_length * 8) ≡ false → numbers_of (point.opened size).answer ≡ point.refused 1
+refuses : (size : ℕ) → sizes_right size (size / page_size) (row_length * 8) ≡ false → numbers_of (point.opened size).answer ≡ point.refused WrongSizes
 unfolding point.opened
 refuses size e =
     let a = length-replicate {A = ℕ} size 0 in
     let b = length-replicate {A = ℕ} (size / page_size) 0 in
-    ap (λ (x : Left). numbers_of x.answer) (sym (open_refused (replicate size 0) (replicate (size / page_size) 0) (replicate (row_length * 8) 0) 0 (rw (a, b) e) (refused_opening 1 0) refl))
+    ap (λ (x : Left). numbers_of x.answer) (sym (open_refused (replicate size 0) (replicate (size / page_size) 0) (replicate (row_length * 8) 0) 0 (rw (a, b) e) (refused_opening WrongSizes 0) refl))
 
 row : {x y : List ℕ} {xs ys : List (List ℕ)} → x ≡ y → xs ≡ ys → x ∷ xs ≡ y ∷ ys
 row e f = λ i. e i ∷ f i
@@ -61,7 +62,7 @@ abbrev begun : Left
 begun = record { answer = Stored 1; state = record { end = 1; floor = 0; undecided = 1 }; sheet = packed_entry 1 (opening false) ++ replicate 64 0; fates = 1 ∷ 0 ∷ []; rows = replicate (row_length * 8) 0 }
 
 abbrev unwritten : Left
-unwritten = record { answer = Refused 11 0; state = begun.state; sheet = begun.sheet; fates = begun.fates; rows = 1 ∷ replicate (row_length * 8 - 1) 0 }
+unwritten = record { answer = Refused NoRoom 0; state = begun.state; sheet = begun.sheet; fates = begun.fates; rows = 1 ∷ replicate (row_length * 8 - 1) 0 }
 
 abbrev decided : Left
 decided = record { answer = Stored 2; state = record { end = 2; floor = 0; undecided = 0 }; sheet = packed_entry 1 (opening false) ++ packed_entry 2 (outcome 1 true); fates = 2 ∷ 0 ∷ []; rows = 1 ∷ replicate (row_length * 8 - 1) 0 }
@@ -77,7 +78,7 @@ record Computed : Type 0 where
   writes_not : point.then begun (write 1 1 1 []) ≡ unwritten
   commits : point.then unwritten (decide 1 true) ≡ decided
   commits_once : point.then decided (decide 1 true) ≡ decided
-  one_page : point.after 1 (begin ∷ []) ≡ point.refused 11
+  one_page : point.after 1 (begin ∷ []) ≡ point.refused NoRoom
   cut_none : cut_page 0 ≡ 0
   cut_most : cut_page 63 ≡ 1
   cut_all : cut_page 64 ≡ 3

@@ -6,6 +6,8 @@ use Rattle.recovery.specs.Log.{Entry, blank, torn, bad, opening, image, outcome}
 use Rattle.recovery.specs.Sheet.{sealed}
 use Rattle.recovery.specs.Lent.{Left, row_length, open_leaves}
 use Rattle.recovery.specs.Numbers.{numbers_of}
+use Rattle.recovery.specs.declared.Refusal.{Refusal}
+use Rattle.recovery.specs.declared.Refusal.TheVariants.{WrongSizes, NoRoom}
 use Rattle.recovery.specs.declared.Answer.TheVariants.{Refused, Opened, Stored}
 use Rattle.calls.specs.Calls.{Call, begin, write, decide}
 use Rattle.calls.specs.Leaves.{call_leaves}
@@ -48,8 +50,8 @@ fits = numbers_of (Opened 0 0)
 abbrev pub stored : ℕ → List ℕ
 stored place = numbers_of (Stored place)
 
-abbrev pub refused : ℕ → List ℕ
-refused number = numbers_of (Refused number 0)
+abbrev pub refused : Refusal → List ℕ
+refused why = numbers_of (Refused why 0)
 
 -- the check word over nothing, 01, 01 02 and 01 02 03
 abbrev pub words : List (List ℕ × List ℕ)
@@ -64,20 +66,20 @@ words =
 abbrev pub sizes : List (List ℕ × List ℕ)
 sizes =
     (numbers_of (opened 64).answer, fits)
-    ∷ (numbers_of (opened 0).answer, refused 1)
-    ∷ (numbers_of (opened 63).answer, refused 1)
-    ∷ (numbers_of (opened 65).answer, refused 1)
+    ∷ (numbers_of (opened 0).answer, refused WrongSizes)
+    ∷ (numbers_of (opened 63).answer, refused WrongSizes)
+    ∷ (numbers_of (opened 65).answer, refused WrongSizes)
     ∷ (numbers_of (opened 4194304).answer, fits)
-    ∷ (numbers_of (opened 4194368).answer, refused 1)
+    ∷ (numbers_of (opened 4194368).answer, refused WrongSizes)
     ∷ []
 
 abbrev pub runs : List (List ℕ × List ℕ)
 runs =
     -- one page: begin refused 11
-    (after 1 (begin ∷ []), refused 11)
+    (after 1 (begin ∷ []), refused NoRoom)
     -- two pages: begin accepted, write refused 11, commit accepted; a second commit answered alike, nothing written
     ∷ (after 2 (begin ∷ []), stored 1)
-    ∷ (after 2 (begin ∷ write 1 1 1 [] ∷ []), refused 11)
+    ∷ (after 2 (begin ∷ write 1 1 1 [] ∷ []), refused NoRoom)
     ∷ (after 2 (begin ∷ write 1 1 1 [] ∷ decide 1 true ∷ []), stored 2)
     ∷ (after 2 (begin ∷ write 1 1 1 [] ∷ decide 1 true ∷ decide 1 true ∷ []), stored 2)
     ∷ (sheet_after 2 (begin ∷ write 1 1 1 [] ∷ decide 1 true ∷ decide 1 true ∷ []), sheet_after 2 (begin ∷ write 1 1 1 [] ∷ decide 1 true ∷ []))

@@ -1,5 +1,6 @@
 -- A call as numbers, for the tests and timings outside Rattle, and all that it leaves of what is lent.
 use Rattle.std.specs.Prelude.{ℕ, ◌+◌, cond, List, [], ◌∷◌, ◌++◌, length, eqb, leb}
+use Rattle.recovery.specs.declared.Refusal.TheVariants.{WrongSizes}
 use Rattle.recovery.specs.declared.Answer.{Answer}
 use Rattle.recovery.specs.declared.State.{State}
 use Rattle.recovery.specs.Lent.{Left, refused}
@@ -25,7 +26,7 @@ state_with end floor undecided = record { end = end; floor = floor; undecided = 
 
 -- a number above abort's is no call's, and is refused 1
 unfoldable pub made : List ℕ → List ℕ → List ℕ → State → ℕ → Call → List ℕ → Left
-made s fates rows state kind k value = cond (leb kind 5) (call_leaves s fates rows state (asked k value)) (refused 1 0 s fates rows state)
+made s fates rows state kind k value = cond (leb kind 5) (call_leaves s fates rows state (asked k value)) (refused WrongSizes 0 s fates rows state)
 
 -- ---- what is left
 

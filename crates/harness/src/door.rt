@@ -7,7 +7,7 @@ ghost use Rattle.harness.specs.Door.{number_count, told_numbers, call_of, made, 
 
 use calls::Call;
 use making::make;
-use recovery::{ANSWER_LENGTH, Done, State, numbers_of, refuse};
+use recovery::{ANSWER_LENGTH, Done, Refusal, State, numbers_of, refuse};
 
 // Where the state's numbers lie, after the answer's, and how many are given.
 const END: usize = ANSWER_LENGTH;
@@ -70,7 +70,7 @@ fn made(
     ensures { left_by result sheet.new fates.new rows.new ≡ made sheet.old fates.old rows.old state kind call value.now }
 {
     if 5 < kind {
-        return refuse(1, state);
+        return refuse(Refusal::WrongSizes, state);
     }
     make(sheet, fates, rows, state, call, value)
 }

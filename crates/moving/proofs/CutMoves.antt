@@ -13,6 +13,7 @@ use borrow.Author.Tests.{eqb-true, eqb-false, eq-eqb, le-leb, leb-true, leb-fals
 use Rattle.page.specs.Layout.{page_size, most_places, most_files}
 use Rattle.recovery.specs.Places.{nth}
 use Rattle.recovery.specs.Log.{Image, Entry, blank, torn, opening, outcome, fate_of}
+use Rattle.recovery.specs.declared.Refusal.TheVariants.{UnfinishedMove}
 use Rattle.recovery.specs.declared.Row.{Row}
 use Rattle.recovery.specs.declared.State.{State}
 use Rattle.recovery.specs.declared.Answer.{Answer}
@@ -177,27 +178,27 @@ module _ (s fates rows : List ℕ) (state : State) (fresh : List ℕ) (floor : �
     f : (m : ℕ) × Carries v m × (take (suc c) gs ≡ opening true ∷ versions_to v m)
     f = front c h
 
-    whole_then : n ≡ page_size * suc c → (open_leaves cut_fresh fs rs t).answer ≡ Refused 24 0
+    whole_then : n ≡ page_size * suc c → (open_leaves cut_fresh fs rs t).answer ≡ Refused UnfinishedMove 0
     whole_then z =
         let y = whole_pages files fresh gs k n (suc c) (omega arith) low z in
         let rest : List Entry = drop (suc c) pages in
         let p : pages ≡ cut_sheet v f.0 rest = y.0 ∙ ap (λ (l : List Entry). l ++ rest) f.2 in
-        answer_as (cut_sheet v f.0 rest) (Refused 24 0) p (ap (λ (r : Result). r.0) (whole_cut v f.0 rest y.1 f.1 fs (rows_of rs) t (sized_as (cut_sheet v f.0 rest) p)))
+        answer_as (cut_sheet v f.0 rest) (Refused UnfinishedMove 0) p (ap (λ (r : Result). r.0) (whole_cut v f.0 rest y.1 f.1 fs (rows_of rs) t (sized_as (cut_sheet v f.0 rest) p)))
 
-    torn_then : page_size * suc c < n → n < page_size * suc c + page_size → (open_leaves cut_fresh fs rs t).answer ≡ Refused 24 0
+    torn_then : page_size * suc c < n → n < page_size * suc c + page_size → (open_leaves cut_fresh fs rs t).answer ≡ Refused UnfinishedMove 0
     torn_then a b =
         let y = torn_pages files fresh gs k n (suc c) (omega arith) low h a b in
         let rest : List Entry = drop (suc (suc c)) pages in
         let p : pages ≡ cut_sheet v f.0 (torn ∷ rest) = y.0 ∙ ap (λ (l : List Entry). l ++ (torn ∷ rest)) f.2 in
-        answer_as (cut_sheet v f.0 (torn ∷ rest)) (Refused 24 0) p (ap (λ (r : Result). r.0) (torn_cut v f.0 rest y.1 f.1 fs (rows_of rs) t (sized_as (cut_sheet v f.0 (torn ∷ rest)) p)))
+        answer_as (cut_sheet v f.0 (torn ∷ rest)) (Refused UnfinishedMove 0) p (ap (λ (r : Result). r.0) (torn_cut v f.0 rest y.1 f.1 fs (rows_of rs) t (sized_as (cut_sheet v f.0 (torn ∷ rest)) p)))
 
   -- and not the outcome
-  pub move_cut : page_size ≤ n → n < page_size * length gs → (open_leaves cut_fresh fs rs t).answer ≡ Refused 24 0
+  pub move_cut : page_size ≤ n → n < page_size * length gs → (open_leaves cut_fresh fs rs t).answer ≡ Refused UnfinishedMove 0
   move_cut l h = go (eqb (n % page_size) 0) refl
     where
       c : ℕ
       c = n / page_size - 1
 
-      go : (b : Bool) → eqb (n % page_size) 0 ≡ b → (open_leaves cut_fresh fs rs t).answer ≡ Refused 24 0
+      go : (b : Bool) → eqb (n % page_size) 0 ≡ b → (open_leaves cut_fresh fs rs t).answer ≡ Refused UnfinishedMove 0
       go true q = whole_then c (omega arith) (omega arith) (omega (arith, eqb-true (n % page_size) 0 q))
       go false q = torn_then c (omega arith) (omega arith) (omega (arith, eqb-false (n % page_size) 0 q)) (omega arith)

@@ -18,6 +18,7 @@ use Rattle.page.specs.Answers.{tested, is_blank_page}
 use Rattle.page.proofs.Found.{found}
 use Rattle.recovery.specs.Log as log
 use Rattle.recovery.specs.Log.{Entry, blank, outcome}
+use Rattle.recovery.specs.declared.Refusal.TheVariants.{WrongSizes}
 use Rattle.recovery.specs.declared.State.{State}
 use Rattle.recovery.specs.declared.Answer.{Answer}
 use Rattle.recovery.specs.declared.Answer.TheVariants.{Opened, Moved}
@@ -136,7 +137,7 @@ module _ (s fates rows : List ℕ) (state : State) (fresh : List ℕ) (floor : �
     where
       go : (b : Bool) → is_whole ≡ b → (move_leaves s fates rows state fresh).left.answer ≡ Moved floor → (is_whole ≡ true) × ((moved w old).0.0 ≡ Moved floor)
       go true q k = (q, rw q at k)
-      go false q k = let z : ◌≡◌ {A = Answer} (Rattle.recovery.specs.declared.Answer.TheVariants.Refused 1 0) (Moved floor) = rw q at k in let y : ◌≡◌ {A = ℕ} 0 1 = cc in absurd (omega arith)
+      go false q k = let z : ◌≡◌ {A = Answer} (Rattle.recovery.specs.declared.Answer.TheVariants.Refused WrongSizes 0) (Moved floor) = rw q at k in let y : ◌≡◌ {A = ℕ} 0 1 = cc in absurd (omega arith)
 
   made : moved w old ≡ ((Moved floor, (moved w old).0.1), (moved w old).1)
   made = ap (answering (moved w old).0.1 (moved w old).1) passed.1

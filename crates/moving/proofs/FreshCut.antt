@@ -9,6 +9,7 @@ use lib.Seq.{get_or-append_seam, get_or-append-add}
 use Rattle.recovery.specs.Places.{nth}
 use Rattle.recovery.specs.Log.{Entry, blank, torn, bad, opening, image, outcome, undecided, fate_of}
 use Rattle.inspection.specs.Lawful.{fits_below, lawful}
+use Rattle.recovery.specs.declared.Refusal.TheVariants.{UnfinishedMove}
 use Rattle.recovery.specs.declared.Row.{Row}
 use Rattle.recovery.specs.declared.Answer.TheVariants.{Refused}
 use Rattle.recovery.specs.World.{World, down, sizes, is_blank, is_carried, end_of, unfinished, unopened, opened}
@@ -34,7 +35,7 @@ top_solid s (suc n) h w = fits_solid (get_or s n blank) (down s n) (lawful_parts
 -- a carried opening at place 1, and a lawful log that does not decide its action
 cut_refused : (s : List Entry) (e : ℕ) (fs : List ℕ) (rs : List Row) (t : ℕ) → 1 ≤ e → e ≤ length s → ((p : ℕ) → e < p → nth blank s p ≡ blank)
     → lawful (down s e) ≡ true → is_carried (nth blank s 1) ≡ true → fate_of (down s e) 1 ≡ undecided → sizes (length s) (length fs) (length rs) ≡ true
-    → opened s fs rs t ≡ (Refused 24 0, unopened s fs rs)
+    → opened s fs rs t ≡ (Refused UnfinishedMove 0, unopened s fs rs)
 unfolding opened unfinished
 cut_refused s e fs rs t h l c w k f z =
     let end : end_of s (length s) ≡ e = end_at s (length s) e l (λ x. top_solid s e h w) c in
@@ -53,7 +54,7 @@ module _ (w : World) (k : ℕ) (rest : List Entry) (clean : AllBlank rest) (c : 
       rw q at (get_or-append-add m rest (j - n) blank) ∙ clean (j - n)
 
   pub whole_cut : sizes (length (cut_sheet w k rest)) (length fs) (length rs) ≡ true
-      → opened (cut_sheet w k rest) fs rs t ≡ (Refused 24 0, unopened (cut_sheet w k rest) fs rs)
+      → opened (cut_sheet w k rest) fs rs t ≡ (Refused UnfinishedMove 0, unopened (cut_sheet w k rest) fs rs)
   whole_cut z =
       cut_refused (cut_sheet w k rest) (suc (count_to w k)) fs rs t (omega arith) (simp length-append (omega arith)) (past (versions_to w k) (count_to w k) refl)
       (rw (down_log w k rest) (log_lawful w k c)) refl (rw (down_log w k rest) (log_fate w k 1)) z
@@ -72,7 +73,7 @@ module _ (w : World) (k : ℕ) (rest : List Entry) (clean : AllBlank rest) (c : 
   torn_fate = log_fate w k 1
 
   pub torn_cut : sizes (length (cut_sheet w k (torn ∷ rest))) (length fs) (length rs) ≡ true
-      → opened (cut_sheet w k (torn ∷ rest)) fs rs t ≡ (Refused 24 0, unopened (cut_sheet w k (torn ∷ rest)) fs rs)
+      → opened (cut_sheet w k (torn ∷ rest)) fs rs t ≡ (Refused UnfinishedMove 0, unopened (cut_sheet w k (torn ∷ rest)) fs rs)
   torn_cut z =
       cut_refused (cut_sheet w k (torn ∷ rest)) (suc (suc (count_to w k))) fs rs t (omega arith) (simp length-append (omega arith)) torn_above
       (rw torn_down (lawful_more torn (log_to w k) refl (log_lawful w k c))) refl (rw torn_down torn_fate) z

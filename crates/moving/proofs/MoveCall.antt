@@ -10,6 +10,7 @@ use borrow.Author.Tests.{ne_eqb}
 use Rattle.encoding.proofs.Logic.{and_true}
 use Rattle.page.specs.Layout.{page_size}
 use Rattle.recovery.specs.Log.{Entry}
+use Rattle.recovery.specs.declared.Refusal.TheVariants.{WrongSizes, UndecidedAction}
 use Rattle.recovery.specs.declared.State.{State}
 use Rattle.recovery.specs.declared.Done.{Done}
 use Rattle.recovery.specs.World.{World, refuse, lent_right}
@@ -51,7 +52,7 @@ module _ (s fs rs : List ℕ) (st : State) (fresh : List ℕ) where
   long = pages_long files (length fresh / page_size) fresh
 
   -- line 1
-  pub move_refused : line ≡ false → (r : Done) → r ≡ refusal_at 1 0 st → move_by r s fs rs fresh ≡ move_leaves s fs rs st fresh
+  pub move_refused : line ≡ false → (r : Done) → r ≡ refusal_at WrongSizes 0 st → move_by r s fs rs fresh ≡ move_leaves s fs rs st fresh
   unfolding move_leaves moved move_line_one
   move_refused h r e = go (whole (length s) (length rs)) refl even refl
     where
@@ -64,8 +65,8 @@ module _ (s fs rs : List ℕ) (st : State) (fresh : List ℕ) where
       go false x b y = ap (λ (q : Done). move_by q s fs rs fresh) e ∙ rw x
       go true x false y = ap (λ (q : Done). move_by q s fs rs fresh) e ∙ rw (x, y)
       go true x true y =
-          let m : moved w sheet ≡ (refuse 1 0 w, sheet) = rw (none x y) in
-          refused_as s fs rs st fresh x 1 0 r e ∙ ap (lower_move s fresh) (sym m) ∙ rw (x, y)
+          let m : moved w sheet ≡ (refuse WrongSizes 0 w, sheet) = rw (none x y) in
+          refused_as s fs rs st fresh x WrongSizes 0 r e ∙ ap (lower_move s fresh) (sym m) ∙ rw (x, y)
 
   module _ (ok : line ≡ true) where
     lines : (line_one (length s) (length fs) (length rs) st.end st.undecided ≡ true) × (is_sheet (length fresh / page_size) ≡ true)
@@ -88,12 +89,12 @@ module _ (s fs rs : List ℕ) (st : State) (fresh : List ℕ) where
     lent_ok = lent_right_lem s fs rs st wholes ∙ lines.0
 
     -- 23
-    pub move_busy : (p : ℕ) → Some p ≡ some_place (lowest_undecided fs st.end) → (r : Done) → r ≡ refusal_at 23 p st → move_by r s fs rs fresh ≡ move_leaves s fs rs st fresh
+    pub move_busy : (p : ℕ) → Some p ≡ some_place (lowest_undecided fs st.end) → (r : Done) → r ≡ refusal_at UndecidedAction p st → move_by r s fs rs fresh ≡ move_leaves s fs rs st fresh
     unfolding moved
     move_busy p hp r e =
         let k = found_some _ p hp in
-        let m : moved w sheet ≡ (refuse 23 p w, sheet) = rw (lent_ok, long, lines.1, ← k.0, ne_eqb p 0 (λ z. omega (arith, k.1))) in
-        refused_as s fs rs st fresh wholes 23 p r e ∙ ap (lower_move s fresh) (sym m) ∙ leaves_moved
+        let m : moved w sheet ≡ (refuse UndecidedAction p w, sheet) = rw (lent_ok, long, lines.1, ← k.0, ne_eqb p 0 (λ z. omega (arith, k.1))) in
+        refused_as s fs rs st fresh wholes UndecidedAction p r e ∙ ap (lower_move s fresh) (sym m) ∙ leaves_moved
 
     -- on rebuilt rows
     module _ (xs : List ℕ) (hx : xs ≡ warm_run s fs rs st) where

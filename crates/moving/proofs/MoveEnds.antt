@@ -12,6 +12,8 @@ use Rattle.page.specs.Layout.{page_size, most_places}
 use Rattle.page.specs.Answers.{tested, is_blank_page}
 use Rattle.recovery.specs.Sheet.{page_bytes}
 use Rattle.recovery.specs.Log.{Entry, outcome}
+use Rattle.recovery.specs.declared.Refusal.{Refusal}
+use Rattle.recovery.specs.declared.Refusal.TheVariants.{DamagedRow, NoRoom, NotBlank}
 use Rattle.recovery.specs.declared.State.{State}
 use Rattle.recovery.specs.declared.Done.{Done}
 use Rattle.recovery.specs.declared.Answer.TheVariants.{Moved}
@@ -36,7 +38,7 @@ use Rattle.moving.proofs.Went.{none_damaged}
 use Rattle.moving.proofs.MoveLaws.{places_are, stored_pages}
 
 -- a refusal leaves everything
-pub refused_as : (s fs rs : List ℕ) (st : State) (fresh : List ℕ) → whole (length s) (length rs) ≡ true → (n p : ℕ) (r : Done) → r ≡ refusal_at n p st
+pub refused_as : (s fs rs : List ℕ) (st : State) (fresh : List ℕ) → whole (length s) (length rs) ≡ true → (n : Refusal) (p : ℕ) (r : Done) → r ≡ refusal_at n p st
     → move_by r s fs rs fresh ≡ lower_move s fresh (refuse n p (lent s fs rs st), pages_of fresh (length rs / row_length))
 unfolding is_refused
 refused_as s fs rs st fresh h n p r e =
@@ -65,7 +67,7 @@ module _ (s fs rs : List ℕ) (st : State) (fresh : List ℕ)
   back : flat (rows_of rs) ≡ rs
   back = rows_back s fs rs st (whole_is s fs rs st line_one_lem.0)
 
-  refused_here : (n p : ℕ) (r : Done) → r ≡ refusal_at n p st → move_by r s fs rs fresh ≡ lower_move s fresh (refuse n p w, sheet)
+  refused_here : (n : Refusal) (p : ℕ) (r : Done) → r ≡ refusal_at n p st → move_by r s fs rs fresh ≡ lower_move s fresh (refuse n p w, sheet)
   refused_here = refused_as s fs rs st fresh (whole_is s fs rs st line_one_lem.0)
 
   damaged_is : lowest (is_damaged s files st.end rs) files ≡ lowest_damaged w (length w.rows)
@@ -88,12 +90,12 @@ module _ (s fs rs : List ℕ) (st : State) (fresh : List ℕ)
     pub versions_few : v.versions ≤ files
     versions_few = rw versions_here (places_few rs files)
 
-    pub warm_damaged : (f : ℕ) → v.damaged ≡ Some f → (r : Done) → r ≡ refusal_at 7 f st → move_by r s fs rs fresh ≡ warm_move s fs rs st fresh
+    pub warm_damaged : (f : ℕ) → v.damaged ≡ Some f → (r : Done) → r ≡ refusal_at DamagedRow f st → move_by r s fs rs fresh ≡ warm_move s fs rs st fresh
     unfolding warm_move
     warm_damaged f z r h =
         let k = found_some _ f (sym z ∙ damaged_here) in
-        let m : on_rows w sheet ≡ (refuse 7 f w, sheet) = rw (← k.0, ne_eqb f 0 (λ i. omega (arith, k.1))) in
-        refused_here 7 f r h ∙ ap (lower_move s fresh) (sym m)
+        let m : on_rows w sheet ≡ (refuse DamagedRow f w, sheet) = rw (← k.0, ne_eqb f 0 (λ i. omega (arith, k.1))) in
+        refused_here DamagedRow f r h ∙ ap (lower_move s fresh) (sym m)
 
     module _ (z : v.damaged ≡ None) where
       none : lowest_damaged w (length w.rows) ≡ 0
@@ -109,22 +111,22 @@ module _ (s fs rs : List ℕ) (st : State) (fresh : List ℕ)
       long : length sheet ≡ length fresh / page_size
       long = pages_long files (length fresh / page_size) fresh
 
-      pub warm_full : length fresh / page_size < v.versions + 2 → (r : Done) → r ≡ refusal_at 11 0 st → move_by r s fs rs fresh ≡ warm_move s fs rs st fresh
+      pub warm_full : length fresh / page_size < v.versions + 2 → (r : Done) → r ≡ refusal_at NoRoom 0 st → move_by r s fs rs fresh ≡ warm_move s fs rs st fresh
       unfolding warm_move
       warm_full l r h =
-          let m : on_rows w sheet ≡ (refuse 11 0 w, sheet) = rw (none, pages_are, long, lt-leb (places_to rs files + 2) (length fresh / page_size) (omega (arith, versions_here))) in
-          refused_here 11 0 r h ∙ ap (lower_move s fresh) (sym m)
+          let m : on_rows w sheet ≡ (refuse NoRoom 0 w, sheet) = rw (none, pages_are, long, lt-leb (places_to rs files + 2) (length fresh / page_size) (omega (arith, versions_here))) in
+          refused_here NoRoom 0 r h ∙ ap (lower_move s fresh) (sym m)
 
       module _ (l : v.versions + 2 ≤ length fresh / page_size) where
         fits : leb (length (move_pages w)) (length sheet) ≡ true
         fits = le-leb (length (move_pages w)) (length sheet) (omega (arith, versions_here, pages_are, long))
 
-        pub warm_used : (b : Bool) → b ≡ is_unused sheet → b ≡ false → (r : Done) → r ≡ refusal_at 12 0 st → move_by r s fs rs fresh ≡ warm_move s fs rs st fresh
+        pub warm_used : (b : Bool) → b ≡ is_unused sheet → b ≡ false → (r : Done) → r ≡ refusal_at NotBlank 0 st → move_by r s fs rs fresh ≡ warm_move s fs rs st fresh
         unfolding warm_move
         warm_used b hb e r h =
             let u : is_unused sheet ≡ false = sym hb ∙ e in
-            let m : on_rows w sheet ≡ (refuse 12 0 w, sheet) = rw (none, fits, u) in
-            refused_here 12 0 r h ∙ ap (lower_move s fresh) (sym m)
+            let m : on_rows w sheet ≡ (refuse NotBlank 0 w, sheet) = rw (none, fits, u) in
+            refused_here NotBlank 0 r h ∙ ap (lower_move s fresh) (sym m)
 
         pub roomy : Roomy files rs (length fresh)
         roomy =

@@ -2,6 +2,7 @@
 use Rattle.std.specs.Prelude.{List, [], ◌∷◌, ◌++◌, cond, ◌&&◌, ℕ, suc, ◌*◌, ◌/◌, ◌%◌, length, drop, eqb}
 use Rattle.page.specs.Layout.{page_size}
 use Rattle.recovery.specs.Log.{Entry}
+use Rattle.recovery.specs.declared.Refusal.TheVariants.{WrongSizes}
 use Rattle.recovery.specs.declared.State.{State}
 use Rattle.recovery.specs.Numbers.{is_refused}
 use Rattle.recovery.specs.declared.Done.{Done}
@@ -41,4 +42,4 @@ unfoldable pub move_leaves : List ℕ → List ℕ → List ℕ → State → Li
 move_leaves s fates rows state fresh =
     cond (whole (length s) (length rows) && eqb (length fresh % page_size) 0)
     (lower_move s fresh (moved (lent s fates rows state) (pages_of fresh (length rows / row_length))))
-    (record { left = refused 1 0 s fates rows state; fresh = fresh })
+    (record { left = refused WrongSizes 0 s fates rows state; fresh = fresh })

@@ -4,6 +4,7 @@ use Rattle.std.specs.Prelude.{List, Bool, not, cond, ◌&&◌, ℕ, zero, suc, m
 use Rattle.std.specs.Option.{option_or}
 use Rattle.std.specs.Bool.{then_some}
 use Rattle.page.specs.Layout.{page_size, most_places, most_files, value_size}
+use Rattle.recovery.specs.declared.Refusal.{Refusal}
 use Rattle.recovery.specs.declared.Row.{Row}
 use Rattle.recovery.specs.declared.State.{State}
 use Rattle.recovery.specs.declared.Done.{Done}
@@ -50,8 +51,8 @@ unfoldable pub warm_run : List ℕ → List ℕ → List ℕ → State → List 
 warm_run s fates rows state = flat (warm_rows (lent s fates rows state)).rows
 
 -- a refusal with its place, and the state as it was
-abbrev pub refusal_at : ℕ → ℕ → State → Done
-refusal_at number place state = record { answer = Refused number place; state = state }
+abbrev pub refusal_at : Refusal → ℕ → State → Done
+refusal_at why place state = record { answer = Refused why place; state = state }
 
 -- the last stored place and the fresh bytes, once the image that was found of a file is stored above a place
 abbrev pub stored_by : List ℕ → ℕ → ℕ → ℕ → List ℕ → Option Page → ℕ × List ℕ

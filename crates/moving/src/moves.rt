@@ -7,14 +7,14 @@ use crate::carrying::store_pages;
 use crate::checking::{is_movable, is_unused, lowest_undecided, survey_rows};
 use crate::warming::warm_rows;
 use page::Page;
-use recovery::{Answer, Done, State, file_count};
+use recovery::{Answer, Done, Refusal, State, file_count, refuse};
 
 // A refusal with its place, and the state as it was.
-fn refuse_at(number: u64, place: u64, state: State) -> Done
-    ensures { result ≡ refusal_at number place state }
+fn refuse_at(why: Refusal, place: u64, state: State) -> Done
+    ensures { result ≡ refusal_at why place state }
 {
     Done {
-        answer: Answer::Refused(number, place),
+        answer: Answer::Refused(why, place),
         state,
     }
 }
@@ -27,14 +27,14 @@ fn move_warm(sheet: &[u8], fates: &[u8], rows: &[u64], state: State, fresh: &mut
     let files = file_count(rows.len());
     let survey = survey_rows(sheet, rows, state.end, files, state.floor);
     if let Some(damaged) = survey.damaged {
-        return refuse_at(7, damaged, state);
+        return refuse_at(Refusal::DamagedRow, damaged, state);
     }
     let pages = (fresh.len() / Page::SIZE) as u64;
     if pages < survey.versions + 2 {
-        return refuse_at(11, 0, state);
+        return refuse(Refusal::NoRoom, state);
     }
     if !is_unused(&fresh[..], files) {
-        return refuse_at(12, 0, state);
+        return refuse(Refusal::NotBlank, state);
     }
     store_pages(sheet, rows, files, fresh);
     Done {
@@ -48,10 +48,10 @@ pub fn move_to(sheet: &[u8], fates: &[u8], rows: &mut [u64], state: State, fresh
     ensures { move_by result sheet.now fates.now rows.new fresh.new ≡ move_leaves sheet.now fates.now rows.old state fresh.old }
 {
     if !is_movable(sheet.len(), fates.len(), rows.len(), state, fresh.len()) {
-        return refuse_at(1, 0, state);
+        return refuse(Refusal::WrongSizes, state);
     }
     if let Some(busy) = lowest_undecided(fates, state.end) {
-        return refuse_at(23, busy, state);
+        return refuse_at(Refusal::UndecidedAction, busy, state);
     }
     warm_rows(sheet, fates, rows, state);
     move_warm(sheet, fates, &rows[..], state, fresh)

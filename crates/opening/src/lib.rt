@@ -12,7 +12,7 @@ ghost use Rattle.recovery.specs.OpenSteps.{Bounded, good, worse, stepped, Scanne
 use encoding::copy;
 use page::{Page, Unpacked};
 use recovery::{
-    Answer, Done, FEW_PAGES, Scan, State, fate_at, file_count, is_carried_at, is_sized,
+    Answer, Done, FEW_PAGES, Refusal, Scan, State, fate_at, file_count, is_carried_at, is_sized,
 };
 
 // A sheet's most pages.
@@ -105,11 +105,11 @@ fn is_unfinished(sheet: &[u8], files: u64, kept: &[u8]) -> bool
 }
 
 // A refusal answers three zeros for the state.
-fn refuse(number: u64, place: u64) -> Done
-    ensures { result ≡ refused_opening number place }
+fn refuse(why: Refusal, place: u64) -> Done
+    ensures { result ≡ refused_opening why place }
 {
     Done {
-        answer: Answer::Refused(number, place),
+        answer: Answer::Refused(why, place),
         state: State {
             end: 0,
             floor: 0,
@@ -126,10 +126,10 @@ fn open_with(sheet: &[u8], fates: &mut [u8], rows: &mut [u64], floor: u64, kept:
     let files = file_count(rows.len());
     let scan = scan_pages(sheet, kept, files);
     if scan.bad != 0 {
-        return refuse(2, scan.bad);
+        return refuse(Refusal::BadPage, scan.bad);
     }
     if is_unfinished(sheet, files, kept) {
-        return refuse(24, 0);
+        return refuse(Refusal::UnfinishedMove, 0);
     }
     let end = scan.end;
     let undecided = count_undecided(kept);
@@ -160,7 +160,7 @@ pub fn open(sheet: &[u8], fates: &mut [u8], rows: &mut [u64], floor: u64) -> Don
     ensures { left_by result sheet.now fates.new rows.new ≡ open_leaves sheet.now fates.old rows.old floor }
 {
     if !is_sized(sheet.len(), fates.len(), rows.len()) {
-        return refuse(1, 0);
+        return refuse(Refusal::WrongSizes, 0);
     }
     if fates.len() <= FEW_PAGES {
         open_within::<FEW_PAGES>(sheet, fates, rows, floor)

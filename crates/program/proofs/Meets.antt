@@ -10,6 +10,7 @@ use lib.Seq.{take_at, length-take-le}
 use lib.Dec.{eqb}
 use Rattle.encoding.proofs.Logic.{by_test, and_true, is_false}
 use Rattle.page.specs.Layout.{most_files}
+use Rattle.recovery.specs.declared.Refusal.TheVariants.{WrongSizes, UnfinishedMove}
 use Rattle.recovery.specs.declared.Answer.{Answer}
 use Rattle.recovery.specs.Numbers.{numbers_of, is_refused}
 use Rattle.recovery.specs.World.{Result, sizes, is_file, cold_rows, opened, down, end_of, highest_bad, refuse, unopened, unfinished}
@@ -127,21 +128,21 @@ module _ (m : Memory) (s : AllRows m.rows) (c : code.Call) (value : List ℕ) wh
 opened_long : (s fates rows : List ℕ) (floor : ℕ) → length (open_leaves s fates rows floor).rows ≡ length rows
 unfolding open_leaves opened
 opened_long s fates rows floor =
-    by_test (λ (x : Left). length x.rows ≡ length rows) (whole (length s) (length rows)) {y = refused 1 0 s fates rows closed}
+    by_test (λ (x : Left). length x.rows ≡ length rows) (whole (length s) (length rows)) {y = refused WrongSizes 0 s fates rows closed}
     (λ e.
     let back : flat (rows_of rows) ≡ rows = rows_back s fates rows closed e in
     let cold-long : length (flat (cold_rows (length (rows_of rows)))) ≡ length rows =
     ap length (sym (cold_flat (length (rows_of rows)))) ∙ length-replicate (row_length * length (rows_of rows)) 0 ∙ sym (flat_long (rows_of rows)) ∙ ap length back in
     by_test (λ (r : Result). length (flat r.1.rows) ≡ length rows) (sizes (length (pages_of s (length rows / row_length))) (length fates) (length (rows_of rows)))
-    {y = refuse 1 0 (unopened (pages_of s (length rows / row_length)) fates (rows_of rows))}
+    {y = refuse WrongSizes 0 (unopened (pages_of s (length rows / row_length)) fates (rows_of rows))}
     (λ k. by_test (λ (r : Result). length (flat r.1.rows) ≡ length rows) (eqb (highest_bad (down (pages_of s (length rows / row_length)) (end_of (pages_of s (length rows / row_length)) (length (pages_of s (length rows / row_length)))))) 0)
     (λ q. by_test (λ (r : Result). length (flat r.1.rows) ≡ length rows) (unfinished (pages_of s (length rows / row_length)) (end_of (pages_of s (length rows / row_length)) (length (pages_of s (length rows / row_length)))))
-    {x = refuse 24 0 (unopened (pages_of s (length rows / row_length)) fates (rows_of rows))} (λ u. ap length back) (λ u. cold-long)) (λ q. ap length back)) (λ k. ap length back)) (λ e. refl)
+    {x = refuse UnfinishedMove 0 (unopened (pages_of s (length rows / row_length)) fates (rows_of rows))} (λ u. ap length back) (λ u. cold-long)) (λ q. ap length back)) (λ k. ap length back)) (λ e. refl)
 
 -- with no rows it is refused by line 1
-no_rows : (s fates : List ℕ) (floor : ℕ) → left_by (refused_opening 1 0) s fates [] ≡ open_leaves s fates [] floor
+no_rows : (s fates : List ℕ) (floor : ℕ) → left_by (refused_opening WrongSizes 0) s fates [] ≡ open_leaves s fates [] floor
 no_rows s fates floor =
-    open_refused s fates [] floor (is_false (sizes_right (length s) (length fates) 0) (λ e. omega (arith, (sizes_right_lem (length s) (length fates) 0 e).some_files))) (refused_opening 1 0) refl
+    open_refused s fates [] floor (is_false (sizes_right (length s) (length fates) 0) (λ e. omega (arith, (sizes_right_lem (length s) (length fates) 0 e).some_files))) (refused_opening WrongSizes 0) refl
 
 module _ (m : Memory) (s : AllRows m.rows) (files floor : ℕ) where
   abbrev q : ℕ

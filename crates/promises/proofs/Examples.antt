@@ -19,6 +19,7 @@ use Rattle.recovery.specs.Log.{Image, blank, torn, image, outcome, fate_of, outc
 use Rattle.recovery.specs.Places.{tabulate}
 use Rattle.recovery.specs.Sheet.{page_bytes, sealed, decoded, pages}
 use Rattle.recovery.specs.World.{down, end_of, undecided_of}
+use Rattle.recovery.specs.declared.Refusal.TheVariants.{AlreadyDecided, OtherToken, HangingRead, EarlyStart, NoRoom}
 use Rattle.recovery.specs.declared.Answer.{Answer}
 use Rattle.recovery.specs.declared.Answer.TheVariants.{Refused, Opened, Rebuilt, Stored, Value, Nothing, Told}
 use Rattle.recovery.specs.Lent.{row_length, open_leaves}
@@ -61,7 +62,7 @@ pub listing_heard : heard (blank_box 256) (events 256 8 listing) ≡ in_numbers 
     some (Opened 0 0)
     ∷ some (Stored 1)
     ∷ some (Stored 2)
-    ∷ some (Refused 9 1)
+    ∷ some (Refused HangingRead 1)
     ∷ some Nothing
     ∷ some (Stored 3)
     ∷ some (Value 2 10 2)
@@ -93,16 +94,16 @@ changed o a b c d = in_numbers (some (Opened 0 0) ∷ some (Stored 1) ∷ some (
 -- both or none: shown to all exactly if all 64 bytes are stored
 pub change_heard : (kept : ℕ → Bool) → Ordered kept
     → heard (blank_box 6) (change kept)
-    ≡ cond (kept 0) (cond (kept 63) (changed (Opened 4 0) (Refused 6 0) (Refused 6 0) (Value 2 10 1) (Value 3 10 1))
-    (changed (Opened 4 1) (Value 2 10 1) (Value 3 10 1) (Refused 9 1) (Refused 9 1)))
-    (changed (Opened 3 1) (Value 2 10 1) (Value 3 10 1) (Refused 9 1) (Refused 9 1))
+    ≡ cond (kept 0) (cond (kept 63) (changed (Opened 4 0) (Refused AlreadyDecided 0) (Refused AlreadyDecided 0) (Value 2 10 1) (Value 3 10 1))
+    (changed (Opened 4 1) (Value 2 10 1) (Value 3 10 1) (Refused HangingRead 1) (Refused HangingRead 1)))
+    (changed (Opened 3 1) (Value 2 10 1) (Value 3 10 1) (Refused HangingRead 1) (Refused HangingRead 1))
 unfolding model_heard latest has_carried
 change_heard kept o = (promised 6 2).as_model (change kept) (change_run kept o) ∙ go (kept 0) (kept 63) refl refl
   where
     go : (b c : Bool) → kept 0 ≡ b → kept 63 ≡ c → model_heard false (blank_model 6 2) (change kept)
-        ≡ cond (kept 0) (cond (kept 63) (changed (Opened 4 0) (Refused 6 0) (Refused 6 0) (Value 2 10 1) (Value 3 10 1))
-        (changed (Opened 4 1) (Value 2 10 1) (Value 3 10 1) (Refused 9 1) (Refused 9 1)))
-        (changed (Opened 3 1) (Value 2 10 1) (Value 3 10 1) (Refused 9 1) (Refused 9 1))
+        ≡ cond (kept 0) (cond (kept 63) (changed (Opened 4 0) (Refused AlreadyDecided 0) (Refused AlreadyDecided 0) (Value 2 10 1) (Value 3 10 1))
+        (changed (Opened 4 1) (Value 2 10 1) (Value 3 10 1) (Refused HangingRead 1) (Refused HangingRead 1)))
+        (changed (Opened 3 1) (Value 2 10 1) (Value 3 10 1) (Refused HangingRead 1) (Refused HangingRead 1))
     go false c e f = rw e
     go true true e f = rw (e, f)
     go true false e f = rw (e, f)
@@ -118,7 +119,7 @@ asking_run kept o = record { sized = refl; allowed = (λ e. refl, (tt, (omega ar
 
 -- the opening's answer, and the place of the outcome
 abbrev answered_at : Answer → ℕ → List (Option (List ℕ))
-answered_at o place = in_numbers (some (Opened 0 0) ∷ some (Stored 1) ∷ some (Stored 2) ∷ none ∷ some o ∷ some (Stored place) ∷ some (Stored place) ∷ some (Refused 6 0) ∷ some (Told 2 place) ∷ [])
+answered_at o place = in_numbers (some (Opened 0 0) ∷ some (Stored 1) ∷ some (Stored 2) ∷ none ∷ some o ∷ some (Stored place) ∷ some (Stored place) ∷ some (Refused AlreadyDecided 0) ∷ some (Told 2 place) ∷ [])
 
 -- one outcome, always: the stored one if its 64 bytes are there, else one that is stored now
 pub asking_heard : (kept : ℕ → Bool) → Ordered kept
@@ -165,13 +166,13 @@ pub mended_heard : heard (blank_box 12) (events 12 2 mended) ≡ in_numbers (
     ∷ some (Value 3 6 1)
     ∷ some (Stored 4)
     ∷ some (Stored 5)
-    ∷ some (Refused 10 0)
+    ∷ some (Refused EarlyStart 0)
     ∷ some (Stored 6)
     ∷ some (Stored 7)
-    ∷ some (Refused 8 5)
+    ∷ some (Refused OtherToken 5)
     ∷ some (Stored 8)
     ∷ some (Opened 8 1)
-    ∷ some (Refused 10 0)
+    ∷ some (Refused EarlyStart 0)
     ∷ some (Stored 9)
     ∷ some (Value 3 6 1)
     ∷ [])
@@ -392,9 +393,9 @@ late_again : ToldOf late (does (decide 1 true)) (Stored 3)
 unfolding model_heard latest has_carried
 late_again = hears_by 12 2 (at late) (calls (decide 1 true)) (Stored 3) (is_run 12 2 (late ++ does (decide 1 true) ∷ []) refl) refl
 
-late_opposite : ToldOf late (does (decide 1 false)) (Refused 6 0)
+late_opposite : ToldOf late (does (decide 1 false)) (Refused AlreadyDecided 0)
 unfolding model_heard latest has_carried
-late_opposite = hears_by 12 2 (at late) (calls (decide 1 false)) (Refused 6 0) (is_run 12 2 (late ++ does (decide 1 false) ∷ []) refl) refl
+late_opposite = hears_by 12 2 (at late) (calls (decide 1 false)) (Refused AlreadyDecided 0) (is_run 12 2 (late ++ does (decide 1 false) ∷ []) refl) refl
 
 late_writes : ToldOf late (does (write 1 13 7 [])) (Stored 10)
 unfolding model_heard latest has_carried
@@ -493,8 +494,8 @@ asked_again_met = (promised 12 2).asked_again (at late) 1 3 true (Stored 3) late
 pub again_unseen_met : heard (after (box_at late) (calls (decide 1 true))) (at looks) ≡ heard (box_at late) (at looks)
 again_unseen_met = (promised 12 2).again_unseen (at late) (at looks) 1 3 true (is_run 12 2 (late ++ looks) refl) did_commit
 
-pub opposite_refused_met : Refused 6 0 ≡ Refused 6 0
-opposite_refused_met = (promised 12 2).opposite_refused (at late) 1 3 true (Refused 6 0) late_run did_commit late_opposite
+pub opposite_refused_met : Refused AlreadyDecided 0 ≡ Refused AlreadyDecided 0
+opposite_refused_met = (promised 12 2).opposite_refused (at late) 1 3 true (Refused AlreadyDecided 0) late_run did_commit late_opposite
 
 pub one_outcome_met : ◌≡◌ {A = ℕ} 3 3
 one_outcome_met =
@@ -589,9 +590,9 @@ three_tells : Hears (box_after 3 2 (events 3 2 three)) (calls (test 1)) (Told 1 
 unfolding model_heard latest has_carried
 three_tells = hears_by 3 2 (events 3 2 three) (calls (test 1)) (Told 1 0) (is_run 3 2 (three ++ does (test 1) ∷ []) refl) refl
 
-three_full : Hears (box_after 3 2 (events 3 2 three)) (calls (write 2 1 1 [])) (Refused 11 0)
+three_full : Hears (box_after 3 2 (events 3 2 three)) (calls (write 2 1 1 [])) (Refused NoRoom 0)
 unfolding model_heard latest has_carried
-three_full = hears_by 3 2 (events 3 2 three) (calls (write 2 1 1 [])) (Refused 11 0) (is_run 3 2 (three ++ does (write 2 1 1 []) ∷ []) refl) refl
+three_full = hears_by 3 2 (events 3 2 three) (calls (write 2 1 1 [])) (Refused NoRoom 0) (is_run 3 2 (three ++ does (write 2 1 1 []) ∷ []) refl) refl
 
 pub reserved_met : (place : ℕ) × Hears (box_after 3 2 (events 3 2 three)) (calls (decide 1 true)) (Stored place)
 reserved_met = (promised 3 2).reserved (events 3 2 three) 1 true (is_run 3 2 three refl) (none_torn 3 2 three refl) (0, three_tells)
@@ -600,7 +601,7 @@ reserved_met = (promised 3 2).reserved (events 3 2 three) 1 true (is_run 3 2 thr
 abbrev two : List Step
 two = opened 0 ∷ does begin ∷ cut (decide 1 true) 20 ∷ opened 0 ∷ does (test 1) ∷ does (decide 1 true) ∷ does (decide 1 false) ∷ []
 
-pub reserve_gone : heard (blank_box 2) (events 2 1 two) ≡ in_numbers (some (Opened 0 0) ∷ some (Stored 1) ∷ none ∷ some (Opened 2 1) ∷ some (Told 1 0) ∷ some (Refused 11 0) ∷ some (Refused 11 0) ∷ [])
+pub reserve_gone : heard (blank_box 2) (events 2 1 two) ≡ in_numbers (some (Opened 0 0) ∷ some (Stored 1) ∷ none ∷ some (Opened 2 1) ∷ some (Told 1 0) ∷ some (Refused NoRoom 0) ∷ some (Refused NoRoom 0) ∷ [])
 unfolding model_heard latest has_carried
 reserve_gone = (promised 2 1).as_model (events 2 1 two) (is_run 2 1 two refl) ∙ refl
 
@@ -625,6 +626,6 @@ unfolding head front packed fields_of lowest highest within between meets_rules 
 foreign_lawful = refl
 
 pub any_sheet_met : heard (off foreign) (events 2 1 (opened 0 ∷ does (test 2) ∷ does (decide 1 true) ∷ []))
-    ≡ in_numbers (some (Opened 2 2) ∷ some (Told 1 0) ∷ some (Refused 11 0) ∷ [])
+    ≡ in_numbers (some (Opened 2 2) ∷ some (Told 1 0) ∷ some (Refused NoRoom 0) ∷ [])
 unfolding head front packed fields_of lowest highest within between meets_rules is_page_of table.torn in_bounds tested tabulate fate_of outcome_of images_of not_by effective versions_of token_of decoded sealed pages down end_of undecided_of carried_of model_heard
 any_sheet_met = (promised 2 1).any_sheet foreign (events 2 1 (opened 0 ∷ does (test 2) ∷ does (decide 1 true) ∷ [])) refl refl foreign_lawful (is_run 2 1 (opened 0 ∷ does (test 2) ∷ does (decide 1 true) ∷ []) refl).allowed ∙ refl

@@ -15,6 +15,7 @@ use Rattle.page.specs.Answers.{value_in}
 use Rattle.recovery.specs.Log.{Image, image}
 use Rattle.recovery.specs.Sheet.{page_bytes}
 use Rattle.recovery.specs.Lent.{row_length, open_leaves}
+use Rattle.recovery.specs.declared.Refusal.TheVariants.{NoAction, EarlyStart, NoRoom, UndecidedAction, UnfinishedMove, OnOlderSheet}
 use Rattle.recovery.specs.declared.Answer.{Answer}
 use Rattle.recovery.specs.declared.Answer.TheVariants.{Refused, Opened, Stored, Value, Nothing, Told, Moved}
 use Rattle.recovery.specs.Numbers.{is_refused}
@@ -62,7 +63,7 @@ abbrev on_old : List (Option (List ℕ))
 on_old = answers (some (Opened 7 0) ∷ some (Value 5 20 2) ∷ some (Value 6 20 3) ∷ some (Value 2 10 1) ∷ some Nothing ∷ some (Told 2 3) ∷ some (Stored 8) ∷ [])
 
 abbrev on_fresh : List (Option (List ℕ))
-on_fresh = answers (some (Opened 4 0) ∷ some (Value 2 20 2) ∷ some (Value 3 20 3) ∷ some (Refused 25 0) ∷ some (Refused 25 0) ∷ some (Told 2 4) ∷ some (Stored 5) ∷ [])
+on_fresh = answers (some (Opened 4 0) ∷ some (Value 2 20 2) ∷ some (Value 3 20 3) ∷ some (Refused OnOlderSheet 0) ∷ some (Refused OnOlderSheet 0) ∷ some (Told 2 4) ∷ some (Stored 5) ∷ [])
 
 -- what the model hears of a cut hangs on whether all bytes are stored
 same_cut_move : (b : Bool) (m : Model) (xs es : List Event) (fresh : List ℕ) (n k : ℕ)
@@ -127,24 +128,24 @@ pub twice_heard : heard (blank_box 12) (at (twice ++ looks)) ≡ in_numbers (
     ∷ some (Stored 6)
     ∷ some (Stored 7)
     ∷ some (Value 5 20 2)
-    ∷ some (Refused 11 0)
+    ∷ some (Refused NoRoom 0)
     ∷ some (Moved 25)
     ∷ none
     ∷ some (Opened 4 0)
     ∷ some (Stored 5)
-    ∷ some (Refused 10 0)
+    ∷ some (Refused EarlyStart 0)
     ∷ some (Stored 6)
-    ∷ some (Refused 23 5)
+    ∷ some (Refused UndecidedAction 5)
     ∷ some (Stored 7)
     ∷ some (Value 2 20 2)
     ∷ some (Moved 30)
     ∷ some (Opened 4 0)
     ∷ some (Value 2 30 1)
-    ∷ some (Refused 25 0)
+    ∷ some (Refused OnOlderSheet 0)
     ∷ some (Value 3 20 3)
     ∷ some Nothing
     ∷ some (Told 2 4)
-    ∷ some (Refused 5 0)
+    ∷ some (Refused NoAction 0)
     ∷ [])
 unfolding model_heard latest has_carried lowest count_to asked_to is_refused
 twice_heard = (promised 12 3).as_model (at (twice ++ looks)) (is_run 12 3 (twice ++ looks) refl) ∙ refl
@@ -176,9 +177,9 @@ unfolding model_heard latest has_carried lowest count_to asked_to is_refused
 moves_again = hears_by 12 3 (at once) (event_of 12 3 (moved 16)) (Moved 30) (is_run 12 3 (once ++ moved 16 ∷ []) refl) refl
 
 -- a read below what was carried over
-reads_early : ToldOf twice (does (read 1 25 0)) (Refused 25 0)
+reads_early : ToldOf twice (does (read 1 25 0)) (Refused OnOlderSheet 0)
 unfolding model_heard latest has_carried lowest count_to asked_to is_refused
-reads_early = hears_by 12 3 (at twice) (calls (read 1 25 0)) (Refused 25 0) (is_run 12 3 (twice ++ does (read 1 25 0) ∷ []) refl) refl
+reads_early = hears_by 12 3 (at twice) (calls (read 1 25 0)) (Refused OnOlderSheet 0) (is_run 12 3 (twice ++ does (read 1 25 0) ∷ []) refl) refl
 
 pub early_only_met : ((p : ℕ) × (i : Image) × IsVersion 3 (box_at twice) 1 p i × IsCarried 3 (box_at twice) i.action)
     × ((p : ℕ) (i : Image) → IsVersion 3 (box_at twice) 1 p i → 25 < i.start)
@@ -198,7 +199,7 @@ size = move_size 12 3 (at kept) kept_run fresh 20 would_move
 pub lost_move_met : (n : ℕ) → n < 256 → sheet_of (box_at (kept ++ cut_move 12 n ∷ [])) ≡ sheet_of (box_at kept)
 lost_move_met n h = (promised 12 3).lost_move (at kept) fresh n kept_run (subst (λ k. n < k) (sym size) h)
 
-pub unfinished_met : (n t : ℕ) → 64 ≤ n → n < 256 → (open_leaves (take n (fresh_of (box_at kept) fresh) ++ drop n fresh) (replicate 12 0) (replicate (row_length * 3) 0) t).answer ≡ Refused 24 0
+pub unfinished_met : (n t : ℕ) → 64 ≤ n → n < 256 → (open_leaves (take n (fresh_of (box_at kept) fresh) ++ drop n fresh) (replicate 12 0) (replicate (row_length * 3) 0) t).answer ≡ Refused UnfinishedMove 0
 unfinished_met n t low high =
     (promised 12 3).unfinished (at kept) 20 n t fresh (replicate 12 0) (replicate (row_length * 3) 0) kept_run would_move refl refl low (subst (λ k. n < k) (sym size) high)
 
@@ -308,10 +309,10 @@ moves_below : ToldOf (kept ++ does (read 1 15 0) ∷ []) (moved 12) (Moved 20)
 unfolding model_heard latest has_carried lowest count_to asked_to is_refused
 moves_below = hears_by 12 3 (at (kept ++ does (read 1 15 0) ∷ [])) (moves fresh) (Moved 20) (is_run 12 3 (kept ++ does (read 1 15 0) ∷ moved 12 ∷ []) refl) refl
 
-reread_early : ToldOf (reread 15) (does (read 1 15 0)) (Refused 25 0)
+reread_early : ToldOf (reread 15) (does (read 1 15 0)) (Refused OnOlderSheet 0)
 unfolding model_heard latest has_carried lowest count_to asked_to is_refused
-reread_early = hears_by 12 3 (at (reread 15)) (calls (read 1 15 0)) (Refused 25 0) (is_run 12 3 (reread 15 ++ does (read 1 15 0) ∷ []) refl) refl
+reread_early = hears_by 12 3 (at (reread 15)) (calls (read 1 15 0)) (Refused OnOlderSheet 0) (is_run 12 3 (reread 15 ++ does (read 1 15 0) ∷ []) refl) refl
 
-pub alike_early_met : AnsweredAlike 3 true (box_at kept) (box_at (reread 15)) 1 15 (Value 2 10 1) (Refused 25 0)
+pub alike_early_met : AnsweredAlike 3 true (box_at kept) (box_at (reread 15)) 1 15 (Value 2 10 1) (Refused OnOlderSheet 0)
 unfolding is_refused
-alike_early_met = alike_past 15 20 (Value 2 10 1) (Refused 25 0) (has_floors 12 3 (reread 15) refl) reads_below refl moves_below reread_early
+alike_early_met = alike_past 15 20 (Value 2 10 1) (Refused OnOlderSheet 0) (has_floors 12 3 (reread 15) refl) reads_below refl moves_below reread_early

@@ -1,21 +1,22 @@
 -- Read: of the versions, of the token, and the ways it ends. Assumes nothing.
 use Prim.Native.Nat.{ℕ, ◌/◌, ◌≤◌, ◌<◌}
 use mathlib.Core.Path.{◌≡◌, refl, sym, ap, ◌∙◌}
-use mathlib.Core.Bool.{Bool, true, false, cond}
+use mathlib.Core.Bool.{Bool, true, false}
 use mathlib.Core.List.{List}
 use lib.ListN.{length}
-use lib.Dec.{eqb}
 use borrow.Author.Tests.{eq-eqb, ne_eqb, le-leb, lt-leb}
 use Rattle.page.specs.declared.Page.{Page}
 use Rattle.std.specs.Prelude.{Option, Some, None}
 use Rattle.recovery.specs.Places.{nth, put}
 use Rattle.recovery.specs.Log.{blank, Placed}
 use Rattle.recovery.specs.Sheet.{page_bytes, image_from}
+use Rattle.recovery.specs.declared.Refusal.{Refusal}
+use Rattle.recovery.specs.declared.Refusal.TheVariants.{NoFile, DamagedRow, HangingRead}
 use Rattle.recovery.specs.declared.Row.{Row}
 use Rattle.recovery.specs.declared.State.{State}
 use Rattle.recovery.specs.declared.Answer.{Answer}
 use Rattle.recovery.specs.declared.Answer.TheVariants.{Refused, Value, Nothing}
-use Rattle.recovery.specs.World.{World, is_file, with_row, warm_row, row_holds, refuse}
+use Rattle.recovery.specs.World.{World, is_file, with_row, warm_row, row_holds}
 use Rattle.recovery.specs.Lent.{row_length, rows_of, pages_of, lent, refused}
 use Rattle.recovery.specs.Steps.{line_one, sealed_image, row_holds_by, row_holds_in, with_row_of, Warmed}
 use Rattle.recovery.proofs.Held.{row_held}
@@ -23,11 +24,13 @@ use Rattle.recovery.proofs.FlatRows.{rows_long}
 use Rattle.calls.specs.Walk.{Walk, met, nothing, early, lost, images_below, follow}
 use Rattle.calls.specs.Calls.{read, on, on_read, on_token, answer_walk, image_of, read_current, read_token}
 use Rattle.calls.specs.Leaves.{call_leaves}
+use Rattle.std.specs.Prelude.{Err}
+use Rattle.calls.specs.LineSteps.{free}
 use Rattle.calls.specs.ReadSteps.{read_line, image_by, Looked, walk_answer, carried_in, walk_at}
 use Rattle.reading.specs.declared.Reading.{Reading}
 use Rattle.reading.specs.WarmReads.{world, Versions, Reads}
 use Rattle.calls.proofs.Ends.{ends_same, ends_row}
-use Rattle.calls.proofs.ActionLines.{read_by}
+use Rattle.calls.proofs.ActionLines.{by_line, read_by}
 use Rattle.calls.proofs.ReadImages.{met_at, RowHeld, looked_token}
 use Rattle.calls.proofs.LinkByLink.{reached}
 use Rattle.calls.proofs.ReadWalks.{met_long}
@@ -81,7 +84,7 @@ module _ (files : ℕ) (s : List ℕ) (e f t a : ℕ) (r : Row) (u v : Option Pa
   unfolding row_holds_in row_holds
   holds_is b hb fs rs fl n = sym (row_held files s e f r u v hu hv) ∙ hb
 
-  pub reads_7 : row_holds_by e r u v ≡ false → Reads files s e f t a r (record { answer = Refused 7 0; row = r })
+  pub reads_7 : row_holds_by e r u v ≡ false → Reads files s e f t a r (record { answer = Refused DamagedRow 0; row = r })
   reads_7 h = record { is = λ fs rs fl n k. rw (holds_is false h fs rs fl n, k) }
 
 module _ {files : ℕ} {s : List ℕ} {e f : ℕ} {r : Row} {u v : Option Page} (t a : ℕ) (h : RowHeld files s e f r u v) where
@@ -100,7 +103,7 @@ module _ {files : ℕ} {s : List ℕ} {e f : ℕ} {r : Row} {u v : Option Page} 
     reads_early k y vs = record { is = λ fs rs fl n q. on_held fs rs fl n (Some x) i ∙ rw (lt-leb x.start t k) (vs.is e fs rs fl n q) }
 
     module _ (k : x.start ≤ t) where
-      pub reads_9 : (x.action ≡ a → ⊥) → Reads files s e f t a r (record { answer = Refused 9 x.action; row = r })
+      pub reads_9 : (x.action ≡ a → ⊥) → Reads files s e f t a r (record { answer = Refused HangingRead x.action; row = r })
       reads_9 o = record { is = λ fs rs fl n q. on_held fs rs fl n (Some x) i ∙ rw (le-leb x.start t k, ne_eqb x.action a o, q) }
 
       pub reads_own : x.action ≡ a → (y : Row) → y ≡ read_token t r → Reads files s e f t a r (record { answer = Value r.token x.start x.small; row = y })
@@ -117,17 +120,17 @@ module _ (s fs rs : List ℕ) (st : State) (h : line_one (length s) (length fs) 
   abbrev w : World
   w = lent s fs rs st
 
-  pub read_3 : is_file (length rs / row_length) f ≡ false → refused 3 0 s fs rs st ≡ call_leaves s fs rs st (read f t a)
-  read_3 k = ends_same s fs rs st (read f t a) h (Refused 3 0) (simp (rows_long rs, k))
+  pub read_3 : is_file (length rs / row_length) f ≡ false → refused NoFile 0 s fs rs st ≡ call_leaves s fs rs st (read f t a)
+  read_3 k = ends_same s fs rs st (read f t a) h (Refused NoFile 0) (simp (rows_long rs, k))
 
   module _ (g : is_file (length rs / row_length) f ≡ true) where
-    on_line : on w (read f t a) ≡ cond (eqb (read_line fs st.end a) 0) (on_read (with_row w f (warm_row w f)) f t a (warm_row w f)) (refuse (read_line fs st.end a) 0 w)
+    on_line : on w (read f t a) ≡ by_line w (on_read (with_row w f (warm_row w f)) f t a (warm_row w f)) (read_line fs st.end a)
     on_line = simp (rows_long rs, g) (read_by w a (on_read (with_row w f (warm_row w f)) f t a (warm_row w f)))
 
-    pub read_56 : (n : ℕ) → n ≡ read_line fs st.end a → (n ≡ 0 → ⊥) → refused n 0 s fs rs st ≡ call_leaves s fs rs st (read f t a)
-    read_56 n hn k = ends_same s fs rs st (read f t a) h (Refused n 0) (on_line ∙ rw (← hn, ne_eqb n 0 k))
+    pub read_56 : (n : Refusal) → Err n ≡ read_line fs st.end a → refused n 0 s fs rs st ≡ call_leaves s fs rs st (read f t a)
+    read_56 n hn = ends_same s fs rs st (read f t a) h (Refused n 0) (on_line ∙ rw (← hn))
 
-    module _ (may : read_line fs st.end a ≡ 0) (r : Row) (xs : List ℕ) (wm : Warmed s fs rs f st.end r xs) where
+    module _ (may : read_line fs st.end a ≡ free) (r : Row) (xs : List ℕ) (wm : Warmed s fs rs f st.end r xs) where
       on_warm : on w (read f t a) ≡ on_read (with_row w f r) f t a r
       on_warm = on_line ∙ rw may (ap (λ (x : Row). on_read (with_row w f x) f t a x) (warm_is s fs rs st h f g r xs wm))
 

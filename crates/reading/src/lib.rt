@@ -8,6 +8,7 @@ ghost use Rattle.recovery.specs.Steps.{line_one, sealed_image};
 ghost use Rattle.calls.specs.Calls.{Call, read_current, read_token};
 ghost use Rattle.calls.specs.Walk.{none_below};
 ghost use Rattle.calls.specs.Leaves.{call_leaves};
+ghost use Rattle.calls.specs.LineSteps.{free};
 ghost use Rattle.calls.specs.ReadSteps.{read_line, walk_answer, walk_at, Looked};
 ghost use Rattle.reading.specs.WarmReads.{Versions, Reads};
 
@@ -15,8 +16,8 @@ use calls::action_line;
 use page::Page;
 use rebuilding::{row_holds_by, warm_row};
 use recovery::{
-    Answer, Done, Row, State, file_count, has_file, image_at, is_carried_at, is_lent_right,
-    raised_row, refuse, set_row,
+    Answer, Done, Refusal, Row, State, file_count, has_file, image_at, is_carried_at,
+    is_lent_right, raised_row, refuse, set_row,
 };
 
 // What a read of a warm row answers, and the row that it leaves.
@@ -40,11 +41,12 @@ fn token_read(row: Row, time: u64) -> Row
 }
 
 // Lines 5 and 6 of read, which are passed over for action 0.
-fn read_line(fates: &[u8], end: u64, action: u64) -> u64
+#[tactic(auto, unfolding(calls::specs::ReadSteps::read_line))]
+fn read_line(fates: &[u8], end: u64, action: u64) -> Result<(), Refusal>
     ensures { result ≡ read_line fates.now end action }
 {
     if action == 0 {
-        return 0;
+        return Ok(());
     }
     action_line(fates, end, action)
 }
@@ -54,7 +56,7 @@ fn none_below(carried: bool) -> Answer
     ensures { result ≡ walk_answer (none_below carried) }
 {
     if carried {
-        return Answer::Refused(25, 0);
+        return Answer::Refused(Refusal::OnOlderSheet, 0);
     }
     Answer::Nothing
 }
@@ -78,7 +80,7 @@ fn walk(sheet: &[u8], from: u64, files: u64, file: u64, time: u64, first: Page) 
         }
         let found = image_at(sheet, next, files, file);
         let Some(y) = found else {
-            return Answer::Refused(13, place);
+            return Answer::Refused(Refusal::LostLink, place);
         };
         place = next;
         x = y;
@@ -130,7 +132,7 @@ fn read_row(
     let token = image_at(sheet, row.token, files, file);
     if !row_holds_by(end, row, current, token) {
         return Reading {
-            answer: Answer::Refused(7, 0),
+            answer: Answer::Refused(Refusal::DamagedRow, 0),
             row,
         };
     }
@@ -142,7 +144,7 @@ fn read_row(
     }
     if x.action != action {
         return Reading {
-            answer: Answer::Refused(9, x.action),
+            answer: Answer::Refused(Refusal::HangingRead, x.action),
             row,
         };
     }
@@ -162,7 +164,7 @@ fn read_warm(
     time: u64,
     action: u64,
 ) -> Done
-    requires { (line_one (length sheet.now) (length fates.now) (length rows.old) state.end state.undecided ≡ true) × (is_file (length rows.old / row_length) file ≡ true) × (read_line fates.now state.end action ≡ 0) }
+    requires { (line_one (length sheet.now) (length fates.now) (length rows.old) state.end state.undecided ≡ true) × (is_file (length rows.old / row_length) file ≡ true) × (read_line fates.now state.end action ≡ free) }
     ensures { left_by result sheet.now fates.now rows.new ≡ call_leaves sheet.now fates.now rows.old state (Call.read file time action) }
 {
     let end = state.end;
@@ -188,14 +190,13 @@ pub fn read(
     ensures { left_by result sheet.now fates.now rows.new ≡ call_leaves sheet.now fates.now rows.old state (Call.read file time action) }
 {
     if !is_lent_right(sheet.len(), fates.len(), rows.len(), state) {
-        return refuse(1, state);
+        return refuse(Refusal::WrongSizes, state);
     }
     if !has_file(rows.len(), file) {
-        return refuse(3, state);
+        return refuse(Refusal::NoFile, state);
     }
-    let line = read_line(fates, state.end, action);
-    if line != 0 {
-        return refuse(line, state);
+    if let Err(why) = read_line(fates, state.end, action) {
+        return refuse(why, state);
     }
     read_warm(sheet, fates, rows, state, file, time, action)
 }

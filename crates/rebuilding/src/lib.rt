@@ -7,8 +7,8 @@ ghost use Rattle.recovery.specs.Steps.{row_from_pages, place_holds_by, action_fo
 
 use page::{Page, Unpacked};
 use recovery::{
-    Answer, Done, Row, State, counted_fate, file_count, has_file, image_at, is_lent_right, refuse,
-    row_of, set_row,
+    Answer, Done, Refusal, Row, State, counted_fate, file_count, has_file, image_at, is_lent_right,
+    refuse, row_of, set_row,
 };
 
 // The row of a file from the pages up to the end, going down: the first committed image is the current one, and the newest
@@ -107,16 +107,16 @@ pub fn rebuild(sheet: &[u8], fates: &[u8], rows: &mut [u64], state: State, file:
     ensures { left_by result sheet.now fates.now rows.new ≡ rebuild_leaves sheet.now fates.now rows.old state file }
 {
     if !is_lent_right(sheet.len(), fates.len(), rows.len(), state) {
-        return refuse(1, state);
+        return refuse(Refusal::WrongSizes, state);
     }
     if !has_file(rows.len(), file) {
-        return refuse(3, state);
+        return refuse(Refusal::NoFile, state);
     }
     let end = state.end;
     let files = file_count(rows.len());
     let row = warm_row(sheet, fates, rows, end, file);
     if !row_holds_in(sheet, end, files, file, row) {
-        return refuse(7, state);
+        return refuse(Refusal::DamagedRow, state);
     }
     Done {
         answer: Answer::Rebuilt(

@@ -19,6 +19,7 @@ use Rattle.recovery.specs.OpenSteps.{refused_opening}
 use Rattle.recovery.proofs.Pages.{page_at_place, length_down}
 use Rattle.recovery.proofs.Sizes.{Sizes, sizes_right_lem}
 use Rattle.recovery.proofs.OpeningLaws.{open_bad}
+use Rattle.recovery.specs.declared.Refusal.TheVariants.{BadPage}
 
 module _ (P : List Entry) (p : ℕ) where
   -- a page of which a test says otherwise is another page
@@ -43,7 +44,7 @@ module _ (P : List Entry) (p : ℕ) where
       by_test (λ (x : ℕ). p ≤ x) (is_bad (get_or P m blank)) (λ e. omega (arith, length_down P m)) (λ e. highest_above here m (apart is_bad true≢false here m h e))
 
 pub bad_refused : (s fates rows : List ℕ) (floor p : ℕ) → sizes_right (length s) (length fates) (length rows) ≡ true → 1 ≤ p → page_size * p ≤ length s
-    → sealed (length rows / row_length) s p ≡ bad → (q : ℕ) × (p ≤ q) × (open_leaves s fates rows floor ≡ refused 2 q s fates rows closed)
+    → sealed (length rows / row_length) s p ≡ bad → (q : ℕ) × (p ≤ q) × (open_leaves s fates rows floor ≡ refused BadPage q s fates rows closed)
 bad_refused s fates rows floor p ok low room e =
     let files : ℕ = length rows / row_length in
     let n : ℕ = length s / page_size in
@@ -56,5 +57,5 @@ bad_refused s fates rows floor p ok low room e =
       highest,
       h,
       sym (open_bad s fates rows floor ok n files (sym k.fates_are) refl (record { end = end_of P n; bad = highest }) (fates_of n (down P (end_of P n)))
-          (record { end_is = refl; bad_is = refl; kept_is = refl }) (λ z. omega arith) (refused_opening 2 highest) refl),
+          (record { end_is = refl; bad_is = refl; kept_is = refl }) (λ z. omega arith) (refused_opening BadPage highest) refl),
     )

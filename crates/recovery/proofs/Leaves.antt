@@ -14,6 +14,8 @@ use Rattle.recovery.specs.Places.{put}
 use Rattle.recovery.specs.World.{lent_right, is_file, warm_row, row_holds, with_row, answer_row, refuse, rebuilt}
 use Rattle.recovery.specs.Lent.{row_length, rows_of, flat, put_row, lent, whole, sizes_right, leaves, refused, rebuild_leaves}
 use Rattle.recovery.specs.Steps.{row_of, with_row_of, row_from_pages, row_holds_in, warm_row_of, line_one, Warmed}
+use Rattle.recovery.specs.declared.Refusal.{Refusal}
+use Rattle.recovery.specs.declared.Refusal.TheVariants.{WrongSizes, NoFile, DamagedRow}
 use Rattle.recovery.specs.declared.Row.{Row}
 use Rattle.recovery.specs.declared.State.{State}
 use Rattle.recovery.specs.declared.Answer.{Answer}
@@ -62,7 +64,7 @@ module _ (s fs rs : List ℕ) (st : State) where
       let back : flat (rows_of rs) ≡ rs = rows_back w in
       sym (set_some rs (suc j) r e) ∙ rw sub-one (rw back at (put_flat (rows_of rs) j r (omega (arith, rows_long rs))))
 
-  refused_leaves : (n : ℕ) → whole (length s) (length rs) ≡ true → refused n 0 s fs rs st ≡ leaves s (refuse n 0 (lent s fs rs st))
+  refused_leaves : (n : Refusal) → whole (length s) (length rs) ≡ true → refused n 0 s fs rs st ≡ leaves s (refuse n 0 (lent s fs rs st))
   refused_leaves n w = ap (λ (xs : List ℕ). refused n 0 s fs xs st) (sym (rows_back w))
 
   pub lent_right_lem : whole (length s) (length rs) ≡ true → lent_right (lent s fs rs st) ≡ line_one (length s) (length fs) (length rs) st.end st.undecided
@@ -73,18 +75,18 @@ module _ (s fs rs : List ℕ) (st : State) where
   unfolding line_one sizes_right
   whole_is h = (and_true _ _ (and_true _ _ (and_true _ _ h).0).0).0
 
-  pub rebuild_line_1 : (f : ℕ) → line_one (length s) (length fs) (length rs) st.end st.undecided ≡ false → refused 1 0 s fs rs st ≡ rebuild_leaves s fs rs st f
+  pub rebuild_line_1 : (f : ℕ) → line_one (length s) (length fs) (length rs) st.end st.undecided ≡ false → refused WrongSizes 0 s fs rs st ≡ rebuild_leaves s fs rs st f
   unfolding rebuild_leaves rebuilt
   rebuild_line_1 f h = go (whole (length s) (length rs)) refl
     where
-      go : (b : Bool) → whole (length s) (length rs) ≡ b → refused 1 0 s fs rs st ≡ rebuild_leaves s fs rs st f
-      go true e = simp (e, lent_right_lem e ∙ h) (refused_leaves 1 e)
+      go : (b : Bool) → whole (length s) (length rs) ≡ b → refused WrongSizes 0 s fs rs st ≡ rebuild_leaves s fs rs st f
+      go true e = simp (e, lent_right_lem e ∙ h) (refused_leaves WrongSizes e)
       go false e = simp e
 
   module _ (f : ℕ) (h : line_one (length s) (length fs) (length rs) st.end st.undecided ≡ true) where
-    pub rebuild_line_3 : is_file (length rs / row_length) f ≡ false → refused 3 0 s fs rs st ≡ rebuild_leaves s fs rs st f
+    pub rebuild_line_3 : is_file (length rs / row_length) f ≡ false → refused NoFile 0 s fs rs st ≡ rebuild_leaves s fs rs st f
     unfolding rebuild_leaves rebuilt
-    rebuild_line_3 k = simp (whole_is h, lent_right_lem (whole_is h) ∙ h, rows_long rs, k) (refused_leaves 3 (whole_is h))
+    rebuild_line_3 k = simp (whole_is h, lent_right_lem (whole_is h) ∙ h, rows_long rs, k) (refused_leaves NoFile (whole_is h))
 
     module _ (k : is_file (length rs / row_length) f ≡ true) (r : Row) (ys : List ℕ) (w : Warmed s fs rs f st.end r ys) where
       warm_is : r ≡ warm_row (lent s fs rs st) f
@@ -103,10 +105,10 @@ module _ (s fs rs : List ℕ) (st : State) where
       unfolding row_holds_in row_holds
       holds_same = refl
 
-      pub rebuild_line_7 : row_holds_in s (length rs / row_length) st.end f r ≡ false → refused 7 0 s fs ys st ≡ rebuild_leaves s fs rs st f
+      pub rebuild_line_7 : row_holds_in s (length rs / row_length) st.end f r ≡ false → refused DamagedRow 0 s fs ys st ≡ rebuild_leaves s fs rs st f
       rebuild_line_7 e =
           let n : row_holds (with_row (lent s fs rs st) f r) f r ≡ false = holds_same ∙ e in
-          sym (sym leaves_row ∙ simp n (ap (λ (xs : List ℕ). refused 7 0 s fs xs st) (sym rows_are)))
+          sym (sym leaves_row ∙ simp n (ap (λ (xs : List ℕ). refused DamagedRow 0 s fs xs st) (sym rows_are)))
 
       pub rebuild_done : row_holds_in s (length rs / row_length) st.end f r ≡ true
           → record { answer = Rebuilt r.current r.currentend r.token r.tokenend r.tokenaction; state = st; sheet = s; fates = fs; rows = ys } ≡ rebuild_leaves s fs rs st f

@@ -15,6 +15,7 @@ use Rattle.recovery.specs.Sheet.{decoded, sealed}
 use Rattle.recovery.specs.World.{Result, refuse, sizes, down, end_of, highest_bad, fates_of, undecided_of, cold_rows, started, unopened, fate_number, unfinished, opened_at, opened}
 use Rattle.recovery.specs.Lent.{row_length, rows_of, flat, pages_of, whole, sizes_right, left_by, leaves, refused, closed, open_leaves}
 use Rattle.recovery.specs.OpenSteps.{Scanned, unfinished_in, refused_opening}
+use Rattle.recovery.specs.declared.Refusal.TheVariants.{WrongSizes, BadPage, UnfinishedMove}
 use Rattle.recovery.specs.declared.Answer.TheVariants.{Opened}
 use Rattle.recovery.specs.declared.Done.{Done}
 use Rattle.recovery.specs.declared.Scan.{Scan}
@@ -43,13 +44,13 @@ module _ (s fates rows : List ℕ) (floor : ℕ) where
   yes = (Opened end (undecided_of told), started sheet end (length (rows_of rows)) floor)
 
   abbrev no : Result
-  no = refuse 2 bad (unopened sheet fates (rows_of rows))
+  no = refuse BadPage bad (unopened sheet fates (rows_of rows))
 
   abbrev early : Result
-  early = refuse 24 0 (unopened sheet fates (rows_of rows))
+  early = refuse UnfinishedMove 0 (unopened sheet fates (rows_of rows))
 
   abbrev unsized : Result
-  unsized = refuse 1 0 (unopened sheet fates (rows_of rows))
+  unsized = refuse WrongSizes 0 (unopened sheet fates (rows_of rows))
 
   sized_is : sizes (length sheet) (length fates) (length (rows_of rows)) ≡ sizes (length s / page_size) (length fates) (length rows / row_length)
   sized_is =
@@ -67,14 +68,14 @@ module _ (s fates rows : List ℕ) (floor : ℕ) where
       sym (rows_flat rows (omega arith))
 
   -- line 1
-  pub open_refused : sizes_right (length s) (length fates) (length rows) ≡ false → (r : Done) → r ≡ refused_opening 1 0 → left_by r s fates rows ≡ open_leaves s fates rows floor
+  pub open_refused : sizes_right (length s) (length fates) (length rows) ≡ false → (r : Done) → r ≡ refused_opening WrongSizes 0 → left_by r s fates rows ≡ open_leaves s fates rows floor
   unfolding sizes_right open_leaves
   open_refused e r d = ap (λ (x : Done). left_by x s fates rows) d ∙ go (whole (length s) (length rows)) refl e
     where
       go : (w : Bool) → whole (length s) (length rows) ≡ w → (w && sizes (length s / page_size) (length fates) (length rows / row_length)) ≡ false
-          → left_by (refused_opening 1 0) s fates rows ≡ cond w (leaves s (opened sheet fates (rows_of rows) floor)) (refused 1 0 s fates rows closed)
+          → left_by (refused_opening WrongSizes 0) s fates rows ≡ cond w (leaves s (opened sheet fates (rows_of rows) floor)) (refused WrongSizes 0 s fates rows closed)
       go false x y = refl
-      go true x y = ap (λ (l : List ℕ). left_by (refused_opening 1 0) s fates l) (rows_back x) ∙ opened_by_lem false y
+      go true x y = ap (λ (l : List ℕ). left_by (refused_opening WrongSizes 0) s fates l) (rows_back x) ∙ opened_by_lem false y
 
   module _ (ok : sizes_right (length s) (length fates) (length rows) ≡ true) where
     k : Sizes (length s) (length fates) (length rows)
@@ -84,7 +85,7 @@ module _ (s fates rows : List ℕ) (floor : ℕ) where
     unfolding open_leaves
     opened_is =
         opened_by_lem true k.sizes_are
-        ∙ ap (λ (b : Bool). cond b (leaves s (opened sheet fates (rows_of rows) floor)) (refused 1 0 s fates rows closed)) (sym k.whole_is)
+        ∙ ap (λ (b : Bool). cond b (leaves s (opened sheet fates (rows_of rows) floor)) (refused WrongSizes 0 s fates rows closed)) (sym k.whole_is)
 
     module _ (n files : ℕ) (m : n ≡ length fates) (c : files ≡ length rows / row_length) (sc : Scan) (kept : List ℕ) (h : Scanned files n s sc kept) where
       here : Scanned (length rows / row_length) (length s / page_size) s sc kept
@@ -103,11 +104,11 @@ module _ (s fates rows : List ℕ) (floor : ℕ) where
       kept_is = here.kept_is ∙ ap (λ (x : ℕ). fates_of x (down sheet (end_of sheet x))) long
 
       -- line 2
-      pub open_bad : (sc.bad ≡ 0 → ⊥) → (r : Done) → r ≡ refused_opening 2 sc.bad → left_by r s fates rows ≡ open_leaves s fates rows floor
+      pub open_bad : (sc.bad ≡ 0 → ⊥) → (r : Done) → r ≡ refused_opening BadPage sc.bad → left_by r s fates rows ≡ open_leaves s fates rows floor
       open_bad z r d =
           ap (λ (x : Done). left_by x s fates rows) d
-          ∙ ap (λ (x : ℕ). left_by (refused_opening 2 x) s fates rows) bad_is
-          ∙ ap (λ (x : List ℕ). left_by (refused_opening 2 bad) s fates x) (rows_back k.whole_is)
+          ∙ ap (λ (x : ℕ). left_by (refused_opening BadPage x) s fates rows) bad_is
+          ∙ ap (λ (x : List ℕ). left_by (refused_opening BadPage bad) s fates x) (rows_back k.whole_is)
           ∙ ap (λ (b : Bool). leaves s (cond b (cond (unfinished sheet end) early yes) no)) (sym (ne_eqb bad 0 (λ e. z (bad_is ∙ e))))
           ∙ opened_is
 
@@ -126,10 +127,10 @@ module _ (s fates rows : List ℕ) (floor : ℕ) where
           ∙ ap (λ (b : Bool). leaves s (cond b (cond (unfinished sheet end) early yes) no)) (sym (eq-eqb bad 0 (sym bad_is ∙ z)))
           ∙ opened_is
 
-      pub open_unfinished : unfinished_in files s kept ≡ true → sc.bad ≡ 0 → (r : Done) → r ≡ refused_opening 24 0 → left_by r s fates rows ≡ open_leaves s fates rows floor
+      pub open_unfinished : unfinished_in files s kept ≡ true → sc.bad ≡ 0 → (r : Done) → r ≡ refused_opening UnfinishedMove 0 → left_by r s fates rows ≡ open_leaves s fates rows floor
       open_unfinished e z r d =
           ap (λ (x : Done). left_by x s fates rows) d
-          ∙ ap (λ (x : List ℕ). left_by (refused_opening 24 0) s fates x) (rows_back k.whole_is)
+          ∙ ap (λ (x : List ℕ). left_by (refused_opening UnfinishedMove 0) s fates x) (rows_back k.whole_is)
           ∙ good_is e z
 
       pub open_good : (u : ℕ) (fates' rows' : List ℕ) → unfinished_in files s kept ≡ false → sc.bad ≡ 0 → u ≡ undecided_of kept → length kept ≡ length fates

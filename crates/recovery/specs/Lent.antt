@@ -6,6 +6,8 @@ use Rattle.page.specs.Layout.{page_size}
 use Rattle.recovery.specs.Places.{tabulate}
 use Rattle.recovery.specs.Log.{Entry, highest_start}
 use Rattle.recovery.specs.Sheet.{pages}
+use Rattle.recovery.specs.declared.Refusal.{Refusal}
+use Rattle.recovery.specs.declared.Refusal.TheVariants.{WrongSizes}
 use Rattle.recovery.specs.declared.Row.{Row}
 use Rattle.recovery.specs.declared.State.{State}
 use Rattle.recovery.specs.declared.Answer.{Answer}
@@ -89,8 +91,8 @@ state_of w = record { end = w.end; floor = w.floor; undecided = w.undecided }
 abbrev pub leaves : List ℕ → Result → Left
 leaves s r = record { answer = r.0; state = state_of r.1; sheet = s; fates = r.1.fates; rows = flat r.1.rows }
 
-abbrev pub refused : ℕ → ℕ → List ℕ → List ℕ → List ℕ → State → Left
-refused number place s fates rows state = record { answer = Refused number place; state = state; sheet = s; fates = fates; rows = rows }
+abbrev pub refused : Refusal → ℕ → List ℕ → List ℕ → List ℕ → State → Left
+refused why place s fates rows state = record { answer = Refused why place; state = state; sheet = s; fates = fates; rows = rows }
 
 abbrev pub closed : State
 closed = record { end = 0; floor = 0; undecided = 0 }
@@ -101,8 +103,8 @@ unfoldable pub open_leaves : List ℕ → List ℕ → List ℕ → ℕ → Left
 open_leaves s fates rows floor =
     cond (whole (length s) (length rows))
     (leaves s (opened (pages_of s (length rows / row_length)) fates (rows_of rows) floor))
-    (refused 1 0 s fates rows closed)
+    (refused WrongSizes 0 s fates rows closed)
 
 unfoldable pub rebuild_leaves : List ℕ → List ℕ → List ℕ → State → ℕ → Left
 rebuild_leaves s fates rows state file =
-    cond (whole (length s) (length rows)) (leaves s (rebuilt (lent s fates rows state) file)) (refused 1 0 s fates rows state)
+    cond (whole (length s) (length rows)) (leaves s (rebuilt (lent s fates rows state) file)) (refused WrongSizes 0 s fates rows state)

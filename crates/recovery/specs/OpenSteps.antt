@@ -6,6 +6,7 @@ use Rattle.recovery.specs.Places.{nth}
 use Rattle.recovery.specs.Sheet.{decoded, pages}
 use Rattle.recovery.specs.World.{down, end_of, highest_bad, fates_of, is_carried}
 use Rattle.recovery.specs.Lent.{closed}
+use Rattle.recovery.specs.declared.Refusal.{Refusal}
 use Rattle.recovery.specs.declared.Answer as answers
 use Rattle.recovery.specs.declared.Done.{Done}
 use Rattle.recovery.specs.declared.Scan.{Scan}
@@ -47,6 +48,6 @@ pub record Scanned (files n : ℕ) (sheet : List ℕ) (s : Scan) (kept : List �
 unfoldable pub unfinished_in : ℕ → List ℕ → List ℕ → Bool
 unfinished_in files sheet kept = is_carried (decoded files sheet 1) && eqb (nth 0 kept 1) 1
 
--- a refusal's number and place, and three zeros
-abbrev pub refused_opening : ℕ → ℕ → Done
-refused_opening number place = record { answer = answers.Answer.Refused number place; state = closed }
+-- a refusal and its place, and three zeros
+abbrev pub refused_opening : Refusal → ℕ → Done
+refused_opening why place = record { answer = answers.Answer.Refused why place; state = closed }

@@ -9,6 +9,7 @@ use Rattle.recovery.specs.Log.{outcome_of}
 use Rattle.recovery.specs.Sheet.{page_bytes, is_opening, decoded}
 use Rattle.recovery.specs.World.{World, down, rebuilt_row, fate_in, cold, is_file, row_holds, is_rebuilt_for}
 use Rattle.recovery.specs.Lent.{row_length, row_from, rows_of, put_row, pages_of, sizes_right}
+use Rattle.recovery.specs.declared.Refusal.{Refusal}
 use Rattle.recovery.specs.declared.Row.{Row}
 use Rattle.recovery.specs.declared.State.{State}
 use Rattle.recovery.specs.declared.Done.{Done}
@@ -109,5 +110,5 @@ pub record Warmed (s fates rows : List ℕ) (file end : ℕ) (r : Row) (left : L
   pub left_is : left ≡ with_row_of rows file r
 
 -- a refusal with place 0, and the state as it was
-abbrev pub refusal : ℕ → State → Done
-refusal number state = record { answer = Refused number 0; state = state }
+abbrev pub refusal : Refusal → State → Done
+refusal why state = record { answer = Refused why 0; state = state }

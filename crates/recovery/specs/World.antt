@@ -3,6 +3,8 @@ use Rattle.std.specs.Prelude.{List, [], ◌∷◌, Bool, true, false, cond, ◌&
 use Rattle.page.specs.Layout.{most_places, most_files}
 use Rattle.recovery.specs.Places.{nth, put, tabulate}
 use Rattle.recovery.specs.Log.{Entry, blank, torn, bad, opening, image, outcome, Fate, unknown, undecided, committed, aborted, is_undecided, fate_of, outcome_of, effective_of, current_of, token_of, place_of, start_of, action_of}
+use Rattle.recovery.specs.declared.Refusal.{Refusal}
+use Rattle.recovery.specs.declared.Refusal.TheVariants.{WrongSizes, BadPage, NoFile, DamagedRow, UnfinishedMove}
 use Rattle.recovery.specs.declared.Row.{Row}
 use Rattle.recovery.specs.declared.Answer.{Answer}
 use Rattle.recovery.specs.declared.Answer.TheVariants.{Refused, Opened, Rebuilt}
@@ -21,8 +23,8 @@ abbrev pub Result : Type 0
 Result = Answer × World
 
 -- a refusal that changes nothing more
-abbrev pub refuse : ℕ → ℕ → World → Result
-refuse number place w = (Refused number place, w)
+abbrev pub refuse : Refusal → ℕ → World → Result
+refuse why place w = (Refused why place, w)
 
 -- ---- pages and fates
 
@@ -135,13 +137,13 @@ is_file files f = leb 1 f && leb f files
 
 -- line 7, and the numbers of a row after its mark
 abbrev pub answer_row : World → ℕ → Row → Result
-answer_row w f r = cond (row_holds w f r) (Rebuilt r.current r.currentend r.token r.tokenend r.tokenaction, w) (refuse 7 0 w)
+answer_row w f r = cond (row_holds w f r) (Rebuilt r.current r.currentend r.token r.tokenend r.tokenaction, w) (refuse DamagedRow 0 w)
 
 unfoldable pub rebuilt : World → ℕ → Result
 rebuilt w f =
     cond (lent_right w)
-    (cond (is_file (length w.rows) f) (answer_row (with_row w f (warm_row w f)) f (warm_row w f)) (refuse 3 0 w))
-    (refuse 1 0 w)
+    (cond (is_file (length w.rows) f) (answer_row (with_row w f (warm_row w f)) f (warm_row w f)) (refuse NoFile 0 w))
+    (refuse WrongSizes 0 w)
 
 -- ---- open: lines 1, 2, 24
 
@@ -216,10 +218,10 @@ unfinished s end = is_carried (nth blank s 1) && is_undecided (fate_of (down s e
 abbrev pub opened_at : List Entry → ℕ → List ℕ → List Row → ℕ → Result
 opened_at s end fates rows floor =
     cond (eqb (highest_bad (down s end)) 0)
-    (cond (unfinished s end) (refuse 24 0 (unopened s fates rows))
+    (cond (unfinished s end) (refuse UnfinishedMove 0 (unopened s fates rows))
     (Opened end (undecided_of (fates_of (length s) (down s end))), started s end (length rows) floor))
-    (refuse 2 (highest_bad (down s end)) (unopened s fates rows))
+    (refuse BadPage (highest_bad (down s end)) (unopened s fates rows))
 
 unfoldable pub opened : List Entry → List ℕ → List Row → ℕ → Result
 opened s fates rows floor =
-    cond (sizes (length s) (length fates) (length rows)) (opened_at s (end_of s (length s)) fates rows floor) (refuse 1 0 (unopened s fates rows))
+    cond (sizes (length s) (length fates) (length rows)) (opened_at s (end_of s (length s)) fates rows floor) (refuse WrongSizes 0 (unopened s fates rows))

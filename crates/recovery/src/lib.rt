@@ -55,11 +55,48 @@ pub struct State {
     pub undecided: u64,
 }
 
-// What a call answers: a refusal's number and place; open's end and open count; the numbers of a row after its mark; the place of
+// Why a call says no, in the order of docs/STORE.md. `specs/Numbers.antt` has the number of each; 14 is not used.
+#[derive(Clone, Copy)]
+pub enum Refusal {
+    // What is lent has the wrong sizes, or the state is too high for it.
+    WrongSizes,
+    // A page of the sheet is bad.
+    BadPage,
+    // There is no such file.
+    NoFile,
+    // The value has too many bytes.
+    LongValue,
+    // There is no such action.
+    NoAction,
+    // The action is decided already.
+    AlreadyDecided,
+    // The row does not go with the sheet.
+    DamagedRow,
+    // The file has a token of another action.
+    OtherToken,
+    // The answer hangs on how another action is decided.
+    HangingRead,
+    // The start is not above the file's current end and the floor.
+    EarlyStart,
+    // There are too few pages.
+    NoRoom,
+    // The page above the end, or the fresh sheet, is not blank.
+    NotBlank,
+    // A link does not lead to an image of the file.
+    LostLink,
+    // A move meets an undecided action.
+    UndecidedAction,
+    // The sheet is a fresh one, and the move to it was cut.
+    UnfinishedMove,
+    // What was asked for is on an older sheet.
+    OnOlderSheet,
+}
+
+// What a call answers: why it is refused, and the place that is named, 0 if none; open's end and open count; the numbers of a row after its mark; the place of
 // the call's page; place, start and length of a value; none; a fate, and the place of the newest outcome; the floor for a fresh sheet.
 #[derive(Clone, Copy)]
 pub enum Answer {
-    Refused(u64, u64),
+    Refused(Refusal, u64),
     Opened(u64, u64),
     Rebuilt(u64, u64, u64, u64, u64),
     Stored(u64),
@@ -116,11 +153,11 @@ pub fn is_lent_right(size: usize, fates: usize, numbers: usize, state: State) ->
 }
 
 // A refusal that names no place.
-pub fn refuse(number: u64, state: State) -> Done
-    ensures { result ≡ refusal number state }
+pub fn refuse(why: Refusal, state: State) -> Done
+    ensures { result ≡ refusal why state }
 {
     Done {
-        answer: Answer::Refused(number, 0),
+        answer: Answer::Refused(why, 0),
         state,
     }
 }

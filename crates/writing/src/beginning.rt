@@ -6,20 +6,19 @@ ghost use Rattle.calls.specs.Leaves.{call_leaves};
 
 use calls::{append, room_line};
 use page::Page;
-use recovery::{Answer, Done, State, file_count, is_lent_right, refuse};
+use recovery::{Answer, Done, Refusal, State, file_count, is_lent_right, refuse};
 
 // Begins an action: appends its opening, and leaves room for the outcome of each undecided action.
 pub fn begin(sheet: &mut [u8], fates: &mut [u8], rows: &[u64], state: State) -> Done
     ensures { left_by result sheet.new fates.new rows.now ≡ call_leaves sheet.old fates.old rows.now state Call.begin }
 {
     if !is_lent_right(sheet.len(), fates.len(), rows.len(), state) {
-        return refuse(1, state);
+        return refuse(Refusal::WrongSizes, state);
     }
     let end = state.end;
     let files = file_count(rows.len());
-    let line = room_line(&sheet[..], end, files, state.undecided + 1);
-    if line != 0 {
-        return refuse(line, state);
+    if let Err(why) = room_line(&sheet[..], end, files, state.undecided + 1) {
+        return refuse(why, state);
     }
     let place = end + 1;
     let page = Page::opening(place);
@@ -29,8 +28,8 @@ pub fn begin(sheet: &mut [u8], fates: &mut [u8], rows: &[u64], state: State) -> 
         answer: Answer::Stored(place),
         state: State {
             end: place,
-            floor: state.floor,
             undecided: state.undecided + 1,
+            ..state
         },
     }
 }

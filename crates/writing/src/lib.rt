@@ -10,16 +10,16 @@ ghost use Rattle.recovery.specs.Lent.{left_by, row_length};
 ghost use Rattle.recovery.specs.Steps.{line_one};
 ghost use Rattle.calls.specs.Calls.{Call, is_free_for, written_end, written};
 ghost use Rattle.calls.specs.Leaves.{call_leaves, padded};
-ghost use Rattle.calls.specs.LineSteps.{action_line};
-ghost use Rattle.calls.specs.ReadSteps.{store_answer, write_answer};
+ghost use Rattle.calls.specs.LineSteps.{free, action_line};
+ghost use Rattle.calls.specs.ReadSteps.{store_line, write_answer};
 
 pub use beginning::begin;
 use calls::{action_line, append, room_line};
 use page::Page;
 use rebuilding::{row_holds_by, warm_row};
 use recovery::{
-    Answer, Done, Row, State, file_count, has_file, image_at, is_lent_right, raised_row, refuse,
-    set_row,
+    Answer, Done, Refusal, Row, State, file_count, has_file, image_at, is_lent_right, raised_row,
+    refuse, set_row,
 };
 
 // A value and zeros after it.
@@ -37,22 +37,17 @@ fn pad(value: &[u8]) -> [u8; Page::VALUE_SIZE]
 }
 
 // Lines 10 to 12 of write.
-#[tactic(auto, using(calls::proofs::WriteAnswers::store_10, calls::proofs::WriteAnswers::store_floor))]
-fn store_answer(sheet: &[u8], state: State, files: u64, start: u64, row: Row) -> Answer
-    requires { (state.end ≤ length sheet.now / page_size) × (state.undecided ≤ state.end) }
-    ensures { result ≡ store_answer sheet.now files state start row }
+#[tactic(auto, unfolding(calls::specs::ReadSteps::store_line))]
+fn store_line(sheet: &[u8], state: State, files: u64, start: u64, row: Row) -> Result<(), Refusal>
+    ensures { result ≡ store_line sheet.now files state start row }
 {
     if start <= row.currentend {
-        return Answer::Refused(10, 0);
+        return Err(Refusal::EarlyStart);
     }
     if start <= state.floor {
-        return Answer::Refused(10, 0);
+        return Err(Refusal::EarlyStart);
     }
-    let line = room_line(sheet, state.end, files, state.undecided);
-    if line != 0 {
-        return Answer::Refused(line, 0);
-    }
-    Answer::Stored(state.end + 1)
+    room_line(sheet, state.end, files, state.undecided)
 }
 
 // Whether a row has no token, or one of this action.
@@ -78,12 +73,15 @@ fn write_answer(
     let current = image_at(sheet, row.current, files, file);
     let token = image_at(sheet, row.token, files, file);
     if !row_holds_by(state.end, row, current, token) {
-        return Answer::Refused(7, 0);
+        return Answer::Refused(Refusal::DamagedRow, 0);
     }
     if !is_free_for(row, action) {
-        return Answer::Refused(8, row.tokenaction);
+        return Answer::Refused(Refusal::OtherToken, row.tokenaction);
     }
-    store_answer(sheet, state, files, start, row)
+    match store_line(sheet, state, files, start, row) {
+        Ok(()) => Answer::Stored(state.end + 1),
+        Err(why) => Answer::Refused(why, 0),
+    }
 }
 
 // The token's end once it is written: its start; if it is written again, no less than it was.
@@ -122,7 +120,7 @@ fn write_warm(
     action: u64,
     value: &[u8],
 ) -> Done
-    requires { (line_one (length sheet.old) (length fates.now) (length rows.old) state.end state.undecided ≡ true) × (is_file (length rows.old / row_length) file ≡ true) × (length value.now ≤ value_size) × (action_line fates.now state.end action ≡ 0) }
+    requires { (line_one (length sheet.old) (length fates.now) (length rows.old) state.end state.undecided ≡ true) × (is_file (length rows.old / row_length) file ≡ true) × (length value.now ≤ value_size) × (action_line fates.now state.end action ≡ free) }
     ensures { left_by result sheet.new fates.now rows.new ≡ call_leaves sheet.old fates.now rows.old state (Call.write file start action value.now) }
 {
     // First, so that these stores are done when the page is written from them.
@@ -161,17 +159,16 @@ pub fn write(
     ensures { left_by result sheet.new fates.now rows.new ≡ call_leaves sheet.old fates.now rows.old state (Call.write file start action value.now) }
 {
     if !is_lent_right(sheet.len(), fates.len(), rows.len(), state) {
-        return refuse(1, state);
+        return refuse(Refusal::WrongSizes, state);
     }
     if !has_file(rows.len(), file) {
-        return refuse(3, state);
+        return refuse(Refusal::NoFile, state);
     }
     if Page::VALUE_SIZE < value.len() {
-        return refuse(4, state);
+        return refuse(Refusal::LongValue, state);
     }
-    let line = action_line(fates, state.end, action);
-    if line != 0 {
-        return refuse(line, state);
+    if let Err(why) = action_line(fates, state.end, action) {
+        return refuse(why, state);
     }
     write_warm(sheet, fates, rows, state, file, start, action, value)
 }

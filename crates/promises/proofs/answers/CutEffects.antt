@@ -10,6 +10,8 @@ use lib.Seq.{ext_get_or, get_or-take, get_or-drop}
 use lib.Dec.{eqb, leb}
 use Rattle.encoding.proofs.Logic.{clash}
 use Rattle.page.specs.Layout.{page_size, kind_at, mark_at}
+use Rattle.recovery.specs.declared.Refusal.{Refusal}
+use Rattle.recovery.specs.declared.Refusal.TheVariants.{WrongSizes, NoFile, NoAction, AlreadyDecided, HangingRead, UnfinishedMove, OnOlderSheet}
 use Rattle.recovery.specs.declared.Answer.{Answer}
 use Rattle.recovery.specs.declared.Answer.TheVariants.{Refused, Opened, Told}
 use Rattle.recovery.specs.Lent.{Left}
@@ -80,26 +82,26 @@ module _ (u : ℕ) where
     same : (a : Answer) (h : ℕ → Object) → Same (a, used_to u (with_objects m h)) (a, with_objects m h)
     same a h = record { answer = refl; model = refl }
 
-    refuses_same : (n p : ℕ) → Same (refuses n p (used_to u m)) (refuses n p m)
+    refuses_same : (n : Refusal) (p : ℕ) → Same (refuses n p (used_to u m)) (refuses n p m)
     refuses_same n p = record { answer = refl; model = refl }
 
     same_pending : (z : Option Status) {x x' : Reply} → Same x x' → Same (of_pending (used_to u m) z x) (of_pending m z x')
-    same_pending none e = refuses_same 5 0
+    same_pending none e = refuses_same NoAction 0
     same_pending (some pending) e = e
-    same_pending (some (committed p)) e = refuses_same 6 0
-    same_pending (some (aborted p)) e = refuses_same 6 0
+    same_pending (some (committed p)) e = refuses_same AlreadyDecided 0
+    same_pending (some (aborted p)) e = refuses_same AlreadyDecided 0
 
     same_version : (f t : ℕ) (x : Object) (z : Option Version) → Same (read_version (used_to u m) f t x z) (read_version m f t x z)
-    same_version f t x none = same_cond (has_carried m.carried x.history) (refuses_same 25 0) (same _ _)
+    same_version f t x none = same_cond (has_carried m.carried x.history) (refuses_same OnOlderSheet 0) (same _ _)
     same_version f t x (some v) = same _ _
 
     same_reading : (f t a : ℕ) (x : Object) (z : Option Version) → Same (reading (used_to u m) f t a x z) (reading m f t a x z)
     same_reading f t a x none = same_version f t x (latest t x.history)
     same_reading f t a x (some z) =
-        same_cond (leb z.start t) (same_cond (eqb z.action a) (same _ _) (refuses_same 9 z.action)) (same_version f t x (latest t x.history))
+        same_cond (leb z.start t) (same_cond (eqb z.action a) (same _ _) (refuses_same HangingRead z.action)) (same_version f t x (latest t x.history))
 
     same_testing : (z : Option Status) → Same (testing (used_to u m) z) (testing m z)
-    same_testing none = refuses_same 5 0
+    same_testing none = refuses_same NoAction 0
     same_testing (some pending) = same (Told 1 0) m.object
     same_testing (some (committed p)) = same (Told 2 p) m.object
     same_testing (some (aborted p)) = same (Told 3 p) m.object
@@ -110,9 +112,9 @@ module _ (u : ℕ) where
     same_look (decide a c) h = absurd (h (outcome a c) refl)
     same_look (read f t a) h =
         let r = same_reading f t a (m.object f) (m.object f).token in
-        same_cond (leb 1 f && leb f m.files) (same_cond (eqb a 0) r (same_pending (m.status a) r)) (refuses_same 3 0)
+        same_cond (leb 1 f && leb f m.files) (same_cond (eqb a 0) r (same_pending (m.status a) r)) (refuses_same NoFile 0)
     same_look (test a) h = same_testing (m.status a)
-    same_look (rebuild f) h = same_cond (leb 1 f && leb f m.files) (same _ m.object) (refuses_same 3 0)
+    same_look (rebuild f) h = same_cond (leb 1 f && leb f m.files) (same _ m.object) (refuses_same NoFile 0)
 
   same_looks : (b : Bool) (m : Model) (es : List Event) → Looks es → model_heard b (used_to u m) es ≡ model_heard b m es
   unfolding model_heard
@@ -225,7 +227,7 @@ module _ (pages files : ℕ) (b : Box) (m : Reached pages files b) (k : Call) (k
       go u false d p q = not_heard p
 
   -- the opening's own answer
-  opened_is : (c u : Bool) (e w x x' : ℕ) → some (cond c (cond u (Refused 24 0) (Opened e w)) (Refused 1 0)) ≡ some (Opened x x') → (e ≡ x) × (w ≡ x')
+  opened_is : (c u : Bool) (e w x x' : ℕ) → some (cond c (cond u (Refused UnfinishedMove 0) (Opened e w)) (Refused WrongSizes 0)) ≡ some (Opened x x') → (e ≡ x) × (w ≡ x')
   opened_is true true e w x x' p = clash cc
   opened_is true false e w x x' p = (cc, cc)
   opened_is false u e w x x' p = clash cc
@@ -236,5 +238,5 @@ module _ (pages files : ℕ) (b : Box) (m : Reached pages files b) (k : Call) (k
       let u = cut_used (is_on b) m.model k kept h in
       let before = opened_is (is_lent m.model fates rows) (is_unfinished m.model) m.model.used m.model.undecided end w (sym (answer_is pages files b m (opens floor fates rows) o) ∙ p) in
       let later = opened_is (is_lent (used_to u.used m.model) fates rows) (is_unfinished m.model) u.used m.model.undecided end' w'
-      (sym (answer_is pages files (after b (cuts k kept)) cut_box (opens floor fates rows) o' ∙ ap (λ x. some (cond (is_lent x fates rows) (cond (is_unfinished x) (Refused 24 0) (Opened x.used x.undecided)) (Refused 1 0))) u.is) ∙ q) in
+      (sym (answer_is pages files (after b (cuts k kept)) cut_box (opens floor fates rows) o' ∙ ap (λ x. some (cond (is_lent x fates rows) (cond (is_unfinished x) (Refused UnfinishedMove 0) (Opened x.used x.undecided)) (Refused WrongSizes 0))) u.is) ∙ q) in
       (sym later.1 ∙ before.1, omega (arith, u.low), omega (arith, u.high))

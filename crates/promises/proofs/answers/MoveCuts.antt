@@ -13,6 +13,7 @@ use Rattle.page.specs.Layout.{page_size}
 use Rattle.recovery.specs.Log.{Image, image}
 use Rattle.recovery.specs.Numbers.{is_refused}
 use Rattle.recovery.specs.Lent.{Left, row_length, open_leaves}
+use Rattle.recovery.specs.declared.Refusal.TheVariants.{UnfinishedMove}
 use Rattle.recovery.specs.declared.Answer.{Answer}
 use Rattle.recovery.specs.declared.Answer.TheVariants.{Refused, Moved}
 use Rattle.calls.specs.Calls.{read}
@@ -40,7 +41,7 @@ move_finished (off s) fresh floor k e h = not_heard e
 
 module _ (n files : ℕ) where
   pub move_unfinished : (b : Box) → Reached n files b → (fresh : List ℕ) (floor : ℕ) → answer_to b (moves fresh) ≡ some (Moved floor) → (fates rows : List ℕ) (t : ℕ)
-      → page_size * length fates ≡ length fresh → length rows ≡ row_length * files → (k : ℕ) → page_size ≤ k → k < size_of_move b → (open_leaves (take k (fresh_of b fresh) ++ drop k fresh) fates rows t).answer ≡ Refused 24 0
+      → page_size * length fates ≡ length fresh → length rows ≡ row_length * files → (k : ℕ) → page_size ≤ k → k < size_of_move b → (open_leaves (take k (fresh_of b fresh) ++ drop k fresh) fates rows t).answer ≡ Refused UnfinishedMove 0
   move_unfinished (on m) r fresh floor e fates rows t hf hr k low high =
       move_cut m.sheet m.fates m.rows m.state fresh floor (some_is e) fates rows t (omega arith) (hr ∙ sym r.at.stands.1) k low high
   move_unfinished (off s) r fresh floor e fates rows t hf hr k low high = not_heard e

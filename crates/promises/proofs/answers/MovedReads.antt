@@ -13,6 +13,7 @@ use Rattle.page.specs.Answers.{value_in}
 use Rattle.recovery.specs.Log.{Image, Placed, fate_of, effective_of}
 use Rattle.recovery.specs.Sheet.{page_bytes}
 use Rattle.recovery.specs.Numbers.{is_refused}
+use Rattle.recovery.specs.declared.Refusal.TheVariants.{NoFile, HangingRead, OnOlderSheet}
 use Rattle.recovery.specs.declared.Answer.{Answer}
 use Rattle.recovery.specs.declared.Answer.TheVariants.{Refused, Value, Nothing}
 use Rattle.recovery.proofs.Spots.{entry_in}
@@ -101,12 +102,12 @@ module _ (n files : ℕ) (b : Box) (r : Reached n files b) (file time : ℕ) whe
 
 module _ (m : Model) (f t a : ℕ) where
   abbrev Early : Reply → Type 0
-  Early x = x.0 ≡ Refused 25 0 → (latest t (m.object f).history ≡ none) × (has_carried m.carried (m.object f).history ≡ true)
+  Early x = x.0 ≡ Refused OnOlderSheet 0 → (latest t (m.object f).history ≡ none) × (has_carried m.carried (m.object f).history ≡ true)
 
   early_version : (z : Option Version) → latest t (m.object f).history ≡ z → Early (read_version m f t (m.object f) z)
   early_version none e = go (has_carried m.carried (m.object f).history) refl
     where
-      go : (c : Bool) → has_carried m.carried (m.object f).history ≡ c → Early (cond c (refuses 25 0 m) (Nothing, model.with_object m f (model.asked_at t (m.object f))))
+      go : (c : Bool) → has_carried m.carried (m.object f).history ≡ c → Early (cond c (refuses OnOlderSheet 0 m) (Nothing, model.with_object m f (model.asked_at t (m.object f))))
       go true q k = (e, q)
       go false q k = clash cc
   early_version (some x) e = λ k. clash cc
@@ -115,7 +116,7 @@ module _ (m : Model) (f t a : ℕ) where
   early_reading none = early_version (latest t (m.object f).history) refl
   early_reading (some x) =
       by_test Early (leb x.start t) (λ q. by_test Early (eqb x.action a)
-      {x = (shows x, model.with_object m f (model.object (m.object f).history (m.object f).asked (m.object f).token (max (m.object f).tokenasked t)))} {y = refuses 9 x.action m}
+      {x = (shows x, model.with_object m f (model.object (m.object f).history (m.object f).asked (m.object f).token (max (m.object f).tokenasked t)))} {y = refuses HangingRead x.action m}
       (λ i k. clash cc) (λ i k. clash cc)) (λ q. early_version (latest t (m.object f).history) refl)
 
   early_pending : (z : Option Status) → Early (of_pending m z (reading m f t a (m.object f) (m.object f).token))
@@ -126,15 +127,15 @@ module _ (m : Model) (f t a : ℕ) where
 
   model_early : Early (model_call m (read f t a))
   model_early =
-      by_test Early (leb 1 f && leb f m.files) {y = refuses 3 0 m}
+      by_test Early (leb 1 f && leb f m.files) {y = refuses NoFile 0 m}
       (λ e. by_test Early (eqb a 0) {x = reading m f t a (m.object f) (m.object f).token} {y = of_pending m (m.status a) (reading m f t a (m.object f) (m.object f).token)}
       (λ q. early_reading (m.object f).token) (λ q. early_pending (m.status a))) (λ e k. clash cc)
 
 module _ (n files : ℕ) (b : Box) (r : Reached n files b) (file time action : ℕ) where
-  pub early_only : answer_to b (calls (read file time action)) ≡ some (Refused 25 0)
+  pub early_only : answer_to b (calls (read file time action)) ≡ some (Refused OnOlderSheet 0)
       → ((p : ℕ) × (i : Image) × IsVersion files b file p i × IsCarried files b i.action) × ((p : ℕ) (i : Image) → IsVersion files b file p i → time < i.start)
   early_only e =
-      let k = heard_on n files b r (read file time action) tt (Refused 25 0) e in
+      let k = heard_on n files b r (read file time action) tt (Refused OnOlderSheet 0) e in
       let h = model_early r.model file time action k.1 in
       let c = carried_here n files b r file time k.0 h.0 h.1 in (
         (c.place, c.seen, c.version_is, c.carried_is),
@@ -161,7 +162,7 @@ module _ (n files : ℕ) (b : Box) (r : Reached n files b) (file time : ℕ) whe
       subst (Alike files b b' file time x) (sym hy') (subst (λ (a : Answer). Alike files b b' file time a (Value u.place w.start (length w.value))) (sym hx) (same w.place u.place w.start (length w.value) bytes))
   alike_by false b' q o l (gone z t e c) x y hx hy = absurd (false≢true t)
   alike_by {d} true b' q o l (gone z t e c) x y hx hy =
-      let hy' : y ≡ Refused 25 0 = rw (e, c) at hy in
+      let hy' : y ≡ Refused OnOlderSheet 0 = rw (e, c) at hy in
       let h = carried_here d files b' q file time o e c in
       subst (Alike files b b' file time x) (sym hy') (early x h.place h.seen h.version_is h.carried_is h.later)
 

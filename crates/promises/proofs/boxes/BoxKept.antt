@@ -27,6 +27,7 @@ use Rattle.promises.proofs.bytes.ByteCalls.{page_back}
 use Rattle.promises.proofs.boxes.Extends.{ext_refl, event_extends}
 use Rattle.promises.proofs.boxes.Boxes.{Reached, end_is, page_above}
 use Rattle.promises.proofs.boxes.BoxRuns.{reached_next, pages_after}
+use Rattle.recovery.specs.declared.Refusal.TheVariants.{WrongSizes}
 
 -- sheets as long, with the same bytes up to a place
 pub record SameTo (q : ℕ) (s t : List ℕ) : Type 0 where
@@ -84,7 +85,7 @@ module _ (m : Left) (k : Call) where
 open_sheet : (s fates rows : List ℕ) (floor : ℕ) → (open_leaves s fates rows floor).sheet ≡ s
 unfolding open_leaves
 open_sheet s fates rows floor = by_test (λ (x : Left). x.sheet ≡ s) (whole (length s) (length rows))
-    {x = leaves s (opened (pages_of s (length rows / row_length)) fates (rows_of rows) floor)} {y = refused 1 0 s fates rows closed} (λ e. refl) (λ e. refl)
+    {x = leaves s (opened (pages_of s (length rows / row_length)) fates (rows_of rows) floor)} {y = refused WrongSizes 0 s fates rows closed} (λ e. refl) (λ e. refl)
 
 pub open_box : (s fates rows : List ℕ) (floor : ℕ) → sheet_of (box_of (open_leaves s fates rows floor)) ≡ s
 open_box s fates rows floor = by_test (λ (b : Box). sheet_of b ≡ s) (is_refused (open_leaves s fates rows floor).answer)
@@ -96,7 +97,7 @@ unfolding move_leaves
 move_sheet m fresh =
     by_test (λ (x : MoveLeft). x.left.sheet ≡ m.sheet) (whole (length m.sheet) (length m.rows) && eqb (length fresh % page_size) 0)
     {x = lower_move m.sheet fresh (moved (lent m.sheet m.fates m.rows m.state) (pages_of fresh (length m.rows / row_length)))}
-    {y = record { left = refused 1 0 m.sheet m.fates m.rows m.state; fresh = fresh }} (λ e. refl) (λ e. refl)
+    {y = record { left = refused WrongSizes 0 m.sheet m.fates m.rows m.state; fresh = fresh }} (λ e. refl) (λ e. refl)
 
 -- ---- a run
 

@@ -18,6 +18,8 @@ use Rattle.recovery.specs.Sheet.{pages}
 use Rattle.recovery.specs.World.{World, refuse, lent_right, fate_number, down, is_file}
 use Rattle.recovery.specs.Lent.{Left, row_length, rows_of, flat, pages_of, lent, refused}
 use Rattle.recovery.specs.Numbers.{is_refused}
+use Rattle.recovery.specs.declared.Refusal.{Refusal}
+use Rattle.recovery.specs.declared.Refusal.TheVariants.{WrongSizes, DamagedRow, NoRoom, NotBlank, UndecidedAction}
 use Rattle.recovery.specs.declared.Answer.{Answer}
 use Rattle.recovery.specs.declared.Answer.TheVariants.{Refused, Opened, Rebuilt, Stored, Value, Nothing, Told, Moved}
 use Rattle.recovery.proofs.Pages.{pages_long}
@@ -56,7 +58,7 @@ fresh_log n files m r fresh = move_log (warm_rows (world_in n files m)) files
 
 -- ---- answers
 
-is_refusal : (a : Answer) → is_refused a ≡ true → (k : ℕ) × (p : ℕ) × (a ≡ Refused k p)
+is_refusal : (a : Answer) → is_refused a ≡ true → (k : Refusal) × (p : ℕ) × (a ≡ Refused k p)
 unfolding is_refused
 is_refusal (Refused k p) e = (k, p, refl)
 is_refusal (Opened a b) e = absurd (false≢true e)
@@ -74,10 +76,10 @@ Answers m r = is_refused r.0 ≡ false → r.0 ≡ Moved (asked_to m.floor m.obj
 model_moved_lem : (m : Model) (fresh : List ℕ) → Answers m (model_move m fresh)
 unfolding is_refused
 model_moved_lem m fresh =
-    by_test (Answers m) (eqb (length fresh % page_size) 0 && is_sheet (length fresh / page_size)) {y = refuses 1 0 m}
-    (λ a. by_test (Answers m) (eqb (lowest_pending m) 0) {y = refuses 23 (lowest_pending m) m}
-    (λ b. by_test (Answers m) (leb (moved_pages m) (length fresh / page_size)) {y = refuses 11 0 m}
-    (λ c. by_test (Answers m) (zeros fresh) {x = (Moved (asked_to m.floor m.object m.files), model_moved m (length fresh / page_size))} {y = refuses 12 0 m}
+    by_test (Answers m) (eqb (length fresh % page_size) 0 && is_sheet (length fresh / page_size)) {y = refuses WrongSizes 0 m}
+    (λ a. by_test (Answers m) (eqb (lowest_pending m) 0) {y = refuses UndecidedAction (lowest_pending m) m}
+    (λ b. by_test (Answers m) (leb (moved_pages m) (length fresh / page_size)) {y = refuses NoRoom 0 m}
+    (λ c. by_test (Answers m) (zeros fresh) {x = (Moved (asked_to m.floor m.object m.files), model_moved m (length fresh / page_size))} {y = refuses NotBlank 0 m}
     (λ d e. refl) (λ d e. absurd (true≢false e))) (λ c e. absurd (true≢false e))) (λ b e. absurd (true≢false e))) (λ a e. absurd (true≢false e))
 
 module _ (n files : ℕ) (m : Left) (r : Reached n files (on m)) where
@@ -103,7 +105,7 @@ module _ (n files : ℕ) (m : Left) (r : Reached n files (on m)) where
     abbrev F : ℕ
     F = length fresh / page_size
 
-    move_is : move_on m fresh ≡ cond (eqb (length fresh % page_size) 0) (lower_move m.sheet fresh (moved w (pages_of fresh files))) (record { left = refused 1 0 m.sheet m.fates m.rows m.state; fresh = fresh })
+    move_is : move_on m fresh ≡ cond (eqb (length fresh % page_size) 0) (lower_move m.sheet fresh (moved w (pages_of fresh files))) (record { left = refused WrongSizes 0 m.sheet m.fates m.rows m.state; fresh = fresh })
     unfolding move_leaves
     move_is = rw (whole_is n files m r, lent_is, files_is)
 
@@ -113,14 +115,14 @@ module _ (n files : ℕ) (m : Left) (r : Reached n files (on m)) where
     said = (moved w (pages_of fresh files)).0.0
 
     -- line by line, as the model has it
-    abbrev stops : ℕ → ℕ → World → Move
-    stops number place u = (refuse number place u, pages_of fresh files)
+    abbrev stops : Refusal → ℕ → World → Move
+    stops why place u = (refuse why place u, pages_of fresh files)
 
     abbrev goes : Move
     goes = ((Moved (asked_to x.floor x.object x.files), warm_rows w), move_pages (warm_rows w) ++ drop (length (move_pages (warm_rows w))) (pages_of fresh files))
 
     abbrev lines : Bool → Bool → Bool → Move
-    lines p q z = cond p (cond q (cond z goes (stops 12 0 (warm_rows w))) (stops 11 0 (warm_rows w))) (stops 23 (lowest_pending x) w)
+    lines p q z = cond p (cond q (cond z goes (stops NotBlank 0 (warm_rows w))) (stops NoRoom 0 (warm_rows w))) (stops UndecidedAction (lowest_pending x) w)
 
     line_1 : (lent_right w && is_sheet (length (pages_of fresh files))) ≡ is_sheet F
     line_1 = ap (λ (b : Bool). b && is_sheet (length (pages_of fresh files))) (lent_right_lem w r.log x s) ∙ ap is_sheet (pages_long files F fresh)
@@ -132,36 +134,36 @@ module _ (n files : ℕ) (m : Left) (r : Reached n files (on m)) where
         let b = bounds n files r.at.sized in
         let u : is_unused (pages_of fresh files) ≡ zeros fresh =
         unused_is F files (record { some_pages = leb-true 1 F k.0; most_pages = leb-true F most_places k.1; some_files = b.some_files; most_files_lem = b.most_files_lem }) fresh (omega arith) in
-        ap (λ (b : Bool). cond {A = Move} b (cond (eqb (lowest_undecided w.fates w.end) 0) (on_rows (warm_rows w) (pages_of fresh files)) (stops 23 (lowest_undecided w.fates w.end) w)) (stops 1 0 w)) (line_1 ∙ h)
-        ∙ ap (λ (k : ℕ). cond {A = Move} (eqb k 0) (on_rows (warm_rows w) (pages_of fresh files)) (stops 23 k w)) (sim.pending_is w r.log x s)
-        ∙ ap (λ (y : Move). cond {A = Move} (eqb (lowest_pending x) 0) y (stops 23 (lowest_pending x) w))
-        (ap (λ (k : ℕ). cond {A = Move} (eqb k 0) (cond (leb (length (move_pages (warm_rows w))) (length (pages_of fresh files))) (cond (is_unused (pages_of fresh files)) went_by (stops 12 0 (warm_rows w))) (stops 11 0 (warm_rows w))) (stops 7 k (warm_rows w))) (sim.none_damaged w r.log x s)
-        ∙ ap (λ (b : Bool). cond {A = Move} b (cond (is_unused (pages_of fresh files)) went_by (stops 12 0 (warm_rows w))) (stops 11 0 (warm_rows w))) (λ i. leb (sim.pages_are w r.log x s i) (pages_long files F fresh i))
-        ∙ ap (λ (b : Bool). cond {A = Move} (leb (moved_pages x) F) (cond b went_by (stops 12 0 (warm_rows w))) (stops 11 0 (warm_rows w))) u
-        ∙ ap (λ (k : ℕ). cond {A = Move} (leb (moved_pages x) F) (cond (zeros fresh) ((Moved k, warm_rows w), move_pages (warm_rows w) ++ drop (length (move_pages (warm_rows w))) (pages_of fresh files)) (stops 12 0 (warm_rows w))) (stops 11 0 (warm_rows w))) (sim.floor_is w r.log x s))
+        ap (λ (b : Bool). cond {A = Move} b (cond (eqb (lowest_undecided w.fates w.end) 0) (on_rows (warm_rows w) (pages_of fresh files)) (stops UndecidedAction (lowest_undecided w.fates w.end) w)) (stops WrongSizes 0 w)) (line_1 ∙ h)
+        ∙ ap (λ (k : ℕ). cond {A = Move} (eqb k 0) (on_rows (warm_rows w) (pages_of fresh files)) (stops UndecidedAction k w)) (sim.pending_is w r.log x s)
+        ∙ ap (λ (y : Move). cond {A = Move} (eqb (lowest_pending x) 0) y (stops UndecidedAction (lowest_pending x) w))
+        (ap (λ (k : ℕ). cond {A = Move} (eqb k 0) (cond (leb (length (move_pages (warm_rows w))) (length (pages_of fresh files))) (cond (is_unused (pages_of fresh files)) went_by (stops NotBlank 0 (warm_rows w))) (stops NoRoom 0 (warm_rows w))) (stops DamagedRow k (warm_rows w))) (sim.none_damaged w r.log x s)
+        ∙ ap (λ (b : Bool). cond {A = Move} b (cond (is_unused (pages_of fresh files)) went_by (stops NotBlank 0 (warm_rows w))) (stops NoRoom 0 (warm_rows w))) (λ i. leb (sim.pages_are w r.log x s i) (pages_long files F fresh i))
+        ∙ ap (λ (b : Bool). cond {A = Move} (leb (moved_pages x) F) (cond b went_by (stops NotBlank 0 (warm_rows w))) (stops NoRoom 0 (warm_rows w))) u
+        ∙ ap (λ (k : ℕ). cond {A = Move} (leb (moved_pages x) F) (cond (zeros fresh) ((Moved k, warm_rows w), move_pages (warm_rows w) ++ drop (length (move_pages (warm_rows w))) (pages_of fresh files)) (stops NotBlank 0 (warm_rows w))) (stops NoRoom 0 (warm_rows w))) (sim.floor_is w r.log x s))
       where
         went_by : Move
         went_by = ((Moved (highest_end (warm_rows w).floor (warm_rows w).rows (length (warm_rows w).rows)), warm_rows w), move_pages (warm_rows w) ++ drop (length (move_pages (warm_rows w))) (pages_of fresh files))
 
-    says_none : is_sheet F ≡ false → said ≡ Refused 1 0
+    says_none : is_sheet F ≡ false → said ≡ Refused WrongSizes 0
     unfolding moved
-    says_none h = ap (λ (b : Bool). (cond {A = Move} b (cond (eqb (lowest_undecided w.fates w.end) 0) (on_rows (warm_rows w) (pages_of fresh files)) (stops 23 (lowest_undecided w.fates w.end) w)) (stops 1 0 w)).0.0) (line_1 ∙ h)
+    says_none h = ap (λ (b : Bool). (cond {A = Move} b (cond (eqb (lowest_undecided w.fates w.end) 0) (on_rows (warm_rows w) (pages_of fresh files)) (stops UndecidedAction (lowest_undecided w.fates w.end) w)) (stops WrongSizes 0 w)).0.0) (line_1 ∙ h)
 
     pub move_says : (move_on m fresh).left.answer ≡ (model_move x fresh).0
     move_says = ap (λ (y : MoveLeft). y.left.answer) move_is ∙ go (eqb (length fresh % page_size) 0) refl (is_sheet F) refl
       where
         model_cond : (p q z : Bool)
             → (lines p q z).0.0
-            ≡ (cond {A = Reply} p (cond q (cond z (Moved (asked_to x.floor x.object x.files), model_moved x F) (refuses 12 0 x)) (refuses 11 0 x)) (refuses 23 (lowest_pending x) x)).0
+            ≡ (cond {A = Reply} p (cond q (cond z (Moved (asked_to x.floor x.object x.files), model_moved x F) (refuses NotBlank 0 x)) (refuses NoRoom 0 x)) (refuses UndecidedAction (lowest_pending x) x)).0
         model_cond true true true = refl
         model_cond true true false = refl
         model_cond true false z = refl
         model_cond false q z = refl
 
         go : (b : Bool) → eqb (length fresh % page_size) 0 ≡ b → (c : Bool) → is_sheet F ≡ c
-            → (cond {A = MoveLeft} b (lower_move m.sheet fresh (moved w (pages_of fresh files))) (record { left = refused 1 0 m.sheet m.fates m.rows m.state; fresh = fresh })).left.answer
+            → (cond {A = MoveLeft} b (lower_move m.sheet fresh (moved w (pages_of fresh files))) (record { left = refused WrongSizes 0 m.sheet m.fates m.rows m.state; fresh = fresh })).left.answer
             ≡ (cond {A = Reply} (b && c) (cond (eqb (lowest_pending x) 0)
-            (cond (leb (moved_pages x) F) (cond (zeros fresh) (Moved (asked_to x.floor x.object x.files), model_moved x F) (refuses 12 0 x)) (refuses 11 0 x)) (refuses 23 (lowest_pending x) x)) (refuses 1 0 x)).0
+            (cond (leb (moved_pages x) F) (cond (zeros fresh) (Moved (asked_to x.floor x.object x.files), model_moved x F) (refuses NotBlank 0 x)) (refuses NoRoom 0 x)) (refuses UndecidedAction (lowest_pending x) x)) (refuses WrongSizes 0 x)).0
         go true e true f = ap (λ (y : Move). y.0.0) (lines_are f (eqb-true (length fresh % page_size) 0 e)) ∙ model_cond (eqb (lowest_pending x) 0) (leb (moved_pages x) F) (zeros fresh)
         go true e false f = says_none f
         go false e c f = refl
@@ -196,7 +198,7 @@ module _ (n files : ℕ) (m : Left) (r : Reached n files (on m)) where
         refuses_so true h = refl
         refuses_so false h = absurd (true≢false h)
 
-        k : (k : ℕ) × (p : ℕ) × (left.answer ≡ Refused k p)
+        k : (k : Refusal) × (p : ℕ) × (left.answer ≡ Refused k p)
         k = is_refusal left.answer (refuses_so (is_refused left.answer) e)
 
         rows_is : left.rows ≡ cond (is_early k.0) m.rows (flat (warm_rows w).rows)

@@ -13,6 +13,7 @@ use Rattle.recovery.specs.Sheet.{pages}
 use Rattle.recovery.specs.Numbers.{is_refused}
 use Rattle.recovery.specs.World.{Result, sizes, down, end_of, highest_bad, unfinished, opened}
 use Rattle.recovery.specs.Lent.{Left, row_length, rows_of, whole, leaves, closed, open_leaves}
+use Rattle.recovery.specs.declared.Refusal.TheVariants.{WrongSizes, UnfinishedMove}
 use Rattle.recovery.specs.declared.Answer.{Answer}
 use Rattle.recovery.specs.declared.Answer.TheVariants.{Refused, Opened}
 use Rattle.recovery.proofs.FlatRows.{rows_long, flat_long, flat_rows}
@@ -36,7 +37,7 @@ module _ (n files : ℕ) where
     opening c = cond c (model_opened r.model floor) r.model
 
     abbrev pub heard_as : Bool → Bool → Answer
-    heard_as c u = cond c (cond u (Refused 24 0) (Opened r.model.used r.model.undecided)) (Refused 1 0)
+    heard_as c u = cond c (cond u (Refused UnfinishedMove 0) (Opened r.model.used r.model.undecided)) (Refused WrongSizes 0)
 
     -- lent what line 1 asks for, and unfinished
     pub record Opens (c u : Bool) (x : Left) : Type 0 where
@@ -49,7 +50,7 @@ module _ (n files : ℕ) where
 
     refuses : (u : Bool) → is_right n fates rows ≡ false → Opens false u (open_leaves s fates rows floor)
     unfolding is_refused
-    refuses u e = subst (Opens false u) (open_refused s fates rows floor (rw r.at.long e) (record { answer = Refused 1 0; state = closed }) refl) (record { at = still_off; power = refl; answer = refl })
+    refuses u e = subst (Opens false u) (open_refused s fates rows floor (rw r.at.long e) (record { answer = Refused WrongSizes 0; state = closed }) refl) (record { at = still_off; power = refl; answer = refl })
 
     open_sheet : (opened (pages files n s) fates (rows_of rows) floor).1.sheet ≡ pages files n s
     unfolding opened
@@ -93,8 +94,8 @@ module _ (n files : ℕ) where
     waits : is_right n fates rows ≡ true → is_unfinished r.model ≡ true → Opens true true (open_leaves s fates rows floor)
     unfolding is_refused
     waits e u =
-        let a : (open_leaves s fates rows floor).answer ≡ Refused 24 0 = ap (λ (x : Left). x.answer) (sym (left e)) ∙ not_finished (pages files n s) r.log r.model (sheet_holds e) r.at.says (fits e) floor fates (rows_of rows) (fates_long e) (rows_many e) u in
-        subst (Opens true true) (sym (refused_opening_lem s fates rows floor 24 0 a)) (record { at = still_off; power = refl; answer = refl })
+        let a : (open_leaves s fates rows floor).answer ≡ Refused UnfinishedMove 0 = ap (λ (x : Left). x.answer) (sym (left e)) ∙ not_finished (pages files n s) r.log r.model (sheet_holds e) r.at.says (fits e) floor fates (rows_of rows) (fates_long e) (rows_many e) u in
+        subst (Opens true true) (sym (refused_opening_lem s fates rows floor UnfinishedMove 0 a)) (record { at = still_off; power = refl; answer = refl })
 
     accepts : is_right n fates rows ≡ true → is_unfinished r.model ≡ false → Opens true false (open_leaves s fates rows floor)
     unfolding is_refused

@@ -14,6 +14,7 @@ use Rattle.recovery.specs.World.{sizes, down}
 use Rattle.recovery.proofs.Pages.{pages_long}
 use Rattle.recovery.specs.Lent.{Left}
 use Rattle.recovery.specs.Numbers.{is_refused}
+use Rattle.recovery.specs.declared.Refusal.TheVariants.{WrongSizes, NoRoom, NotBlank, UndecidedAction}
 use Rattle.recovery.specs.declared.Answer.{Answer}
 use Rattle.recovery.specs.declared.Answer.TheVariants.{Moved}
 use Rattle.encoding.specs.Bytes.{zeros}
@@ -51,10 +52,10 @@ Follows m fresh x = x.1 ≡ cond (is_refused x.0) m (model_moved m (length fresh
 pub move_model : (m : Model) (fresh : List ℕ) → (model_move m fresh).1 ≡ cond (is_refused (model_move m fresh).0) m (model_moved m (length fresh / page_size))
 unfolding is_refused
 move_model m fresh =
-    by_test (Follows m fresh) (eqb (length fresh % page_size) 0 && is_size (length fresh / page_size)) {y = refuses 1 0 m}
-    (λ a. by_test (Follows m fresh) (eqb (lowest_pending m) 0) {y = refuses 23 (lowest_pending m) m}
-    (λ b. by_test (Follows m fresh) (leb (moved_pages m) (length fresh / page_size)) {y = refuses 11 0 m}
-    (λ c. by_test (Follows m fresh) (zeros fresh) {x = (Moved (asked_to m.floor m.object m.files), model_moved m (length fresh / page_size))} {y = refuses 12 0 m} (λ d. refl) (λ d. refl))
+    by_test (Follows m fresh) (eqb (length fresh % page_size) 0 && is_size (length fresh / page_size)) {y = refuses WrongSizes 0 m}
+    (λ a. by_test (Follows m fresh) (eqb (lowest_pending m) 0) {y = refuses UndecidedAction (lowest_pending m) m}
+    (λ b. by_test (Follows m fresh) (leb (moved_pages m) (length fresh / page_size)) {y = refuses NoRoom 0 m}
+    (λ c. by_test (Follows m fresh) (zeros fresh) {x = (Moved (asked_to m.floor m.object m.files), model_moved m (length fresh / page_size))} {y = refuses NotBlank 0 m} (λ d. refl) (λ d. refl))
     (λ c. refl)) (λ b. refl)) (λ a. refl)
 
 module _ (n files : ℕ) where

@@ -10,6 +10,7 @@ use lib.ListN.{length}
 use borrow.Author.Tests.{eq-eqb}
 use Rattle.recovery.specs.Log.{Entry, opening, outcome, Fate, unknown, undecided, committed, aborted, verdict, fate_of, outcome_of}
 use Rattle.recovery.specs.World.{fate_number}
+use Rattle.recovery.specs.declared.Refusal.TheVariants.{AlreadyDecided}
 use Rattle.recovery.specs.declared.Answer.{Answer}
 use Rattle.recovery.specs.declared.Answer.TheVariants.{Refused, Stored, Told}
 use Rattle.recovery.proofs.LogFates.{undecided_known}
@@ -101,7 +102,7 @@ module _ (n files : ℕ) where
   by_same m true p k = refl
   by_same m false p k = refl
 
-  by_other : (m : Model) (c : Bool) (p : ℕ) (k : Reply) → (deciding m (not c) (some (decided_as c p)) k).0 ≡ Refused 6 0
+  by_other : (m : Model) (c : Bool) (p : ℕ) (k : Reply) → (deciding m (not c) (some (decided_as c p)) k).0 ≡ Refused AlreadyDecided 0
   by_other m true p k = refl
   by_other m false p k = refl
 
@@ -121,9 +122,9 @@ module _ (n files : ℕ) where
         ap (λ x. x.sheet) (call_is n files m d.box (decide a c)) ∙ rw (eq-eqb (call (world_in n files m) (decide a c)).1.end m.state.end same)
     again_sheet (off s) d = refl
 
-    pub other_answer : (b : Box) → DecidedIn n files b a c p → (x : Answer) → answer_to b (calls (decide a (not c))) ≡ some x → x ≡ Refused 6 0
+    pub other_answer : (b : Box) → DecidedIn n files b a c p → (x : Answer) → answer_to b (calls (decide a (not c))) ≡ some x → x ≡ Refused AlreadyDecided 0
     other_answer (on m) d x h =
-        let other : (model_call d.box.model (decide a (not c))).0 ≡ Refused 6 0 = rw (status_is (on m) a c p d) (by_other d.box.model c p _) in
+        let other : (model_call d.box.model (decide a (not c))).0 ≡ Refused AlreadyDecided 0 = rw (status_is (on m) a c p d) (by_other d.box.model c p _) in
         sym (some_is h) ∙ model_says n files m d.box (decide a (not c)) ∙ other
     other_answer (off s) d x h = not_heard h
 

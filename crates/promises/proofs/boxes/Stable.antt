@@ -14,6 +14,7 @@ use Rattle.page.specs.Layout.{page_size}
 use Rattle.recovery.specs.Log.{Entry, undecided, Placed, fate_of, effective_of}
 use Rattle.recovery.specs.Lent.{Left}
 use Rattle.recovery.specs.Numbers.{is_refused}
+use Rattle.recovery.specs.declared.Refusal.TheVariants.{WrongSizes, NoRoom, NotBlank, UndecidedAction}
 use Rattle.recovery.specs.declared.Answer.{Answer}
 use Rattle.recovery.specs.declared.Answer.TheVariants.{Stored, Nothing, Moved}
 use Rattle.recovery.proofs.LogFates.{undecided_known}
@@ -129,11 +130,11 @@ asked_high floor objects (suc k) f i = go (eqb f (suc k)) refl (asked_high floor
 
 move_floor : (m : Model) (fresh : List ℕ) (floor : ℕ) → (model_move m fresh).0 ≡ Moved floor → asked_to m.floor m.object m.files ≡ floor
 move_floor m fresh floor =
-    by_test (λ (r : Reply). r.0 ≡ Moved floor → asked_to m.floor m.object m.files ≡ floor) (eqb (length fresh % page_size) 0 && is_size (length fresh / page_size)) {y = refuses 1 0 m}
-    (λ a. by_test (λ (r : Reply). r.0 ≡ Moved floor → asked_to m.floor m.object m.files ≡ floor) (eqb (lowest_pending m) 0) {y = refuses 23 (lowest_pending m) m}
-    (λ b. by_test (λ (r : Reply). r.0 ≡ Moved floor → asked_to m.floor m.object m.files ≡ floor) (leb (moved_pages m) (length fresh / page_size)) {y = refuses 11 0 m}
+    by_test (λ (r : Reply). r.0 ≡ Moved floor → asked_to m.floor m.object m.files ≡ floor) (eqb (length fresh % page_size) 0 && is_size (length fresh / page_size)) {y = refuses WrongSizes 0 m}
+    (λ a. by_test (λ (r : Reply). r.0 ≡ Moved floor → asked_to m.floor m.object m.files ≡ floor) (eqb (lowest_pending m) 0) {y = refuses UndecidedAction (lowest_pending m) m}
+    (λ b. by_test (λ (r : Reply). r.0 ≡ Moved floor → asked_to m.floor m.object m.files ≡ floor) (leb (moved_pages m) (length fresh / page_size)) {y = refuses NoRoom 0 m}
     (λ c. by_test (λ (r : Reply). r.0 ≡ Moved floor → asked_to m.floor m.object m.files ≡ floor) (zeros fresh)
-    {x = (Moved (asked_to m.floor m.object m.files), model_moved m (length fresh / page_size))} {y = refuses 12 0 m} (λ d e. cc) (λ d e. clash cc)) (λ c e. clash cc)) (λ b e. clash cc)) (λ a e. clash cc)
+    {x = (Moved (asked_to m.floor m.object m.files), model_moved m (length fresh / page_size))} {y = refuses NotBlank 0 m} (λ d e. cc) (λ d e. clash cc)) (λ c e. clash cc)) (λ b e. clash cc)) (λ a e. clash cc)
 
 -- where no write can start by a time, what is written starts later
 written_later : (m : Model) (f t start a p : ℕ) (v : List ℕ) → t ≤ max (current_end (m.object f)) m.floor → (model_call m (write f start a v)).0 ≡ Stored p → t < start

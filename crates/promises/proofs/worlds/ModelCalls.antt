@@ -11,40 +11,42 @@ use lib.Dec.{eqb, leb, ltb}
 use borrow.Author.Tests.{eqb-true, ltb-true, leb-true}
 use Rattle.encoding.proofs.Logic.{by_test, and_true}
 use Rattle.page.specs.Layout.{value_size, kind_at, mark_at}
+use Rattle.recovery.specs.declared.Refusal.{Refusal}
+use Rattle.recovery.specs.declared.Refusal.TheVariants.{NoFile, LongValue, NoAction, AlreadyDecided, OtherToken, HangingRead, EarlyStart, NoRoom, OnOlderSheet}
 use Rattle.recovery.specs.declared.Answer.{Answer}
 use Rattle.recovery.specs.declared.Answer.TheVariants.{Stored, Nothing, Told}
 use Rattle.calls.specs.Calls.{Call, begin, write, read, test, decide, rebuild}
 use Rattle.promises.specs.Model.{Version, object, Status, pending, committed, aborted, Model, Reply, newest, since, latest, shows, has_carried, refuses, changed, with_object, stores, stored, has_room, of_file, of_pending, is_free_for, action_of, asked_at, read_version, reading, testing, decided_as, deciding, model_call, model_cut, current_end}
 use Rattle.promises.proofs.worlds.LogSays.{given, left}
 
-module _ (P : Reply → Type 0) (m : Model) (no : (n p : ℕ) → P (refuses n p m)) where
+module _ (P : Reply → Type 0) (m : Model) (no : (n : Refusal) (p : ℕ) → P (refuses n p m)) where
   of_file_lem : (f : ℕ) (r : Reply) → P r → P (of_file m f r)
-  of_file_lem f r h = by_test P (leb 1 f && leb f m.files) (λ e. h) (λ e. no 3 0)
+  of_file_lem f r h = by_test P (leb 1 f && leb f m.files) (λ e. h) (λ e. no NoFile 0)
 
   of_pending_lem : (z : Option Status) (r : Reply) → P r → P (of_pending m z r)
-  of_pending_lem none r h = no 5 0
+  of_pending_lem none r h = no NoAction 0
   of_pending_lem (some pending) r h = h
-  of_pending_lem (some (committed p)) r h = no 6 0
-  of_pending_lem (some (aborted p)) r h = no 6 0
+  of_pending_lem (some (committed p)) r h = no AlreadyDecided 0
+  of_pending_lem (some (aborted p)) r h = no AlreadyDecided 0
 
   pub begins : (has_room m (m.undecided + 2) ≡ true → P (stored m (suc m.undecided) (changed m.status (suc m.used) (some pending)) m.object)) → P (model_call m begin)
-  begins h = by_test P (has_room m (m.undecided + 2)) h (λ e. no 11 0)
+  begins h = by_test P (has_room m (m.undecided + 2)) h (λ e. no NoRoom 0)
 
   -- a write starts above what was read and above the floor
   pub writes : (f start a : ℕ) (v : List ℕ)
       → (current_end (m.object f) < start → m.floor < start → has_room m (m.undecided + 1) ≡ true → P (stored m m.undecided m.status (changed m.object f (given m f start a v))))
       → P (model_call m (write f start a v))
-  writes f start a v h = of_file_lem f _ (by_test P (leb (length v) value_size) (λ e. of_pending_lem (m.status a) _ (by_test P (is_free_for a (m.object f).token) (λ q. timely) (λ q. no 8 (action_of (m.object f).token)))) (λ e. no 4 0))
+  writes f start a v h = of_file_lem f _ (by_test P (leb (length v) value_size) (λ e. of_pending_lem (m.status a) _ (by_test P (is_free_for a (m.object f).token) (λ q. timely) (λ q. no OtherToken (action_of (m.object f).token)))) (λ e. no LongValue 0))
     where
       timely : P (cond (ltb (since (newest (m.object f).history)) start && ltb (m.object f).asked start && ltb m.floor start)
-          (cond (has_room m (m.undecided + 1)) (stored m m.undecided m.status (changed m.object f (given m f start a v))) (refuses 11 0 m)) (refuses 10 0 m))
+          (cond (has_room m (m.undecided + 1)) (stored m m.undecided m.status (changed m.object f (given m f start a v))) (refuses NoRoom 0 m)) (refuses EarlyStart 0 m))
       timely =
           by_test P (ltb (since (newest (m.object f).history)) start && ltb (m.object f).asked start && ltb m.floor start)
           (λ e.
           let b = and_true (ltb (since (newest (m.object f).history)) start && ltb (m.object f).asked start) (ltb m.floor start) e in
           let c = and_true (ltb (since (newest (m.object f).history)) start) (ltb (m.object f).asked start) b.0 in
-          by_test P (has_room m (m.undecided + 1)) (h (omega (arith, ltb-true (since (newest (m.object f).history)) start c.0, ltb-true (m.object f).asked start c.1)) (ltb-true m.floor start b.1)) (λ q. no 11 0))
-          (λ e. no 10 0)
+          by_test P (has_room m (m.undecided + 1)) (h (omega (arith, ltb-true (since (newest (m.object f).history)) start c.0, ltb-true (m.object f).asked start c.1)) (ltb-true m.floor start b.1)) (λ q. no NoRoom 0))
+          (λ e. no EarlyStart 0)
 
   -- a read finds a version or none, or the action's own token
   pub reads : (f time a : ℕ)
@@ -58,21 +60,21 @@ module _ (P : Reply → Type 0) (m : Model) (no : (n p : ℕ) → P (refuses n p
       of_file_lem f _ (by_test P (eqb a 0) (λ e. r) (λ e. of_pending_lem (m.status a) _ r))
     where
       in_history : (z : Option Version) → latest time (m.object f).history ≡ z → P (read_version m f time (m.object f) z)
-      in_history none e = by_test P (has_carried m.carried (m.object f).history) (λ q. no 25 0) (λ q. i e)
+      in_history none e = by_test P (has_carried m.carried (m.object f).history) (λ q. no OnOlderSheet 0) (λ q. i e)
       in_history (some x) e = h x e
 
       go : (z : Option Version) → (m.object f).token ≡ z → P (reading m f time a (m.object f) z)
       go none e = in_history (latest time (m.object f).history) refl
       go (some x) e =
           by_test P (leb x.start time)
-          (λ q. by_test P (eqb x.action a) (λ r. k x e (leb-true x.start time q) (eqb-true x.action a r)) (λ r. no 9 x.action))
+          (λ q. by_test P (eqb x.action a) (λ r. k x e (leb-true x.start time q) (eqb-true x.action a r)) (λ r. no HangingRead x.action))
           (λ q. in_history (latest time (m.object f).history) refl)
 
   pub tests : (a : ℕ) → ((n p : ℕ) → P (Told n p, m)) → P (model_call m (test a))
   tests a h = go (m.status a)
     where
       go : (z : Option Status) → P (testing m z)
-      go none = no 5 0
+      go none = no NoAction 0
       go (some pending) = h 1 0
       go (some (committed p)) = h 2 p
       go (some (aborted p)) = h 3 p
@@ -80,14 +82,14 @@ module _ (P : Reply → Type 0) (m : Model) (no : (n p : ℕ) → P (refuses n p
   -- a decision is told where it lies, or made
   pub decides : (a : ℕ) (c : Bool) → ((p : ℕ) → P (Stored p, m)) → (m.status a ≡ some pending → has_room m 1 ≡ true → P (stored m (pred m.undecided) (changed m.status a (some (decided_as c (suc m.used)))) (left m a c)))
       → P (model_call m (decide a c))
-  decides a c again h = go c (m.status a) refl _ (λ e. by_test P (has_room m 1) (h e) (λ q. no 11 0))
+  decides a c again h = go c (m.status a) refl _ (λ e. by_test P (has_room m 1) (h e) (λ q. no NoRoom 0))
     where
       go : (c : Bool) (z : Option Status) → m.status a ≡ z → (r : Reply) → (m.status a ≡ some pending → P r) → P (deciding m c z r)
-      go c none e r q = no 5 0
+      go c none e r q = no NoAction 0
       go c (some pending) e r q = q e
       go true (some (committed p)) e r q = again p
-      go true (some (aborted p)) e r q = no 6 0
-      go false (some (committed p)) e r q = no 6 0
+      go true (some (aborted p)) e r q = no AlreadyDecided 0
+      go false (some (committed p)) e r q = no AlreadyDecided 0
       go false (some (aborted p)) e r q = again p
 
   pub rebuilds : (f : ℕ) → ((x : Answer) → P (x, m)) → P (model_call m (rebuild f))

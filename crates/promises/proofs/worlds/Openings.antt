@@ -10,6 +10,7 @@ use borrow.Author.Tests.{eqb-true, eqb-false, leb-true, leb-false}
 use Rattle.recovery.specs.Places.{nth}
 use Rattle.recovery.specs.Log.{Entry, blank, torn, bad, opening, image, outcome, Fate, unknown, undecided, committed, aborted, is_undecided, fate_of, outcome_of, start_of}
 use Rattle.recovery.specs.World.{World, Result, refuse, rebuilt_row, down, sizes, is_blank, is_carried, end_of, highest_bad, fates_of, undecided_of, cold_rows, unopened, unfinished, opened}
+use Rattle.recovery.specs.declared.Refusal.TheVariants.{UnfinishedMove}
 use Rattle.recovery.specs.declared.Row.{Row}
 use Rattle.recovery.specs.declared.Answer.TheVariants.{Refused, Opened}
 use Rattle.recovery.proofs.Spots.{entry_in, entry_top, entry_down}
@@ -129,7 +130,7 @@ module _ (s : List Entry) (l : List Entry) (m : Model) (h : Holds s m.pages l) (
 
   module _ (fs : List ℕ) (rs : List Row) (a : length fs ≡ m.pages) (b : length rs ≡ m.files) where
     abbrev by_unfinished : Bool → Result
-    by_unfinished u = cond u (refuse 24 0 (unopened s fs rs)) (Opened (length l) (undecided_of (fates_of m.pages l)), begun)
+    by_unfinished u = cond u (refuse UnfinishedMove 0 (unopened s fs rs)) (Opened (length l) (undecided_of (fates_of m.pages l)), begun)
 
     open_by_lem : opened s fs rs floor ≡ by_unfinished (is_unfinished m)
     unfolding opened
@@ -138,5 +139,5 @@ module _ (s : List Entry) (l : List Entry) (m : Model) (h : Holds s m.pages l) (
     pub sim_open : is_unfinished m ≡ false → Started (opened s fs rs floor)
     sim_open e = subst Started (sym (open_by_lem ∙ ap by_unfinished e)) (record { answer = λ i. Opened (sym y.used i) (sym y.undecided i); after = started })
 
-    pub not_finished : is_unfinished m ≡ true → (opened s fs rs floor).0 ≡ Refused 24 0
+    pub not_finished : is_unfinished m ≡ true → (opened s fs rs floor).0 ≡ Refused UnfinishedMove 0
     not_finished e = ap (λ (r : Result). r.0) (open_by_lem ∙ ap by_unfinished e)

@@ -15,6 +15,7 @@ use Rattle.page.specs.Layout.{value_size}
 use Rattle.recovery.specs.Places.{nth, put}
 use Rattle.recovery.specs.Log.{Entry, blank, opening, image, outcome, Fate, unknown, undecided, committed, aborted, Placed, fate_of, effective_of, place_of, action_of}
 use Rattle.recovery.specs.World.{World, Result, refuse, entry_at, down, log_of, fate_number, fate_in, fate_at, sizes, cold, rebuilt_row, row_at, with_row, warm_row, row_holds, lent_right, is_file, is_blank, fates_of}
+use Rattle.recovery.specs.declared.Refusal.{Refusal}
 use Rattle.recovery.specs.declared.Row.{Row}
 use Rattle.recovery.specs.declared.Answer.{Answer}
 use Rattle.recovery.specs.declared.Answer.TheVariants.{Refused, Stored}
@@ -107,7 +108,7 @@ module _ {files : ℕ} {k : Call} {l : List Entry} where
   pub answers : {w : World} {m : Model} {x y : Answer} → ((p : ℕ) → y ≡ Stored p → ⊥) → x ≡ y → Sim w l m → Agrees files k l (x, w) (y, m)
   answers n e s = record { log = l; step = stay (λ p q. absurd (n p q)); answer = e; after = s }
 
-  pub refused : {w : World} {m : Model} (n p p' : ℕ) → p ≡ p' → Sim w l m → Agrees files k l (refuse n p w) (refuses n p' m)
+  pub refused : {w : World} {m : Model} (n : Refusal) (p p' : ℕ) → p ≡ p' → Sim w l m → Agrees files k l (refuse n p w) (refuses n p' m)
   refused n p p' q s = answers (λ r e. clash cc) (ap (Refused n) q) s
 
 pub current_lies : (l : List Entry) (f : ℕ) → Lies l f (current l f)

@@ -10,6 +10,7 @@ use Rattle.encoding.proofs.Logic.{clash}
 use Rattle.page.specs.Layout.{value_size}
 use Rattle.recovery.specs.Log.{Entry, Fate, unknown, undecided, committed, aborted, verdict, fate_of, outcome_of, place_of, action_of}
 use Rattle.recovery.specs.World.{World, Result, fate_at, outcome_at, fate_number, with_row, is_file, rebuilt}
+use Rattle.recovery.specs.declared.Refusal.TheVariants.{NoFile, LongValue, NoAction, AlreadyDecided}
 use Rattle.recovery.specs.declared.Answer.TheVariants.{Stored, Rebuilt, Told}
 use Rattle.inspection.specs.Lawful.{current, token}
 use Rattle.calls.specs.Calls.{Call, begin, write, read, test, decide, rebuild, for_file, for_action, for_undecided, unless_decided, on, call}
@@ -26,16 +27,16 @@ use Rattle.promises.proofs.worlds.SimDecides.{sim_decide}
 
 module _ (w : World) (l : List Entry) (m : Model) (s : Sim w l m) where
   agrees_file : {k : Call} (f : ℕ) (x : Result) (y : Reply) → (is_file m.files f ≡ true → Agrees m.files k l x y) → Agrees m.files k l (for_file w f x) (of_file m f y)
-  agrees_file f x y h = agrees_cond (is_file (length w.rows) f) (leb 1 f && leb f m.files) (rw s.files) h (λ e. refused 3 0 0 refl s)
+  agrees_file f x y h = agrees_cond (is_file (length w.rows) f) (leb 1 f && leb f m.files) (rw s.files) h (λ e. refused NoFile 0 0 refl s)
 
   agrees_pending : {k : Call} (a : ℕ) (x : Result) (y : Reply) → (fate_of l a ≡ undecided → Agrees m.files k l x y) → Agrees m.files k l (for_undecided w a x) (of_pending m (m.status a) y)
   agrees_pending {k} a x y h = subst (λ z. Agrees m.files k l (for_undecided w a x) (of_pending m z y)) (sym (s.says.status a)) (go (fate_of l a) refl)
     where
       go : (q : Fate) → fate_of l a ≡ q → Agrees m.files k l (for_undecided w a x) (of_pending m (status_of q (outcome_of l a)) y)
-      go unknown e = rw (has_action_lem w l m s a, e) (refused 5 0 0 refl s)
+      go unknown e = rw (has_action_lem w l m s a, e) (refused NoAction 0 0 refl s)
       go undecided e = rw (has_action_lem w l m s a, fate_eq w l m s a, e) (h e)
-      go committed e = rw (has_action_lem w l m s a, fate_eq w l m s a, e) (refused 6 0 0 refl s)
-      go aborted e = rw (has_action_lem w l m s a, fate_eq w l m s a, e) (refused 6 0 0 refl s)
+      go committed e = rw (has_action_lem w l m s a, fate_eq w l m s a, e) (refused AlreadyDecided 0 0 refl s)
+      go aborted e = rw (has_action_lem w l m s a, fate_eq w l m s a, e) (refused AlreadyDecided 0 0 refl s)
 
   -- where the outcome lies
   place_is : (a : ℕ) → outcome_at w a ≡ outcome_of l a
@@ -45,7 +46,7 @@ module _ (w : World) (l : List Entry) (m : Model) (s : Sim w l m) where
   tests a = subst (λ z. Agrees m.files (test a) l (for_action w a (Told (fate_number (fate_at w a)) (outcome_at w a), w)) (testing m z)) (sym (s.says.status a)) (go (fate_of l a) refl)
     where
       go : (q : Fate) → fate_of l a ≡ q → Agrees m.files (test a) l (for_action w a (Told (fate_number (fate_at w a)) (outcome_at w a), w)) (testing m (status_of q (outcome_of l a)))
-      go unknown e = rw (has_action_lem w l m s a, e) (refused 5 0 0 refl s)
+      go unknown e = rw (has_action_lem w l m s a, e) (refused NoAction 0 0 refl s)
       go undecided e = rw (has_action_lem w l m s a, fate_eq w l m s a, e) (answers (λ p q. clash cc) (ap (Told 1) (place_is a ∙ nowhere l a s.lawful (λ d. not_undecided (fate_of l a) d e))) s)
       go committed e = rw (has_action_lem w l m s a, fate_eq w l m s a, e) (answers (λ p q. clash cc) (ap (Told 2) (place_is a)) s)
       go aborted e = rw (has_action_lem w l m s a, fate_eq w l m s a, e) (answers (λ p q. clash cc) (ap (Told 3) (place_is a)) s)
@@ -61,11 +62,11 @@ module _ (w : World) (l : List Entry) (m : Model) (s : Sim w l m) where
     where
       go : (c : Bool) (q : Fate) → fate_of l a ≡ q → (fate_of l a ≡ undecided → Agrees m.files (decide a c) l x y)
           → Agrees m.files (decide a c) l (for_action w a (unless_decided w a c x)) (deciding m c (status_of q (outcome_of l a)) y)
-      go c unknown e h = rw (has_action_lem w l m s a, fate_eq w l m s a, e) (refused 5 0 0 refl s)
+      go c unknown e h = rw (has_action_lem w l m s a, fate_eq w l m s a, e) (refused NoAction 0 0 refl s)
       go c undecided e h = rw (has_action_lem w l m s a, fate_eq w l m s a, e) (h e)
       go true committed e h = rw (has_action_lem w l m s a, fate_eq w l m s a, e) (repeats a true e)
-      go true aborted e h = rw (has_action_lem w l m s a, fate_eq w l m s a, e) (refused 6 0 0 refl s)
-      go false committed e h = rw (has_action_lem w l m s a, fate_eq w l m s a, e) (refused 6 0 0 refl s)
+      go true aborted e h = rw (has_action_lem w l m s a, fate_eq w l m s a, e) (refused AlreadyDecided 0 0 refl s)
+      go false committed e h = rw (has_action_lem w l m s a, fate_eq w l m s a, e) (refused AlreadyDecided 0 0 refl s)
       go false aborted e h = rw (has_action_lem w l m s a, fate_eq w l m s a, e) (repeats a false e)
 
   warmed : (f : ℕ) → is_file m.files f ≡ true → Sim (with_row w f (row_for l (m.object f) f)) l m
@@ -81,7 +82,7 @@ module _ (w : World) (l : List Entry) (m : Model) (s : Sim w l m) where
   sim_on (write f start a v) =
       agrees_file f _ _ (λ h. agrees_cond (leb (length v) value_size) (leb (length v) value_size) refl
       (λ e. agrees_pending a _ _ (λ o. rw (warm_eq w l m s f h) (sim_write (with_row w f (row_for l (m.object f) f)) l m (warmed f h) f start a v h (leb-true (length v) value_size e) o)))
-      (λ e. refused 4 0 0 refl s))
+      (λ e. refused LongValue 0 0 refl s))
   sim_on (read f time a) =
       agrees_file f _ _ (λ h. agrees_cond (eqb a 0) (eqb a 0) refl
       (λ e. rw (warm_eq w l m s f h) (sim_read (with_row w f (row_for l (m.object f) f)) l m (warmed f h) f time a h))

@@ -12,6 +12,7 @@ use Rattle.encoding.proofs.Logic.{and_false, and_same}
 use Rattle.recovery.specs.Places.{nth, put}
 use Rattle.recovery.specs.Log.{Entry, outcome, undecided, Placed, verdict, fate_of, place_of, start_of, action_of}
 use Rattle.recovery.specs.World.{World, fate_number, cold, rebuilt_row, row_at, is_file}
+use Rattle.recovery.specs.declared.Refusal.TheVariants.{NoRoom}
 use Rattle.recovery.specs.declared.Row.{Row}
 use Rattle.recovery.proofs.Lookups.{is_file_lem}
 use Rattle.recovery.proofs.LogFates.{undecided_known}
@@ -115,9 +116,9 @@ module _ (w : World) (l : List Entry) (m : Model) (s : Sim w l m) where
         (rw s.fates (outcome_fates m.pages l a c (known_place l a s.lawful (undecided_known o)).0)) (ap pred s.undecided)
         (row_each_long (settled w a c) 0 w.rows ∙ s.files) rows_in (outcome_says l m s.says s.lawful s.room a c o)
 
-    pub sim_decide : Agrees m.files (decide a c) l (on_decide w a c) (cond (has_room m 1) (stored m (pred m.undecided) (changed m.status a (some (decided_as c (suc m.used)))) objects) (refuses 11 0 m))
+    pub sim_decide : Agrees m.files (decide a c) l (on_decide w a c) (cond (has_room m 1) (stored m (pred m.undecided) (changed m.status a (some (decided_as c (suc m.used)))) objects) (refuses NoRoom 0 m))
     unfolding fs rs
     sim_decide =
         agrees_cond (store.has_room w 1) (has_room m 1) (room_eq w l m s 1)
         (λ e. rw (blank_ok w l m s) (appended w l m s (outcome a c) _ _ _ _ refl (new (omega (arith, s.says.used, leb-true 1 (m.pages - m.used) e)))))
-        (λ e. refused 11 0 0 refl s)
+        (λ e. refused NoRoom 0 0 refl s)

@@ -11,6 +11,7 @@ use borrow.Author.Tests.{eq-eqb, ne_eqb, le-leb, leb-true, leb-false}
 use Rattle.encoding.proofs.Logic.{clash}
 use Rattle.recovery.specs.Log.{Entry, Placed, fate_of, effective_of, place_of, start_of}
 use Rattle.recovery.specs.World.{World, entry_at, with_row, is_file, is_carried}
+use Rattle.recovery.specs.declared.Refusal.TheVariants.{HangingRead, OnOlderSheet}
 use Rattle.recovery.specs.declared.Row.{Row}
 use Rattle.recovery.specs.declared.Answer.TheVariants.{Stored, Nothing}
 use Rattle.inspection.specs.Lawful.{versions, current, token}
@@ -163,7 +164,7 @@ module _ (w : World) (l : List Entry) (m : Model) (s : Sim w l m) where
 
         go : (b : Bool) → has_carried m.carried x.history ≡ b → (z : Option Placed) → Agrees m.files (read f t a) l (answer_walk w f row (walked b z)) (read_version m f t x (version_in z))
         go false e none = rw e (answers none_stored refl (read_set asked x.tokenasked row row_read))
-        go true e none = rw e (refused 25 0 0 refl s)
+        go true e none = rw e (refused OnOlderSheet 0 0 refl s)
         go b e (some y) = answers (not_stored (version_of y)) refl (read_set asked x.tokenasked row row_read)
 
     by_token : (z : Option Placed) → token l f ≡ z → Lies l f z
@@ -172,7 +173,7 @@ module _ (w : World) (l : List Entry) (m : Model) (s : Sim w l m) where
     by_token (some y) e h = rw (lies_at w l m s f y h) (agrees_cond (leb y.image.start t) (leb y.image.start t) refl
         (λ q. agrees_cond (eqb y.image.action a) (eqb y.image.action a) refl
         (λ r. answers (not_stored (version_of y)) (rw e) (read_set x.asked (max x.tokenasked t) (read_token t (row_for l x f)) token_read))
-        (λ r. refused 9 y.image.action y.image.action refl s))
+        (λ r. refused HangingRead y.image.action y.image.action refl s))
         (λ q. sim_versions))
       where
         token_read : read_token t (row_for l x f) ≡ row_for l (object x.history x.asked x.token (max x.tokenasked t)) f

@@ -13,6 +13,7 @@ use Rattle.page.specs.Layout.{value_size}
 use Rattle.recovery.specs.Places.{nth, put}
 use Rattle.recovery.specs.Log.{Entry, opening, image, undecided, Placed, fate_of, place_of, action_of}
 use Rattle.recovery.specs.World.{World, refuse, cold, is_file}
+use Rattle.recovery.specs.declared.Refusal.TheVariants.{OtherToken, EarlyStart, NoRoom}
 use Rattle.recovery.specs.declared.Row.{Row}
 use Rattle.recovery.proofs.Places.{nth_put_same, nth_put_other, length_put}
 use Rattle.recovery.proofs.Lookups.{is_file_lem}
@@ -45,7 +46,7 @@ module _ (w : World) (l : List Entry) (m : Model) (s : Sim w l m) where
   sim_begin =
       agrees_cond (store.has_room w (w.undecided + 2)) (has_room m (m.undecided + 2)) (rw s.undecided (room_eq w l m s (m.undecided + 2)))
       (λ e. rw (blank_ok w l m s) (appended w l m s (opening false) _ _ _ _ refl (go (room_is (m.undecided + 2) (omega arith) e))))
-      (λ e. refused 11 0 0 refl s)
+      (λ e. refused NoRoom 0 0 refl s)
     where
       go : length l < m.pages → Sim (append w (opening false) (put w.fates (suc w.end) 1) w.rows (suc w.undecided)) (opening false ∷ l)
           (stores m (suc m.undecided) (changed m.status (suc m.used) (some pending)) m.object)
@@ -123,18 +124,18 @@ module _ (w : World) (l : List Entry) (m : Model) (s : Sim w l m) where
     timely : is_free_for a (token l f) ≡ true
         → Agrees m.files (write f start a v) l
         (cond (ltb (current_end x) start && ltb w.floor start)
-        (cond (store.has_room w (w.undecided + 1)) (store.store w (image (written l f start a v)) w.fates (put w.rows f row) w.undecided) (refuse 11 0 w)) (refuse 10 0 w))
-        (cond late (cond (has_room m (m.undecided + 1)) (stored m m.undecided m.status objects) (refuses 11 0 m)) (refuses 10 0 m))
+        (cond (store.has_room w (w.undecided + 1)) (store.store w (image (written l f start a v)) w.fates (put w.rows f row) w.undecided) (refuse NoRoom 0 w)) (refuse EarlyStart 0 w))
+        (cond late (cond (has_room m (m.undecided + 1)) (stored m m.undecided m.status objects) (refuses NoRoom 0 m)) (refuses EarlyStart 0 m))
     timely e =
         agrees_cond (ltb (current_end x) start && ltb w.floor start) late late_is
         (λ q. agrees_cond (store.has_room w (w.undecided + 1)) (has_room m (m.undecided + 1)) (rw s.undecided (room_eq w l m s (m.undecided + 1)))
         (λ r. rw (blank_ok w l m s) (appended w l m s (image (written l f start a v)) _ _ _ _ (refl, h, short) (new e (above q) (room_is (m.undecided + 1) (omega arith) r))))
-        (λ r. refused 11 0 0 refl s))
-        (λ q. refused 10 0 0 refl s)
+        (λ r. refused NoRoom 0 0 refl s))
+        (λ q. refused EarlyStart 0 0 refl s)
 
     pub sim_write : Agrees m.files (write f start a v) l (on_write w f start a v (row_for l x f)) (writing m f start a v x x.token)
     sim_write =
         let k : x.token ≡ version_in (token l f) = s.says.token f in
         rw (row_holds_lem w l m s f) (agrees_cond (store.is_free_for a (row_for l x f)) (model.is_free_for a x.token) (free_is (token l f) (token_lies l f) ∙ ap (model.is_free_for a) (sym k))
         (λ e. timely (free_log (token l f) (ap (model.is_free_for a) (sym k) ∙ e)))
-        (λ e. refused 8 (action_of (token l f)) (model.action_of x.token) (sym (token_acted l m s.says f)) s))
+        (λ e. refused OtherToken (action_of (token l f)) (model.action_of x.token) (sym (token_acted l m s.says f)) s))

@@ -8,6 +8,7 @@ use native.Mathlib.Omega.{arith}
 use lib.ListN.{length}
 use Rattle.encoding.proofs.Logic.{clash}
 use Rattle.recovery.specs.Log.{Image, Entry, undecided, committed, Placed, fate_of, effective_of}
+use Rattle.recovery.specs.declared.Refusal.{Refusal}
 use Rattle.recovery.specs.declared.Answer.TheVariants.{Value, Nothing}
 use Rattle.recovery.proofs.LogFates.{undecided_known}
 use Rattle.inspection.specs.Lawful.{versions, token}
@@ -51,7 +52,7 @@ module _ (l : List Entry) (m : Model) (w : Lawful l) (s : Says l m) (f t a : ℕ
     pub value : (p st n : ℕ) → r.0 ≡ Value p st n → Visible l f t a p st n
     pub nothing : r.0 ≡ Nothing → AllLater l f t
 
-  refused : (x y : ℕ) → Sees (refuses x y m)
+  refused : (x : Refusal) (y : ℕ) → Sees (refuses x y m)
   refused x y = record {
     value = λ p st n e. clash cc;
     nothing = λ e. clash cc;

@@ -16,10 +16,10 @@ returns-then-not-has_file c =
     let a = c.args in
     by_refuse _ _ _ _ _ _ c.refuse-then-not-has_file.ensures (read_3 a.sheet.now a.fates.now a.rows.now a.state (passed c.is_lent_right.ensures c.if-not-is_lent_right.false) a.file a.time a.action (refused c.has_file.ensures c.if-not-has_file.true))
 
-pub returns-then-line-ne0 : goal.returns-then-line-ne0
-returns-then-line-ne0 c =
+pub returns-in-Err : goal.returns-in-Err
+returns-in-Err c =
     let a = c.args in
-    by_refuse _ _ _ _ _ _ c.refuse-then-line-ne0.ensures (read_56 a.sheet.now a.fates.now a.rows.now a.state (passed c.is_lent_right.ensures c.if-not-is_lent_right.false) a.file a.time a.action (passed c.has_file.ensures c.if-not-has_file.false) _ c.read_line-line.ensures c.if-line-ne0.true)
+    by_refuse _ _ _ _ _ _ c.refuse-in-Err.ensures (read_56 a.sheet.now a.fates.now a.rows.now a.state (passed c.is_lent_right.ensures c.if-not-is_lent_right.false) a.file a.time a.action (passed c.has_file.ensures c.if-not-has_file.false) _ (sym c.in-Err.is ∙ c.read_line.ensures))
 
 pub read_warm-requires : goal.read_warm-requires
-read_warm-requires c = (passed c.is_lent_right.ensures c.if-not-is_lent_right.false, passed c.has_file.ensures c.if-not-has_file.false, sym c.read_line-line.ensures ∙ c.if-line-ne0.false)
+read_warm-requires c = (passed c.is_lent_right.ensures c.if-not-is_lent_right.false, passed c.has_file.ensures c.if-not-has_file.false, sym c.read_line.ensures ∙ c.in_default.is)

@@ -21,10 +21,10 @@ returns-then-value-gt-VALUE_SIZE c =
     let a = c.args in
     by_refuse _ _ _ _ _ _ c.refuse-then-value-gt-VALUE_SIZE.ensures (write_4 a.sheet.now a.fates.now a.rows.now a.state (passed c.is_lent_right.ensures c.if-not-is_lent_right.false) a.file a.start a.action a.value.now (passed c.has_file.ensures c.if-not-has_file.false) c.if-value-gt-VALUE_SIZE.true)
 
-pub returns-then-line-ne0 : goal.returns-then-line-ne0
-returns-then-line-ne0 c =
+pub returns-in-Err : goal.returns-in-Err
+returns-in-Err c =
     let a = c.args in
-    by_refuse _ _ _ _ _ _ c.refuse-then-line-ne0.ensures (write_56 a.sheet.now a.fates.now a.rows.now a.state (passed c.is_lent_right.ensures c.if-not-is_lent_right.false) a.file a.start a.action a.value.now (passed c.has_file.ensures c.if-not-has_file.false) c.if-value-gt-VALUE_SIZE.false _ c.action_line-line.ensures c.if-line-ne0.true)
+    by_refuse _ _ _ _ _ _ c.refuse-in-Err.ensures (write_56 a.sheet.now a.fates.now a.rows.now a.state (passed c.is_lent_right.ensures c.if-not-is_lent_right.false) a.file a.start a.action a.value.now (passed c.has_file.ensures c.if-not-has_file.false) c.if-value-gt-VALUE_SIZE.false _ (sym c.in-Err.is ∙ c.action_line.ensures))
 
 pub write_warm-requires : goal.write_warm-requires
-write_warm-requires c = (passed c.is_lent_right.ensures c.if-not-is_lent_right.false, passed c.has_file.ensures c.if-not-has_file.false, c.if-value-gt-VALUE_SIZE.false, sym c.action_line-line.ensures ∙ c.if-line-ne0.false)
+write_warm-requires c = (passed c.is_lent_right.ensures c.if-not-is_lent_right.false, passed c.has_file.ensures c.if-not-has_file.false, c.if-value-gt-VALUE_SIZE.false, sym c.action_line.ensures ∙ c.in_default.is)

@@ -8,12 +8,12 @@ use Rattle.moving.proofs.moves.move_to.Goals as goal
 pub returns-then-not-is_movable : goal.returns-then-not-is_movable
 returns-then-not-is_movable c =
     let a = c.args in
-    move_refused a.sheet.now a.fates.now a.rows.now a.state a.fresh.now (refused c.is_movable.ensures c.if-not-is_movable.true) _ c.refuse_at.ensures
+    move_refused a.sheet.now a.fates.now a.rows.now a.state a.fresh.now (refused c.is_movable.ensures c.if-not-is_movable.true) _ c.refuse.ensures
 
 pub returns-in-Some : goal.returns-in-Some
 returns-in-Some c =
     let a = c.args in
-    move_busy a.sheet.now a.fates.now a.rows.now a.state a.fresh.now (passed c.is_movable.ensures c.if-not-is_movable.false) _ (sym c.in-Some.is ∙ c.lowest_undecided.ensures) _ c.refuse_at-in-Some.ensures
+    move_busy a.sheet.now a.fates.now a.rows.now a.state a.fresh.now (passed c.is_movable.ensures c.if-not-is_movable.false) _ (sym c.in-Some.is ∙ c.lowest_undecided.ensures) _ c.refuse_at.ensures
 
 pub warm_rows-requires : goal.warm_rows-requires
 warm_rows-requires c =

@@ -25,12 +25,12 @@ overflow_add-survey c =
 pub returns-then-pages-survey : goal.returns-then-pages-survey
 returns-then-pages-survey c =
     let a = c.args in
-    warm_full a.sheet.now a.fates.now a.rows.now a.state a.fresh.now c.requires _ (rw c.file_count-files.ensures at c.survey_rows-survey.ensures) c.in_default.is c.if-pages-survey.true _ c.refuse_at-then-pages-survey.ensures
+    warm_full a.sheet.now a.fates.now a.rows.now a.state a.fresh.now c.requires _ (rw c.file_count-files.ensures at c.survey_rows-survey.ensures) c.in_default.is c.if-pages-survey.true _ c.refuse.ensures
 
 pub returns-then-not-is_unused : goal.returns-then-not-is_unused
 returns-then-not-is_unused c =
     let a = c.args in
-    warm_used a.sheet.now a.fates.now a.rows.now a.state a.fresh.now c.requires _ (rw c.file_count-files.ensures at c.survey_rows-survey.ensures) c.in_default.is c.if-pages-survey.false _ (rw c.file_count-files.ensures at c.is_unused.ensures) c.if-not-is_unused.true _ c.refuse_at-then-not-is_unused.ensures
+    warm_used a.sheet.now a.fates.now a.rows.now a.state a.fresh.now c.requires _ (rw c.file_count-files.ensures at c.survey_rows-survey.ensures) c.in_default.is c.if-pages-survey.false _ (rw c.file_count-files.ensures at c.is_unused.ensures) c.if-not-is_unused.true _ c.refuse-then-not-is_unused.ensures
 
 pub store_pages-requires : goal.store_pages-requires
 store_pages-requires c =

@@ -25,10 +25,10 @@ overflow_add-state c =
     let known = lent fit in
     omega (arith, known, known.sizes)
 
-pub returns-then-line-ne0 : goal.returns-then-line-ne0
-returns-then-line-ne0 c =
+pub returns-in-Err : goal.returns-in-Err
+returns-in-Err c =
     let fit = passed c.is_lent_right.ensures c.if-not-is_lent_right.false in
-    by_refuse _ _ _ _ _ _ c.refuse-then-line-ne0.ensures (begin_refused _ _ _ _ fit _ (rw c.file_count-files.ensures at c.room_line-line.ensures) c.if-line-ne0.true)
+    by_refuse _ _ _ _ _ _ c.refuse-in-Err.ensures (begin_refused _ _ _ _ fit _ (rw c.file_count-files.ensures at c.room_line.ensures) _ c.in-Err.is)
 
 pub overflow_add-place : goal.overflow_add-place
 overflow_add-place c =
@@ -41,7 +41,7 @@ bounds-fates-end c =
     let fit = passed c.is_lent_right.ensures c.if-not-is_lent_right.false in
     let known = lent fit in
     let room : c.args.state.undecided + 2 ≤ length c.args.sheet.now / page_size - c.args.state.end = let a = c.args in
-    begin_room a.sheet.now a.fates.now a.rows.now a.state fit _ (rw c.file_count-files.ensures at c.room_line-line.ensures) c.if-line-ne0.false in
+    begin_room a.sheet.now a.fates.now a.rows.now a.state fit _ (rw c.file_count-files.ensures at c.room_line.ensures) c.in_default.is in
     let k = known.sizes in omega (arith, k, room)
 
 pub overflow_add-result : goal.overflow_add-result
@@ -54,4 +54,4 @@ pub returns : goal.returns
 returns c =
     let fit = passed c.is_lent_right.ensures c.if-not-is_lent_right.false in
     let a = c.args in
-    begin_done _ _ _ _ fit _ (rw c.file_count-files.ensures at c.room_line-line.ensures) c.if-line-ne0.false _ (rw c.opening-page.ensures at (c.append.ensures ∙ appended_is _ _ _ _ _ (rw (c.opening-page.ensures, c.file_count-files.ensures) (begin_asked a.sheet.now a.fates.now a.rows.now a.state fit _ (rw c.file_count-files.ensures at c.room_line-line.ensures) c.if-line-ne0.false))))
+    begin_done _ _ _ _ fit _ (rw c.file_count-files.ensures at c.room_line.ensures) c.in_default.is _ (rw c.opening-page.ensures at (c.append.ensures ∙ appended_is _ _ _ _ _ (rw (c.opening-page.ensures, c.file_count-files.ensures) (begin_asked a.sheet.now a.fates.now a.rows.now a.state fit _ (rw c.file_count-files.ensures at c.room_line.ensures) c.in_default.is))))
