@@ -42,6 +42,7 @@ fn worse(place: u64) -> Scan
 }
 
 // A page that is not bad becomes the end. Blank pages between the old end and this one are bad: the highest is just below.
+#[tactic(auto, unfolding(recovery::specs::OpenSteps::good))]
 fn extend(scan: Scan, place: u64) -> Scan
     requires { 1 ≤ place }
     ensures { result ≡ good place scan }
@@ -98,6 +99,7 @@ fn scan_pages(sheet: &[u8], kept: &mut [u8], files: u64) -> Scan
 }
 
 // Line 24, by the kept fates: a move onto this sheet has begun and has no outcome.
+#[tactic(auto, unfolding(recovery::specs::OpenSteps::unfinished_in))]
 fn is_unfinished(sheet: &[u8], files: u64, kept: &[u8]) -> bool
     ensures { result ≡ unfinished_in files sheet.now kept.now }
 {
@@ -146,6 +148,7 @@ fn open_with(sheet: &[u8], fates: &mut [u8], rows: &mut [u64], floor: u64, kept:
 }
 
 // With room for so many pages.
+#[tactic(auto, using(recovery::proofs::OpeningRuns::zeros_long, recovery::proofs::OpeningRuns::zeros_are))]
 fn open_within<const N: usize>(sheet: &[u8], fates: &mut [u8], rows: &mut [u64], floor: u64) -> Done
     requires { (sizes_right (length sheet.now) (length fates.old) (length rows.old) ≡ true) × (length fates.old ≤ N) × (N ≤ most_places) }
     ensures { left_by result sheet.now fates.new rows.new ≡ open_leaves sheet.now fates.old rows.old floor }

@@ -66,6 +66,7 @@ fn action_found(found: Option<Page>) -> u64
 }
 
 // Line 7 for the token: its place holds, and its action is that of its page.
+#[tactic(auto, unfolding(recovery::specs::Steps::token_holds_by))]
 fn token_holds_by(end: u64, row: Row, found: Option<Page>) -> bool
     ensures { result ≡ token_holds_by end row found }
 {
@@ -73,6 +74,7 @@ fn token_holds_by(end: u64, row: Row, found: Option<Page>) -> bool
 }
 
 // Line 7, by what was found at both places of a row.
+#[tactic(auto, unfolding(recovery::specs::Steps::row_holds_by))]
 pub fn row_holds_by(end: u64, row: Row, current: Option<Page>, token: Option<Page>) -> bool
     ensures { result ≡ row_holds_by end row current token }
 {
@@ -80,6 +82,7 @@ pub fn row_holds_by(end: u64, row: Row, current: Option<Page>, token: Option<Pag
 }
 
 // Line 7.
+#[tactic(auto, using(recovery::proofs::Held::row_held))]
 pub fn row_holds_in(sheet: &[u8], end: u64, files: u64, file: u64, row: Row) -> bool
     ensures { result ≡ row_holds_in sheet.now files end file row }
 {

@@ -15,7 +15,6 @@ pub mod OpeningRuns
 pub mod OpeningEnds
 pub mod OpeningFates
 pub mod OpeningPass
-pub mod OpeningSteps
 pub mod OpeningLaws
 pub mod BadPages
 pub mod LogFates

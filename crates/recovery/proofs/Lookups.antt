@@ -7,7 +7,7 @@ use native.Mathlib.Omega.{arith}
 use native.Mathlib.Numerals.{sub-one}
 use borrow.Author.Tests.{leb-true, leb-false}
 use lib.Dec.{leb}
-use lib.ListN.{length, get_or, get_or-eq_default}
+use lib.ListN.{length, get_or-eq_default}
 use Rattle.encoding.proofs.Logic.{and_true}
 use Rattle.page.specs.declared.Unpacked.{Unpacked}
 use Rattle.page.specs.declared.Unpacked.TheVariants.{Refused, Blank, Torn, Opening, Image, Outcome, Unfit}
@@ -65,17 +65,9 @@ opening_low s p files h = go (leb p (length s / page_size)) refl
 
 -- ---- an element at a place
 
-pub nth_none : (d : ℕ) (l : List ℕ) (p : ℕ) → p < 1 → d ≡ nth d l p
-nth_none d l zero h = refl
-nth_none d l (suc p) h = absurd (omega arith)
-
 pub nth_past : {A : Type 0} (d : A) (l : List A) (p : ℕ) → length l < p → d ≡ nth d l p
 nth_past d l zero h = refl
 nth_past d l (suc p) h = sym (get_or-eq_default l d (omega arith))
-
-pub nth_in : (l : List ℕ) (p : ℕ) → 1 ≤ p → get_or l (p - 1) 0 ≡ nth 0 l p
-nth_in l zero h = absurd (omega arith)
-nth_in l (suc p) h = rw sub-one
 
 -- ---- a file's row
 
@@ -105,7 +97,3 @@ pub set_some : (rows : List ℕ) (f : ℕ) (r : Row) → is_file (length rows / 
 unfolding with_row_of
 set_some rows zero r h = let q = is_file_lem (length rows / row_length) 0 h in absurd (omega arith)
 set_some rows (suc f) r h = simp (h, sub-one)
-
--- room for the row of a file
-pub row_room : (rows : List ℕ) (f : ℕ) → is_file (length rows / row_length) f ≡ true → row_length * (f - 1) + row_length ≤ length rows
-row_room rows f h = let q = is_file_lem (length rows / row_length) f h in omega arith

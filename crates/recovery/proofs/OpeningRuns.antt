@@ -2,7 +2,7 @@
 use Prim.Native.Nat.{ℕ, zero, suc, ◌+◌, ◌*◌, ◌≤◌, ◌<◌}
 use mathlib.Core.Path.{◌≡◌, refl, sym, ap, ◌∙◌}
 use mathlib.Core.Bool.{cond}
-use mathlib.Core.List.{List, [], ◌∷◌, ◌++◌, append-nil}
+use mathlib.Core.List.{List, [], ◌∷◌, ◌++◌}
 use native.Mathlib.Omega.{arith}
 use native.Mathlib.Numerals.{add-one, unary_clauses}
 use lib.Dec.{eqb}
@@ -34,12 +34,6 @@ count_end l i n a b e =
     omega arith
 
 -- ---- clearing
-
--- a run cleared to its end
-pub cleared : (d : List ℕ) (i : ℕ) → length d ≤ i → i ≤ length d → replicate i 0 ++ drop i d ≡ replicate (length d) 0
-cleared d i a b =
-    let e : i ≡ length d = omega arith in
-    rw (e, drop-length) (append-nil _)
 
 pub cold_flat : (n : ℕ) → replicate (row_length * n) 0 ≡ flat (cold_rows n)
 unfolding flat cold_rows

@@ -129,6 +129,7 @@ pub const ANSWER_LENGTH: usize = ROW_LENGTH;
 pub const FEW_PAGES: usize = 1024;
 
 // Line 1, by the lengths of sheet, fates and rows.
+#[tactic(auto, unfolding(crate::specs::Lent::sizes_right))]
 pub fn is_sized(size: usize, fates: usize, numbers: usize) -> bool
     ensures { result ≡ sizes_right size fates numbers }
 {
@@ -144,6 +145,7 @@ pub fn is_sized(size: usize, fates: usize, numbers: usize) -> bool
 }
 
 // Line 1 for a call on an open sheet.
+#[tactic(auto, unfolding(crate::specs::Steps::line_one))]
 pub fn is_lent_right(size: usize, fates: usize, numbers: usize, state: State) -> bool
     ensures { result ≡ line_one size fates numbers state.end state.undecided }
 {

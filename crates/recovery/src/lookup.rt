@@ -17,6 +17,7 @@ fn has_place(sheet: &[u8], place: u64) -> bool
 }
 
 // The part of a place: its 64 bytes, none where the sheet has no such place.
+#[tactic(auto, using(crate::proofs::Pages::part_none, crate::proofs::Pages::part_some))]
 pub fn part_at(sheet: &[u8], place: u64) -> &[u8]
     ensures { result.now ≡ part_at sheet.now place }
 {
@@ -29,6 +30,7 @@ pub fn part_at(sheet: &[u8], place: u64) -> &[u8]
 }
 
 // The page at a place, by the page test on its part of the sheet; Refused where the sheet has no such place.
+#[tactic(auto, using(crate::proofs::Pages::part_tested))]
 pub fn page_at(sheet: &[u8], place: u64, files: u64) -> Unpacked
     ensures { result ≡ tested (page_bytes sheet.now place) place files }
 {
@@ -36,6 +38,7 @@ pub fn page_at(sheet: &[u8], place: u64, files: u64) -> Unpacked
 }
 
 // The quick look at a place; none where the sheet has no such place.
+#[tactic(auto, using(crate::proofs::Pages::part_tested))]
 pub fn seek_at(sheet: &[u8], place: u64, files: u64, file: u64) -> Option<Page>
     ensures { result ≡ image_of_file file (tested (page_bytes sheet.now place) place files) }
 {
@@ -47,6 +50,7 @@ pub fn seek_at(sheet: &[u8], place: u64, files: u64, file: u64) -> Option<Page>
 }
 
 // Whether the page at a place is blank.
+#[tactic(auto, using(crate::proofs::Pages::part_tested))]
 pub fn is_blank_at(sheet: &[u8], place: u64, files: u64) -> bool
     ensures { result ≡ is_blank_page (tested (page_bytes sheet.now place) place files) }
 {
@@ -54,6 +58,7 @@ pub fn is_blank_at(sheet: &[u8], place: u64, files: u64) -> bool
 }
 
 // Whether the page at a place is an opening.
+#[tactic(auto, using(crate::proofs::Pages::part_tested, crate::proofs::Lookups::opening_decoded))]
 pub fn is_opening_at(sheet: &[u8], place: u64, files: u64) -> bool
     ensures { result ≡ is_opening (decoded files sheet.now place) }
 {
@@ -61,6 +66,7 @@ pub fn is_opening_at(sheet: &[u8], place: u64, files: u64) -> bool
 }
 
 // Whether the page at a place is a carried opening.
+#[tactic(auto, using(crate::proofs::Pages::part_tested, crate::proofs::Lookups::carried_decoded))]
 pub fn is_carried_at(sheet: &[u8], place: u64, files: u64) -> bool
     ensures { result ≡ is_carried (decoded files sheet.now place) }
 {
@@ -68,6 +74,7 @@ pub fn is_carried_at(sheet: &[u8], place: u64, files: u64) -> bool
 }
 
 // Whether the page at a place is an outcome of an action.
+#[tactic(auto, using(crate::proofs::Pages::part_tested))]
 fn is_outcome_at(sheet: &[u8], place: u64, files: u64, action: u64) -> bool
     ensures { result ≡ is_outcome_of action (tested (page_bytes sheet.now place) place files) }
 {
@@ -96,6 +103,7 @@ pub fn outcome_place(sheet: &[u8], end: u64, files: u64, action: u64) -> u64
 }
 
 // The fields of a sealed image of a file at a place.
+#[tactic(auto, using(crate::proofs::Held::image_none, crate::proofs::Held::image_unsealed, crate::proofs::Held::image_sealed))]
 pub fn image_at(sheet: &[u8], place: u64, files: u64, file: u64) -> Option<Page>
     ensures { result ≡ sealed_image files sheet.now file place }
 {
@@ -124,6 +132,7 @@ fn is_counted(fate: u64) -> bool
 }
 
 // The fate under which images of an action count; the opening is looked at only where the fate could count.
+#[tactic(auto, unfolding(crate::specs::Steps::counted_fate))]
 pub fn counted_fate(sheet: &[u8], fates: &[u8], action: u64, files: u64) -> u64
     ensures { result ≡ counted_fate files sheet.now fates.now action }
 {

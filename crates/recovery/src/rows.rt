@@ -80,6 +80,7 @@ fn write_row(rows: &mut [u64], k: usize, row: Row)
 }
 
 // The row of a file, cold for no file.
+#[tactic(auto, using(crate::proofs::Lookups::row_none, crate::proofs::Lookups::row_some))]
 pub fn row_of(rows: &[u64], file: u64) -> Row
     ensures { result ≡ row_of rows.now file }
 {
@@ -106,6 +107,7 @@ fn is_rebuilt_for(rows: &[u64], k: usize, action: u64) -> bool
 }
 
 // Whether one of the next four rows has this action as its token's, whatever its mark.
+#[tactic(auto, unfolding(crate::specs::Steps::in_four))]
 fn is_in_four(rows: &[u64], k: usize, action: u64) -> bool
     requires { row_length * (k + 4) ≤ length rows.now }
     ensures { result ≡ in_four rows.now k action }
@@ -149,6 +151,7 @@ pub fn next_named(rows: &[u64], passed: u64, action: u64) -> u64
 }
 
 // Puts a file's row into the run; for no file nothing changes.
+#[tactic(auto, using(crate::proofs::Lookups::set_none, crate::proofs::Lookups::set_some))]
 pub fn set_row(rows: &mut [u64], file: u64, row: Row)
     ensures { rows.new ≡ with_row_of rows.old file row }
 {

@@ -8,6 +8,7 @@ use crate::lookup::{is_opening_at, part_at};
 use page::Page;
 
 // A start, or that of the sealed image at a place if it is higher.
+#[tactic(auto, using(crate::proofs::HighestStart::look_none, crate::proofs::HighestStart::look_unsealed, crate::proofs::HighestStart::look_sealed))]
 fn or_higher(sheet: &[u8], place: u64, files: u64, start: u64) -> u64
     ensures { result ≡ start_step (sealed files sheet.now place) start }
 {

@@ -10,9 +10,6 @@ returns-then-not-is_sized c =
     let a = c.args in
     open_refused a.sheet.now a.fates.now a.rows.now a.floor (refused c.is_sized.ensures c.if-not-is_sized.true) _ c.refuse.ensures
 
-pub open_within-requires : goal.open_within-requires
-open_within-requires c = (passed c.is_sized.ensures c.if-not-is_sized.false, omega arith, omega arith)
-
 pub open_within-requires-else-fates-le-FEW_PAGES : goal.open_within-requires-else-fates-le-FEW_PAGES
 open_within-requires-else-fates-le-FEW_PAGES c =
     let ok = passed c.is_sized.ensures c.if-not-is_sized.false in
