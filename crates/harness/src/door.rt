@@ -25,36 +25,25 @@ fn tell(out: &mut [u64], done: Done)
     let answer = done.answer;
     let state = done.state;
     let numbers = numbers_of(answer);
-    let mut i: usize = 0;
-    while i < ANSWER_LENGTH {
-        out[i] = numbers[i];
-        i += 1;
-    }
+    out[..ANSWER_LENGTH].copy_from_slice(&numbers);
     out[END] = state.end;
     out[FLOOR] = state.floor;
     out[UNDECIDED] = state.undecided;
 }
 
 // A call by its number.
+#[tactic(auto, unfolding(crate::specs::Door::call_of))]
 fn call_of(kind: u64, file: u64, time: u64, action: u64) -> Call
     ensures { result ≡ call_of kind file time action }
 {
-    if kind == 0 {
-        return Call::Begin;
+    match kind {
+        0 => Call::Begin,
+        1 => Call::Write(file, time, action),
+        2 => Call::Read(file, time, action),
+        3 => Call::Test(action),
+        4 => Call::Commit(action),
+        _ => Call::Abort(action),
     }
-    if kind == 1 {
-        return Call::Write(file, time, action);
-    }
-    if kind == 2 {
-        return Call::Read(file, time, action);
-    }
-    if kind == 3 {
-        return Call::Test(action);
-    }
-    if kind == 4 {
-        return Call::Commit(action);
-    }
-    Call::Abort(action)
 }
 
 // A number that is no call's is refused 1.
