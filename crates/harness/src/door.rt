@@ -64,16 +64,6 @@ fn made(
     make(sheet, fates, rows, state, call, value)
 }
 
-fn state_with(end: u64, floor: u64, undecided: u64) -> State
-    ensures { result ≡ state_with end floor undecided }
-{
-    State {
-        end,
-        floor,
-        undecided,
-    }
-}
-
 // A call. The kinds are 0 begin, 1 write, 2 read, 3 test, 4 commit, 5 abort; the time is a write's start or a read's time, and what a
 // call does not take is passed over.
 #[unsafe(no_mangle)]
@@ -96,7 +86,11 @@ pub extern "C" fn door_call(
     if out.len() != NUMBERS {
         return;
     }
-    let state = state_with(end, floor, undecided);
+    let state = State {
+        end,
+        floor,
+        undecided,
+    };
     let call = call_of(kind, file, time, action);
     let done = made(sheet, fates, rows, state, kind, call, value);
     tell(out, done);
@@ -137,7 +131,11 @@ pub extern "C" fn door_rebuild(
     if out.len() != NUMBERS {
         return;
     }
-    let state = state_with(end, floor, undecided);
+    let state = State {
+        end,
+        floor,
+        undecided,
+    };
     let done = rebuilding::rebuild(sheet, fates, rows, state, file);
     tell(out, done);
 }
@@ -159,7 +157,11 @@ pub extern "C" fn door_move(
     if out.len() != NUMBERS {
         return;
     }
-    let state = state_with(end, floor, undecided);
+    let state = State {
+        end,
+        floor,
+        undecided,
+    };
     let done = moving::move_to(sheet, fates, rows, state, fresh);
     tell(out, done);
 }
