@@ -47,6 +47,7 @@ fn call_of(kind: u64, file: u64, time: u64, action: u64) -> Call
 }
 
 // A number that is no call's is refused 1.
+#[tactic(auto, unfolding(crate::specs::Door::made))]
 fn made(
     sheet: &mut [u8],
     fates: &mut [u8],
