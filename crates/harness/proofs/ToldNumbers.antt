@@ -2,7 +2,8 @@
 use Prim.Native.Nat.{ℕ, ◌+◌}
 use mathlib.Core.Path.{◌≡◌, refl, ap, ◌∙◌}
 use mathlib.Core.List.{List, [], ◌∷◌, ◌++◌, append-nil}
-use lib.ListN.{length, take, drop, drop_of_length-le}
+use lib.ListN.{length, take, drop, drop_of_length-le, length-append, length-drop}
+use Rattle.std.proofs.lemmas.List.{take-append-le}
 use lib.Seq.{sets, sets-eq, take_all}
 use native.Mathlib.Omega.{arith}
 use borrow.Author.Tests.{eq-eqb, ne_eqb}
@@ -26,13 +27,16 @@ numbers_long (Told f p) = refl
 numbers_long (Moved f) = refl
 
 -- once the answer's numbers are copied, and the state's stored after them
-pub told_are : (out ns : List ℕ) (a : Answer) (st : State) → length out ≡ number_count → ns ≡ numbers_of a → take answer_length out ≡ take answer_length ns
-    → sets out answer_length (st.end ∷ st.floor ∷ st.undecided ∷ []) ≡ told_numbers a st
-told_are out ns a st l e h =
-    let past : drop (answer_length + 3) out ≡ [] = drop_of_length-le out {i = answer_length + 3} (omega arith) in
+pub told_are : (out ns : List ℕ) (a : Answer) (st : State) → length out ≡ number_count → ns ≡ numbers_of a
+    → sets (ns ++ drop answer_length out) answer_length (st.end ∷ st.floor ∷ st.undecided ∷ []) ≡ told_numbers a st
+told_are out ns a st l e =
+    let long : length ns ≡ answer_length = ap length e ∙ numbers_long a in
+    let all : List ℕ = ns ++ drop answer_length out in
+    let all_long : length all ≡ number_count = omega (arith, length-append ns (drop answer_length out), length-drop answer_length out) in
+    let past : drop (answer_length + 3) all ≡ [] = drop_of_length-le all {i = answer_length + 3} (omega arith) in
     let state : List ℕ = st.end ∷ st.floor ∷ st.undecided ∷ [] in
-    let answer : take answer_length out ≡ numbers_of a = h ∙ ap (take answer_length) e ∙ take_all answer_length (numbers_of a) (omega (arith, numbers_long a)) in
-    sets-eq state out answer_length (omega arith) ∙ ap (λ (r : List ℕ). take answer_length out ++ state ++ r) past ∙ append-nil (take answer_length out ++ state)
+    let answer : take answer_length all ≡ numbers_of a = take-append-le answer_length ns (drop answer_length out) (omega arith) ∙ take_all answer_length ns (omega arith) ∙ e in
+    sets-eq state all answer_length (omega arith) ∙ ap (λ (r : List ℕ). take answer_length all ++ state ++ r) past ∙ append-nil (take answer_length all ++ state)
     ∙ ap (λ (r : List ℕ). r ++ state) answer
 
 module _ (s fates rows out : List ℕ) (x : Left) where

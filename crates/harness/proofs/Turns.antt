@@ -6,17 +6,17 @@ use native.Mathlib.Numerals.{add-one}
 use mathlib.Core.Bool.{Bool, true, false, cond}
 use mathlib.Core.List.{List}
 use Rattle.page.specs.declared.Page.{Page}
-use Rattle.page.specs.declared.Unpacked.{Unpacked}
-use Rattle.std.specs.Prelude.{Option, Some, None}
 use Rattle.page.specs.declared.PackError as pack_error
 use Rattle.page.specs.declared.PackError.{PackError}
 use Rattle.std.specs.Prelude.{Result, Ok, Err}
 use Rattle.page.specs.Layout.{page_size}
 use Rattle.page.specs.Table.{image}
-use Rattle.page.specs.Answers.{is_fit_page, packs}
+use Rattle.page.specs.Answers.{packs}
 use Rattle.calls.proofs.Appends.{put_page}
 use borrow.Rule.Slice.PartMut.{put_mid}
-use Rattle.harness.specs.Counts.{page_at, fields, found, written, counted, packed_into, packed_to}
+use mir.Val.{bool_byte}
+use Rattle.std.specs.Result.{is_ok}
+use Rattle.harness.specs.Counts.{page_at, written, counted, packed_into, packed_to}
 
 pub start : (f : ℕ → ℕ) → 0 ≡ counted f 0
 unfolding counted
@@ -26,21 +26,19 @@ pub turn : (f : ℕ → ℕ) (i count x : ℕ) → count ≡ counted f i → x �
 unfolding counted
 turn f i count x e h = rw (add-one i) (ap₂ ◌+◌ e h)
 
-pub fields_le : (u : Unpacked) → fields u ≤ 1
-fields_le u = go (is_fit_page u)
-  where
-    go : (b : Bool) → cond b 1 0 ≤ 1
-    go true = omega arith
-    go false = omega arith
+-- a test as a number
+pub bit_le : (b : Bool) (x : ℕ) → x ≡ bool_byte b → x ≤ 1
+bit_le true x e = omega arith
+bit_le false x e = omega arith
 
-pub found_le : (s : Option Page) → found s ≤ 1
-found_le (Some p) = omega arith
-found_le None = omega arith
+pub bit_is : (b : Bool) (x y : ℕ) → x ≡ bool_byte b → cond b 1 0 ≡ y → x ≡ y
+bit_is true x y e h = e ∙ h
+bit_is false x y e h = e ∙ h
 
-pub written_le : (p : Result (Unit {0}) PackError) → written p ≤ 1
-written_le (Ok tt) = omega arith
-written_le (Err pack_error.PackError.OutOfBounds) = omega arith
-written_le (Err pack_error.PackError.Unfit) = omega arith
+pub written_is : (r : Result (Unit {0}) PackError) (b : Bool) → b ≡ is_ok r → cond b 1 0 ≡ written r
+written_is (Ok tt) b e = rw e
+written_is (Err pack_error.PackError.OutOfBounds) b e = rw e
+written_is (Err pack_error.PackError.Unfit) b e = rw e
 
 -- no page packed, and one more
 pub pack_start : (size files : ℕ) (value s : List ℕ) → ◌≡◌ {A = ℕ × List ℕ} (0, s) (packed_to size value files s 0)

@@ -25,39 +25,29 @@ fn tell(out: &mut [u64], done: Done)
     let answer = done.answer;
     let state = done.state;
     let numbers = numbers_of(answer);
-    let mut i: usize = 0;
-    while i < ANSWER_LENGTH {
-        out[i] = numbers[i];
-        i += 1;
-    }
+    out[..ANSWER_LENGTH].copy_from_slice(&numbers);
     out[END] = state.end;
     out[FLOOR] = state.floor;
     out[UNDECIDED] = state.undecided;
 }
 
 // A call by its number.
+#[tactic(auto, unfolding(crate::specs::Door::call_of))]
 fn call_of(kind: u64, file: u64, time: u64, action: u64) -> Call
     ensures { result ≡ call_of kind file time action }
 {
-    if kind == 0 {
-        return Call::Begin;
+    match kind {
+        0 => Call::Begin,
+        1 => Call::Write(file, time, action),
+        2 => Call::Read(file, time, action),
+        3 => Call::Test(action),
+        4 => Call::Commit(action),
+        _ => Call::Abort(action),
     }
-    if kind == 1 {
-        return Call::Write(file, time, action);
-    }
-    if kind == 2 {
-        return Call::Read(file, time, action);
-    }
-    if kind == 3 {
-        return Call::Test(action);
-    }
-    if kind == 4 {
-        return Call::Commit(action);
-    }
-    Call::Abort(action)
 }
 
 // A number that is no call's is refused 1.
+#[tactic(auto, unfolding(crate::specs::Door::made))]
 fn made(
     sheet: &mut [u8],
     fates: &mut [u8],
@@ -73,16 +63,6 @@ fn made(
         return refuse(Refusal::WrongSizes, state);
     }
     make(sheet, fates, rows, state, call, value)
-}
-
-fn state_with(end: u64, floor: u64, undecided: u64) -> State
-    ensures { result ≡ state_with end floor undecided }
-{
-    State {
-        end,
-        floor,
-        undecided,
-    }
 }
 
 // A call. The kinds are 0 begin, 1 write, 2 read, 3 test, 4 commit, 5 abort; the time is a write's start or a read's time, and what a
@@ -107,7 +87,11 @@ pub extern "C" fn door_call(
     if out.len() != NUMBERS {
         return;
     }
-    let state = state_with(end, floor, undecided);
+    let state = State {
+        end,
+        floor,
+        undecided,
+    };
     let call = call_of(kind, file, time, action);
     let done = made(sheet, fates, rows, state, kind, call, value);
     tell(out, done);
@@ -148,7 +132,11 @@ pub extern "C" fn door_rebuild(
     if out.len() != NUMBERS {
         return;
     }
-    let state = state_with(end, floor, undecided);
+    let state = State {
+        end,
+        floor,
+        undecided,
+    };
     let done = rebuilding::rebuild(sheet, fates, rows, state, file);
     tell(out, done);
 }
@@ -170,7 +158,11 @@ pub extern "C" fn door_move(
     if out.len() != NUMBERS {
         return;
     }
-    let state = state_with(end, floor, undecided);
+    let state = State {
+        end,
+        floor,
+        undecided,
+    };
     let done = moving::move_to(sheet, fates, rows, state, fresh);
     tell(out, done);
 }

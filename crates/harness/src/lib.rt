@@ -5,39 +5,24 @@
 
 mod door;
 
-ghost use Rattle.std.specs.Prelude.{◌≡◌, ◌/◌, length};
+ghost use Rattle.std.specs.Prelude.{◌≡◌, ℕ, ◌<◌, ◌/◌, Bool, cond, length};
 ghost use Rattle.page.specs.Layout.{page_size};
 ghost use Rattle.recovery.specs.Steps.{row_from_pages};
 ghost use Rattle.inspection.specs.Inspected.{inspected, inspect_place};
-ghost use Rattle.harness.specs.Counts.{fields, found, written, counted, fits_at, seen_at, packed_to};
+ghost use Rattle.harness.specs.Counts.{counted, fits_at, seen_at, packed_to};
 
-use inspection::InspectError;
-use page::{PackError, Page, Unpacked};
+use page::{Page, Unpacked};
 
-fn one_if_fields(u: Unpacked) -> u64
-    ensures { result ≡ fields u }
+// How many of the numbers below n pass.
+fn count_passing<F: Fn(usize) -> bool>(n: usize, passes: F) -> u64
+    requires { (i : ℕ) → i < n → F.pre passes i }
+    ensures { (f : ℕ → ℕ) → ((i : ℕ) (r : Bool) → i < n → F.post passes i r → cond r 1 0 ≡ f i) → result ≡ counted f n }
 {
-    match u {
-        Unpacked::Refused => 0,
-        Unpacked::Blank => 0,
-        Unpacked::Torn => 0,
-        Unpacked::Opening(_) => 1,
-        Unpacked::Image(_) => 1,
-        Unpacked::Outcome(_) => 1,
-        Unpacked::Unfit => 0,
+    let mut count = 0;
+    for i in 0..n {
+        count += u64::from(passes(i));
     }
-}
-
-fn one_if_found(seen: Option<Page>) -> u64
-    ensures { result ≡ found seen }
-{
-    u64::from(seen.is_some())
-}
-
-fn one_if_written(answer: Result<(), PackError>) -> u64
-    ensures { result ≡ written answer }
-{
-    u64::from(answer.is_ok())
+    count
 }
 
 // The page test on every page.
@@ -45,16 +30,15 @@ fn one_if_written(answer: Result<(), PackError>) -> u64
 pub extern "C" fn bench_test(sheet: &[u8], files: u64) -> u64
     ensures { result ≡ counted (fits_at sheet.now files) (length sheet.now / page_size) }
 {
-    let n = sheet.len() / Page::SIZE;
-    let mut count: u64 = 0;
-    let mut i: usize = 0;
-    while i < n {
+    count_passing(sheet.len() / Page::SIZE, |i| {
         let at = Page::SIZE * i;
         let end = at + Page::SIZE;
-        count += one_if_fields(Page::test(&sheet[at..end], i as u64 + 1, files));
-        i += 1;
-    }
-    count
+        let found = Page::test(&sheet[at..end], i as u64 + 1, files);
+        matches!(
+            found,
+            Unpacked::Opening(_) | Unpacked::Image(_) | Unpacked::Outcome(_)
+        )
+    })
 }
 
 // The quick look for one file on every page.
@@ -62,33 +46,27 @@ pub extern "C" fn bench_test(sheet: &[u8], files: u64) -> u64
 pub extern "C" fn bench_seek(sheet: &[u8], files: u64, file: u64) -> u64
     ensures { result ≡ counted (seen_at sheet.now files file) (length sheet.now / page_size) }
 {
-    let n = sheet.len() / Page::SIZE;
-    let mut count: u64 = 0;
-    let mut i: usize = 0;
-    while i < n {
+    count_passing(sheet.len() / Page::SIZE, |i| {
         let at = Page::SIZE * i;
         let end = at + Page::SIZE;
-        count += one_if_found(Page::seek(&sheet[at..end], i as u64 + 1, files, file));
-        i += 1;
-    }
-    count
+        Page::seek(&sheet[at..end], i as u64 + 1, files, file).is_some()
+    })
 }
 
-// An image of one file packed at every place; the first place, below which no action lies, is refused.
+// An image of one file packed at every place; the first place, below which no action lies, is refused. A loop of its own: a closure that
+// stores into the sheet would tell nothing of what it stored.
 #[unsafe(no_mangle)]
 pub extern "C" fn bench_pack(sheet: &mut [u8], files: u64, size: u64, value: &[u8; 32]) -> u64
     ensures { (result, sheet.new) ≡ packed_to size value.now files sheet.old (length sheet.old / page_size) }
 {
-    let n = sheet.len() / Page::SIZE;
-    let mut count: u64 = 0;
-    let mut i: usize = 0;
-    while i < n {
+    let pages = sheet.len() / Page::SIZE;
+    let mut count = 0;
+    for i in 0..pages {
         let at = Page::SIZE * i;
         let end = at + Page::SIZE;
         let place = i as u64 + 1;
         let p = Page::image(size, 1, 1, 0, place);
-        count += one_if_written(p.pack(value, place, files, &mut sheet[at..end]));
-        i += 1;
+        count += u64::from(p.pack(value, place, files, &mut sheet[at..end]).is_ok());
     }
     count
 }
@@ -102,16 +80,10 @@ pub extern "C" fn bench_walk(sheet: &[u8], fates: &[u8], files: u64, file: u64, 
     row.current
 }
 
-fn inspected_place(found: Result<u64, InspectError>) -> u64
-    ensures { result ≡ inspect_place found }
-{
-    found.unwrap_or(0)
-}
-
 // An inspection: the place.
 #[unsafe(no_mangle)]
 pub extern "C" fn bench_inspect(sheet: &[u8], files: u64) -> u64
     ensures { result ≡ inspect_place (inspected sheet.now files) }
 {
-    inspected_place(inspection::inspect(sheet, files))
+    inspection::inspect(sheet, files).unwrap_or(0)
 }

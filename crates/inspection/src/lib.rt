@@ -16,6 +16,7 @@ pub enum InspectError {
 }
 
 // Line 1 for a sheet's bytes and a file count.
+#[tactic(auto, unfolding(crate::specs::Inspected::inspectable))]
 fn is_inspectable(size: usize, files: u64) -> bool
     ensures { result ≡ inspectable size files }
 {

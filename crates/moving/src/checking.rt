@@ -11,6 +11,7 @@ use rebuilding::row_holds_in;
 use recovery::{Row, State, fate_at, is_blank_at, is_lent_right, row_of};
 
 // Line 1, with the fresh sheet's length.
+#[tactic(auto, unfolding(crate::specs::MoveSteps::move_line_one))]
 pub(crate) fn is_movable(
     size: usize,
     fates: usize,

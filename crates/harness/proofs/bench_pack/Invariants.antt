@@ -3,11 +3,8 @@ use lib.ListN.{length}
 use mathlib.Core.List.{List}
 use Rattle.harness.specs.Counts.{packed_to}
 use mathlib.Core.Path.{◌≡◌}
-use Prim.Native.Nat.{ℕ, ◌≤◌, ◌-◌, ◌/◌}
+use Prim.Native.Nat.{ℕ, ◌≤◌}
 use Rattle.harness.proofs.bench_pack.Given as goal
 
 abbrev pub invariant-loop-i : goal.invariant-loop-i
-invariant-loop-i l = (◌≡◌ {A = ℕ × List ℕ} (l.count, l.sheet) (packed_to l.size l.value l.files l.initial.sheet l.i)) × (l.i ≤ l.n) × (l.count ≤ l.i) × (l.n ≡ length l.initial.sheet / 64) × (length l.sheet ≡ length l.initial.sheet)
-
-abbrev pub decreases-loop-i : goal.decreases-loop-i
-decreases-loop-i l = l.n - l.i
+invariant-loop-i l = (◌≡◌ {A = ℕ × List ℕ} (l.count, l.sheet) (packed_to l.size l.value l.files l.initial.sheet l.i)) × (l.count ≤ l.i) × (length l.sheet ≡ length l.initial.sheet)

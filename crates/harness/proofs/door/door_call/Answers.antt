@@ -1,6 +1,7 @@
 -- `harness::door::door_call`: what a call leaves, in numbers. Assumes nothing.
-use Rattle.harness.specs.Door.{made}
-use mathlib.Core.Path.{◌∙◌}
+use Rattle.harness.specs.Door.{made, state_with}
+use Rattle.calls.specs.declared.asking.Call.{Call}
+use mathlib.Core.Path.{ap, ◌∙◌}
 use Rattle.harness.proofs.ToldNumbers.{given_none, given_numbers}
 use Rattle.harness.proofs.door.door_call.Goals as goal
 
@@ -12,4 +13,4 @@ returns-then-out-ne-NUMBERS c =
 pub returns : goal.returns
 returns c =
     let a = c.args in
-    given_numbers a.sheet.now a.fates.now a.rows.now a.out.now _ _ _ _ _ _ c.if-out-ne-NUMBERS.false (c.made-done.ensures ∙ (λ i. made a.sheet.now a.fates.now a.rows.now (c.state_with-state.ensures i) a.kind (c.call_of-call.ensures i) a.value.now)) c.tell.ensures
+    given_numbers a.sheet.now a.fates.now a.rows.now a.out.now _ _ _ _ _ _ c.if-out-ne-NUMBERS.false (c.made-done.ensures ∙ ap (λ (k : Call). made a.sheet.now a.fates.now a.rows.now (state_with a.end a.floor a.undecided) a.kind k a.value.now) c.call_of-call.ensures) c.tell.ensures

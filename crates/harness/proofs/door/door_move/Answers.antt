@@ -1,7 +1,4 @@
 -- `harness::door::door_move`: what the move leaves, in numbers. Assumes nothing.
-use Rattle.moving.specs.MoveLeaves.{move_leaves}
-use mathlib.Core.Path.{ap, ◌∙◌}
-use Rattle.recovery.specs.declared.State.{State}
 use Rattle.harness.proofs.ToldNumbers.{given_move_none, given_move_lem}
 use Rattle.harness.proofs.door.door_move.Goals as goal
 
@@ -13,4 +10,4 @@ returns-then-out-ne-NUMBERS c =
 pub returns : goal.returns
 returns c =
     let a = c.args in
-    given_move_lem a.sheet.now a.fates.now a.rows.now a.fresh.now a.out.now _ _ _ _ _ _ _ c.if-out-ne-NUMBERS.false (c.move_to-done.ensures ∙ ap (λ (st : State). move_leaves a.sheet.now a.fates.now a.rows.now st a.fresh.now) c.state_with-state.ensures) c.tell.ensures
+    given_move_lem a.sheet.now a.fates.now a.rows.now a.fresh.now a.out.now _ _ _ _ _ _ _ c.if-out-ne-NUMBERS.false c.move_to-done.ensures c.tell.ensures

@@ -1,7 +1,4 @@
 -- `harness::door::door_rebuild`: what rebuild leaves, in numbers. Assumes nothing.
-use Rattle.recovery.specs.Lent.{rebuild_leaves}
-use mathlib.Core.Path.{ap, ◌∙◌}
-use Rattle.recovery.specs.declared.State.{State}
 use Rattle.harness.proofs.ToldNumbers.{given_none, given_numbers}
 use Rattle.harness.proofs.door.door_rebuild.Goals as goal
 
@@ -13,4 +10,4 @@ returns-then-out-ne-NUMBERS c =
 pub returns : goal.returns
 returns c =
     let a = c.args in
-    given_numbers a.sheet.now a.fates.now a.rows.now a.out.now _ _ _ _ _ _ c.if-out-ne-NUMBERS.false (c.rebuild-done.ensures ∙ ap (λ (st : State). rebuild_leaves a.sheet.now a.fates.now a.rows.now st a.file) c.state_with-state.ensures) c.tell.ensures
+    given_numbers a.sheet.now a.fates.now a.rows.now a.out.now _ _ _ _ _ _ c.if-out-ne-NUMBERS.false c.rebuild-done.ensures c.tell.ensures

@@ -1,21 +1,8 @@
 -- `moving::carrying::store_version`: nothing, or the page of the image that was found. Assumes nothing.
-use Rattle.moving.specs.MoveSteps.{stored_by}
 use Rattle.moving.proofs.CarriedPages.{value_part, stored_is}
 use Rattle.calls.proofs.ReadImages.{met_at}
-use Rattle.page.proofs.Rules.{in_bounds_lem}
-use native.Mathlib.Omega.{arith}
-use mathlib.Core.Path.{sym, ap, ◌∙◌}
+use mathlib.Core.Path.{sym, ◌∙◌}
 use Rattle.moving.proofs.carrying.store_version.Goals as goal
-
-pub returns-in_default : goal.returns-in_default
-returns-in_default c =
-    let a = c.args in
-    ap (stored_by a.sheet.now a.file a.place a.at a.fresh.now) (sym c.in_default.is ∙ c.image_at-found.ensures)
-
-pub overflow_add-result : goal.overflow_add-result
-overflow_add-result c =
-    let q = (in_bounds_lem _ _ _ c.requires.2).place_is.1 in
-    omega arith
 
 pub returns : goal.returns
 returns c =

@@ -26,8 +26,3 @@ returns-2 c =
     stores_end a.sheet.now a.files a.rows.now a.fresh.now (pred (c.loop-file.file + 1)) _ _
     (stores_turn a.sheet.now a.files a.rows.now a.fresh.now c.loop-file.file c.loop-file.at _ _ _ c.row_of-row.result (omega arith) c.loop-file.invariant.1 c.row_of-row.ensures c.store_version-at.ensures)
     (omega arith)
-
-pub returns : goal.returns
-returns c =
-    let a = c.args in
-    stores_end a.sheet.now a.files a.rows.now a.fresh.now (pred c.loop-file.file) c.loop-file.at _ c.loop-file.invariant.1 (omega arith)

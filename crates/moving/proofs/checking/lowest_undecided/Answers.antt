@@ -30,6 +30,3 @@ returns-else-fate_at-eq1 c =
     (found_turn (λ p. eqb (nth 0 c.args.fates.now p) 1) c.loop-place.place (omega arith) c.loop-place.invariant.1
     (ne_eqb _ 1 (λ e. c.if-fate_at-eq1.false (c.fate_at.ensures ∙ e))))
     (omega arith)
-
-pub returns : goal.returns
-returns c = found_end (λ p. eqb (nth 0 c.args.fates.now p) 1) (pred c.loop-place.place) c.args.end c.loop-place.invariant.1 (omega arith)

@@ -30,8 +30,3 @@ returns-2 c =
     (survey_turn a.sheet.now a.files a.end a.rows.now a.floor c.loop-file.file c.loop-file.survey c.with_row-survey.result c.row_of-row.result c.row_holds_in-holds.result
     (omega arith) c.loop-file.invariant.1 c.row_of-row.ensures c.row_holds_in-holds.ensures c.with_row-survey.ensures)
     (omega arith)
-
-pub returns : goal.returns
-returns c =
-    let a = c.args in
-    survey_end a.sheet.now a.files a.end a.rows.now a.floor (pred c.loop-file.file) c.loop-file.survey c.loop-file.invariant.1 (omega arith)
