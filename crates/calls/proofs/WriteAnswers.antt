@@ -6,7 +6,8 @@ use mathlib.Core.List.{List}
 use native.Mathlib.Numerals.{add-one}
 use lib.Dec.{eqb}
 use borrow.Author.Tests.{ne_eqb, lt-ltb, le-ltb}
-use Rattle.page.specs.declared.Sought.{Sought}
+use Rattle.page.specs.declared.Page.{Page}
+use Rattle.std.specs.Prelude.{Option}
 use Rattle.recovery.specs.declared.Row.{Row}
 use Rattle.recovery.specs.declared.State.{State}
 use Rattle.recovery.specs.declared.Answer.{Answer}
@@ -42,7 +43,7 @@ module _ (s : List ℕ) (files : ℕ) (st : State) (t : ℕ) (r : Row) where
 
 -- ---- lines 7 and 8
 
-module _ (s : List ℕ) (files : ℕ) (st : State) (f t a : ℕ) (r : Row) (u v : Sought) (hu : u ≡ sealed_image files s f r.current) (hv : v ≡ sealed_image files s f r.token) where
+module _ (s : List ℕ) (files : ℕ) (st : State) (f t a : ℕ) (r : Row) (u v : Option Page) (hu : u ≡ sealed_image files s f r.current) (hv : v ≡ sealed_image files s f r.token) where
   pub write_7 : row_holds_by st.end r u v ≡ false → Refused 7 0 ≡ write_answer s files st f t a r
   unfolding write_answer
   write_7 h =

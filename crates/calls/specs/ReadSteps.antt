@@ -1,9 +1,7 @@
 -- What smaller functions of read and write answer. A reader of document 01 can pass this file over: the laws join it to `on`.
-use Rattle.std.specs.Prelude.{◌≡◌, List, Bool, cond, ◌&&◌, ℕ, suc, ◌+◌, eqb, ltb}
+use Rattle.std.specs.Prelude.{◌≡◌, List, Bool, cond, ◌&&◌, ℕ, suc, ◌+◌, eqb, ltb, Option as Maybe, Some, None}
 use Rattle.std.proofs.Math.Option.{Option, some, none}
 use Rattle.page.specs.declared.Page.{Page}
-use Rattle.page.specs.declared.Sought as sought
-use Rattle.page.specs.declared.Sought.{Sought}
 use Rattle.recovery.specs.Places.{nth}
 use Rattle.recovery.specs.Log.{Image, blank}
 use Rattle.recovery.specs.Sheet.{page_bytes, image_from}
@@ -23,12 +21,12 @@ unfoldable pub read_line : List ℕ → ℕ → ℕ → ℕ
 read_line fates end a = cond (eqb a 0) 0 (action_line fates end a)
 
 -- the image of a page's bytes, by the fields that were found
-abbrev pub image_by : List ℕ → Sought → Option Image
-image_by b (sought.Sought.Image x) = some (image_from b x)
-image_by b sought.Sought.Other = none
+abbrev pub image_by : List ℕ → Maybe Page → Option Image
+image_by b (Some x) = some (image_from b x)
+image_by b None = none
 
 -- a place of a row that line 7 lets through, and what was found there
-pub record Looked (files : ℕ) (s : List ℕ) (file place : ℕ) (u : Sought) : Type 0 where
+pub record Looked (files : ℕ) (s : List ℕ) (file place : ℕ) (u : Maybe Page) : Type 0 where
   pub found : u ≡ sealed_image files s file place
   pub image_is : image_of (nth blank (pages_of s files) place) ≡ image_by (page_bytes s place) u
 

@@ -18,7 +18,7 @@ use Rattle.recovery.specs.World.{down, end_of, highest_bad, undecided_of, cold_r
 use Rattle.recovery.specs.Lent.{row_length, rows_of, flat, Left, refused, closed, open_leaves, rebuild_leaves, sizes_right}
 use Rattle.recovery.specs.declared.Answer.{Answer}
 use Rattle.recovery.specs.declared.Answer.TheVariants.{Refused, Opened, Rebuilt}
-use Rattle.inspection.specs.declared.Inspected.TheVariants.{Lowest}
+use Rattle.std.specs.Prelude.{Ok}
 use Rattle.inspection.specs.Lawful.{lowest_unlawful}
 use Rattle.inspection.specs.Inspected.{inspectable, inspected}
 use Rattle.decay.specs.Decay.{OtherByte, spoiled, Spoiled}
@@ -46,7 +46,7 @@ pub as_stored : pages 2 4 change ≡ log.opening false ∷ seven ∷ eight ∷ l
 unfolding packed head front fields_of lowest highest within between meets_rules is_page_of torn in_bounds tested tabulate decoded sealed pages
 as_stored = refl
 
-pub is_lawful : inspected change 2 ≡ Lowest 0
+pub is_lawful : inspected change 2 ≡ Ok 0
 unfolding packed head front fields_of lowest highest within between meets_rules is_page_of torn in_bounds tested tabulate fate_of images_of not_by effective versions_of token_of decoded sealed pages down end_of lowest_unlawful inspectable inspected
 is_lawful = refl
 
@@ -75,11 +75,11 @@ pub not_opened_met : (p : ℕ) × (4 ≤ p) × (opens other_verdict ≡ refused 
 unfolding packed head front sizes_right
 not_opened_met = verdict_met.not_opened refl (replicate 4 0) (replicate (row_length * 2) 0) 0 refl
 
-pub not_lawful_met : (p : ℕ) × (1 ≤ p) × (p ≤ 4) × (inspected other_verdict 2 ≡ Lowest p)
+pub not_lawful_met : (p : ℕ) × (1 ≤ p) × (p ≤ 4) × (inspected other_verdict 2 ≡ Ok p)
 unfolding packed head front inspectable
 not_lawful_met = verdict_met.not_lawful refl 2 refl
 
-pub named_met : inspected other_verdict 2 ≡ Lowest 4
+pub named_met : inspected other_verdict 2 ≡ Ok 4
 named_met = verdict_met.named refl 2 is_lawful
 
 -- the page test on the page that pack wrote, by its bytes and by what pack was given
@@ -111,13 +111,13 @@ pub action_bad_met : sealed 9 (spoiled change 1 59 1) 3 ≡ log.bad
 unfolding packed head front fields_of lowest highest within between meets_rules is_page_of torn in_bounds tested decoded sealed
 action_bad_met = (decay.sheet_spoiled change 2 1 59 1 refl to_one).action_bad 3 2 9 refl
 
-pub opening_spoiled : ((opens (spoiled change 1 59 1)).answer ≡ Refused 2 4) × (inspected (spoiled change 1 59 1) 2 ≡ Lowest 1)
+pub opening_spoiled : ((opens (spoiled change 1 59 1)).answer ≡ Refused 2 4) × (inspected (spoiled change 1 59 1) 2 ≡ Ok 1)
 unfolding packed head front fields_of lowest highest within between meets_rules is_page_of torn in_bounds tested tabulate fate_of images_of not_by effective versions_of token_of decoded sealed pages down end_of highest_bad rows_of opened open_leaves unfinished lowest_unlawful inspectable inspected
 opening_spoiled = (refl, refl)
 
 -- with its end mark at 0 it is torn, and inspect names the lowest page of the action
 pub opening_torn : (sealed 2 (spoiled change 1 mark_at 0) 1 ≡ log.torn)
-    × ((opens (spoiled change 1 mark_at 0)).answer ≡ Refused 2 4) × (inspected (spoiled change 1 mark_at 0) 2 ≡ Lowest 2)
+    × ((opens (spoiled change 1 mark_at 0)).answer ≡ Refused 2 4) × (inspected (spoiled change 1 mark_at 0) 2 ≡ Ok 2)
 unfolding packed head front fields_of lowest highest within between meets_rules is_page_of torn in_bounds tested tabulate fate_of images_of not_by effective versions_of token_of decoded sealed pages down end_of highest_bad rows_of opened open_leaves unfinished lowest_unlawful inspectable inspected
 opening_torn = (refl, refl, refl)
 
@@ -135,7 +135,7 @@ pub torn_met : sealed 2 halved 3 ≡ log.torn
 unfolding packed head front fields_of lowest highest within between meets_rules is_page_of torn in_bounds tested decoded sealed
 torn_met = (decay.sheet_spoiled change 2 3 mark_at 0 refl to_zero).torn_or_bad 2 refl
 
-pub unseen : ((opens halved).answer ≡ Opened 4 0) × (inspected halved 2 ≡ Lowest 0)
+pub unseen : ((opens halved).answer ≡ Opened 4 0) × (inspected halved 2 ≡ Ok 0)
 unfolding packed head front fields_of lowest highest within between meets_rules is_page_of torn in_bounds tested tabulate fate_of images_of not_by effective versions_of token_of decoded sealed pages down end_of highest_bad undecided_of rows_of opened open_leaves unfinished lowest_unlawful inspectable inspected
 unseen = (refl, refl)
 
@@ -158,7 +158,7 @@ mended =
     ++ packed (outcome 1 1) (replicate value_size 0) 4
 
 pub mistyped_again : (rebuilds mended mended 1 ≡ Rebuilt 3 10 0 0 0)
-    × (rebuilds (spoiled mended 3 mark_at 0) (spoiled mended 3 mark_at 0) 1 ≡ Rebuilt 2 100 0 0 0) × (inspected (spoiled mended 3 mark_at 0) 2 ≡ Lowest 0)
+    × (rebuilds (spoiled mended 3 mark_at 0) (spoiled mended 3 mark_at 0) 1 ≡ Rebuilt 2 100 0 0 0) × (inspected (spoiled mended 3 mark_at 0) 2 ≡ Ok 0)
 unfolding packed head front fields_of lowest highest within between meets_rules is_page_of torn in_bounds tested tabulate fate_of images_of not_by effective versions_of token_of decoded sealed pages down end_of highest_bad undecided_of rows_of opened open_leaves unfinished flat cold_rows warm_row row_holds lent_right rebuilt rebuild_leaves lowest_unlawful inspectable inspected
 mistyped_again = (refl, refl, refl)
 

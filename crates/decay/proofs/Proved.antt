@@ -19,7 +19,7 @@ use Rattle.recovery.proofs.Sizes.{Sizes, sizes_right_lem}
 use Rattle.recovery.proofs.BadPages.{used_end, bad_refused}
 use Rattle.inspection.specs.Lawful.{lawful}
 use Rattle.inspection.specs.Inspected.{inspectable, inspected}
-use Rattle.inspection.specs.declared.Inspected.TheVariants.{Lowest}
+use Rattle.std.specs.Prelude.{Ok}
 use Rattle.inspection.proofs.BadPages.{files_within, bad_unlawful, bad_named, lawful_is, lawful_below}
 use Rattle.decay.specs.Decay.{is_sealed, OtherByte, zeroes_mark, spoiled, Decay}
 use Rattle.decay.proofs.Pages.{page_spoiled}
@@ -56,7 +56,7 @@ module _ (s : List ℕ) (count place i v : ℕ) (was : is_sealed (sealed count s
     bad_for : inspectable (length s) files ≡ true → sealed files t place ≡ bad
     bad_for ok = is_bad_lem files (files_within t files (still ok))
 
-    not_lawful : inspectable (length s) files ≡ true → (p : ℕ) × (1 ≤ p) × (p ≤ place) × (inspected t files ≡ Lowest p)
+    not_lawful : inspectable (length s) files ≡ true → (p : ℕ) × (1 ≤ p) × (p ≤ place) × (inspected t files ≡ Ok p)
     not_lawful ok = bad_unlawful t files (still ok) place from_one has_room_lem (bad_for ok)
 
     -- the pages below are as they were, and lawful
@@ -69,7 +69,7 @@ module _ (s : List ℕ) (count place i v : ℕ) (was : is_sealed (sealed count s
         ∙ sym (page_here files (length s / page_size) s p (omega (arith, has_room_lem, as_long))) in
         rw (e, below_same p (omega arith))
 
-    named : inspected s files ≡ Lowest 0 → inspected t files ≡ Lowest place
+    named : inspected s files ≡ Ok 0 → inspected t files ≡ Ok place
     named e =
         let n : ℕ = length s / page_size in
         let high : place ≤ n = omega (arith, has_room_lem, as_long) in

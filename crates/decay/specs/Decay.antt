@@ -1,16 +1,14 @@
 -- One spoiled byte (document 02, ask 9): a sealed page of which one of the 64 bytes becomes another is never sealed afterwards. It is bad,
 -- except where byte 63, the end mark, became 0: such a page is torn, and counts as never stored.
-use Rattle.std.specs.Prelude.{ℕ, ◌+◌, ◌*◌, ◌-◌, ◌≤◌, ◌<◌, ◌≡◌, List, Bool, true, false, cond, ◌&&◌, length, get_or, set, eqb}
+use Rattle.std.specs.Prelude.{ℕ, ◌+◌, ◌*◌, ◌-◌, ◌≤◌, ◌<◌, ◌≡◌, List, Bool, true, false, cond, ◌&&◌, length, get_or, set, eqb, Ok}
 use Rattle.page.specs.declared.Page.{Page}
 use Rattle.page.specs.declared.Unpacked.TheVariants.{Torn, Unfit}
-use Rattle.page.specs.declared.Packing.{Packing}
 use Rattle.page.specs.Layout.{mark_at, page_size, most_files, value_size}
 use Rattle.page.specs.Table.{within}
 use Rattle.page.specs.Answers.{tested, is_fit_page, packs}
 use Rattle.recovery.specs.Log.{Entry, blank, torn, bad, opening, image, outcome}
 use Rattle.recovery.specs.Sheet.{page_bytes, sealed}
 use Rattle.recovery.specs.Lent.{sizes_right, refused, closed, open_leaves}
-use Rattle.inspection.specs.declared.Inspected.TheVariants.{Lowest}
 use Rattle.inspection.specs.Inspected.{inspectable, inspected}
 
 -- ---- words of the statement
@@ -64,9 +62,9 @@ pub record Spoiled (s : List ℕ) (place i v : ℕ) : Type 0 where
       → (p : ℕ) × (place ≤ p) × (open_leaves (spoiled s place i v) fates rows floor ≡ refused 2 p (spoiled s place i v) fates rows closed)
   -- and past line 1 inspect does not say lawful: it answers a place not above the page
   pub not_lawful : zeroes_mark i v ≡ false → (files : ℕ) → inspectable (length s) files ≡ true
-      → (p : ℕ) × (1 ≤ p) × (p ≤ place) × (inspected (spoiled s place i v) files ≡ Lowest p)
+      → (p : ℕ) × (1 ≤ p) × (p ≤ place) × (inspected (spoiled s place i v) files ≡ Ok p)
   -- the place itself, if the sheet was lawful
-  pub named : zeroes_mark i v ≡ false → (files : ℕ) → inspected s files ≡ Lowest 0 → inspected (spoiled s place i v) files ≡ Lowest place
+  pub named : zeroes_mark i v ≡ false → (files : ℕ) → inspected s files ≡ Ok 0 → inspected (spoiled s place i v) files ≡ Ok place
 
 -- ---- the theorem
 
@@ -77,5 +75,5 @@ pub record Decay : Type 0 where
   pub page_spoiled : (s : List ℕ) (place files files' i v : ℕ) → is_fit_page (tested s place files) ≡ true → OtherByte s i v → within files' 1 most_files ≡ true
       → tested (set s i v) place files' ≡ cond (zeroes_mark i v) Torn Unfit
   -- and so one of a page that was packed
-  pub packed_spoiled : (p : Page) (value out s : List ℕ) (place files files' i v : ℕ) → length value ≡ value_size → packs p value place files out ≡ (Packing.Packed, s)
+  pub packed_spoiled : (p : Page) (value out s : List ℕ) (place files files' i v : ℕ) → length value ≡ value_size → packs p value place files out ≡ (Ok tt, s)
       → OtherByte s i v → within files' 1 most_files ≡ true → tested (set s i v) place files' ≡ cond (zeroes_mark i v) Torn Unfit

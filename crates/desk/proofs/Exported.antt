@@ -7,11 +7,13 @@ use lib.ListN.{length}
 use lib.Dec.{eqb}
 use borrow.Author.Tests.{eq-eqb, ne_eqb}
 use Rattle.page.specs.declared.Page.{Page}
-use Rattle.page.specs.declared.Packing.{Packing}
+use Rattle.page.specs.declared.PackError.{PackError}
+use Rattle.std.specs.Prelude.{Result}
 use Rattle.page.specs.declared.Unpacked.{Unpacked}
 use Rattle.page.specs.Layout.{value_size}
 use Rattle.page.specs.Answers.{packs, pack_number, tested, test_number, test_values}
-use Rattle.inspection.specs.declared.Inspected.{Inspected}
+use Rattle.inspection.specs.declared.InspectError.{InspectError}
+use Rattle.std.specs.Prelude.{Result}
 use Rattle.inspection.specs.Inspected.{inspected, inspect_number, inspect_place}
 use Rattle.weeks.specs.declared.Refusal.{Refusal}
 use Rattle.weeks.specs.declared.WeekTest.{WeekTest}
@@ -43,22 +45,22 @@ pub pack_refused : (p : Page) (value : List ℕ) (place files : ℕ) (out : List
 unfolding packed_for
 pack_refused p value place files out h = rw (ne_eqb (length value) value_size h)
 
-pub pack_left : (p : Page) (value bytes zeros : List ℕ) (place files : ℕ) (out left : List ℕ) (a : Packing) (r : ℕ) → length value ≡ value_size → length zeros ≡ value_size
-    → bytes ≡ cond (eqb (length zeros) (length value)) value zeros → ◌≡◌ {A = Packing × List ℕ} (a, left) (packs p bytes place files out) → r ≡ pack_number a
+pub pack_left : (p : Page) (value bytes zeros : List ℕ) (place files : ℕ) (out left : List ℕ) (a : Result (Unit {0}) PackError) (r : ℕ) → length value ≡ value_size → length zeros ≡ value_size
+    → bytes ≡ cond (eqb (length zeros) (length value)) value zeros → ◌≡◌ {A = Result (Unit {0}) PackError × List ℕ} (a, left) (packs p bytes place files out) → r ≡ pack_number a
     → ◌≡◌ {A = ℕ × List ℕ} (r, left) (packed_for p value place files out)
 unfolding packed_for
 pack_left p value bytes zeros place files out left a r l z b h n =
     let c : bytes ≡ value = b ∙ ap (λ t. cond t value zeros) (eq-eqb (length zeros) (length value) (z ∙ sym l)) in
-    let k : ◌≡◌ {A = Packing × List ℕ} (a, left) (packs p value place files out) = h ∙ ap (λ v. packs p v place files out) c in
+    let k : ◌≡◌ {A = Result (Unit {0}) PackError × List ℕ} (a, left) (packs p value place files out) = h ∙ ap (λ v. packs p v place files out) c in
     rw (eq-eqb (length value) value_size l) (ap (λ x. (x, left)) n ∙ ap numbered k)
 
 -- ---- inspection
 
 -- the answer in one number
-abbrev told : Inspected → ℕ
+abbrev told : Result ℕ InspectError → ℕ
 told x = cond (eqb (inspect_number x) 0) (inspect_place x) refusal_number
 
-pub inspect_told : (s : List ℕ) (files : ℕ) (a v : Inspected) → a ≡ inspected s files → a ≡ v → told v ≡ inspected_for s files
+pub inspect_told : (s : List ℕ) (files : ℕ) (a v : Result ℕ InspectError) → a ≡ inspected s files → a ≡ v → told v ≡ inspected_for s files
 unfolding inspected_for
 inspect_told s files a v e h = ap told (sym h ∙ e)
 

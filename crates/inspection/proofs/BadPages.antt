@@ -21,7 +21,8 @@ use Rattle.recovery.proofs.Pages.{page_at_place, length_down}
 use Rattle.recovery.proofs.BadPages.{used_end}
 use Rattle.inspection.specs.Lawful.{lawful, lowest_unlawful}
 use Rattle.inspection.specs.Inspected.{inspectable, inspected, inspect_place}
-use Rattle.inspection.specs.declared.Inspected.TheVariants.{Refused, Lowest}
+use Rattle.inspection.specs.declared.InspectError.TheVariants.{Sizes}
+use Rattle.std.specs.Prelude.{Ok, Err}
 use Rattle.inspection.proofs.LowestUnlawful.{none_lawful, lowest_here, lowest_le, lowest_stays, lowest_cut}
 
 -- up to a bad page, and further up
@@ -58,7 +59,7 @@ module _ (s : List ℕ) (files : ℕ) where
         let b = and_true sized (leb 1 files) a.0 in
         within_both files 1 most_files (leb-true 1 files b.1) (leb-true files most_files a.1)
 
-    inspected_is : inspected s files ≡ Lowest (lowest_unlawful (down sheet end))
+    inspected_is : inspected s files ≡ Ok (lowest_unlawful (down sheet end))
     unfolding inspected
     inspected_is = rw ok
 
@@ -69,20 +70,20 @@ module _ (s : List ℕ) (files : ℕ) where
       stays : lowest_unlawful (down sheet end) ≡ lowest_unlawful (down sheet p)
       stays = lowest_stays sheet p end (used_end sheet p (ap is_blank here) (length s / page_size) (omega arith)) (lowest_up_to sheet p low here).0
 
-      pub bad_unlawful : (q : ℕ) × (1 ≤ q) × (q ≤ p) × (inspected s files ≡ Lowest q)
-      bad_unlawful = let h = lowest_up_to sheet p low here in (lowest_unlawful (down sheet p), h.0, h.1, inspected_is ∙ ap Lowest stays)
+      pub bad_unlawful : (q : ℕ) × (1 ≤ q) × (q ≤ p) × (inspected s files ≡ Ok q)
+      bad_unlawful = let h = lowest_up_to sheet p low here in (lowest_unlawful (down sheet p), h.0, h.1, inspected_is ∙ ap (λ (x : ℕ). Ok x) stays)
 
       -- if all below it is lawful, that page itself
-      pub bad_named : lawful (down sheet (pred p)) ≡ true → inspected s files ≡ Lowest p
-      bad_named w = inspected_is ∙ ap Lowest (stays ∙ lowest_at sheet p low here w)
+      pub bad_named : lawful (down sheet (pred p)) ≡ true → inspected s files ≡ Ok p
+      bad_named w = inspected_is ∙ ap (λ (x : ℕ). Ok x) (stays ∙ lowest_at sheet p low here w)
 
-  module _ (e : inspected s files ≡ Lowest 0) where
+  module _ (e : inspected s files ≡ Ok 0) where
     -- what is lawful can be inspected, and has no place that does not fit
     pub lawful_is : (inspectable (length s) files ≡ true) × (lowest_unlawful (down sheet end) ≡ 0)
     unfolding inspected
     lawful_is = go (inspectable (length s) files) e
       where
-        go : (b : Bool) → cond b (Lowest (lowest_unlawful (down sheet end))) Refused ≡ Lowest 0 → (b ≡ true) × (lowest_unlawful (down sheet end) ≡ 0)
+        go : (b : Bool) → cond b (Ok (lowest_unlawful (down sheet end))) (Err Sizes) ≡ Ok 0 → (b ≡ true) × (lowest_unlawful (down sheet end) ≡ 0)
         go true q = (refl, ap inspect_place q)
         go false q = clash cc
 

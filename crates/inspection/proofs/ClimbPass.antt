@@ -4,14 +4,13 @@ use mathlib.Core.Path.{◌≡◌, refl, ap, sym, subst, ◌∙◌}
 use mathlib.Core.List.{List, ◌∷◌}
 use mathlib.Core.Bool.{Bool, true, false, cond, ◌&&◌, false≢true}
 use native.Mathlib.Omega.{arith}
-use native.Mathlib.Numerals.{add-one}
-use lib.ListN.{length, get_or}
+use lib.ListN.{length, get_or, replicate}
 use lib.Dec.{eqb, leb}
 use borrow.Author.Tests.{leb-true, leb-false, le-leb, lt-leb}
 use Rattle.encoding.proofs.Logic.{and_true, refused, passed}
 use Rattle.page.specs.declared.Unpacked.{Unpacked}
 use Rattle.page.specs.declared.Unpacked.TheVariants.{Refused, Blank, Torn, Opening, Image, Outcome, Unfit}
-use Rattle.page.specs.Layout.{page_size, most_places}
+use Rattle.page.specs.Layout.{page_size, most_places, most_files}
 use Rattle.page.specs.Answers.{tested, is_blank_page}
 use Rattle.page.proofs.Found.{found, image_is, outcome_is}
 use Rattle.recovery.specs.Places.{nth}
@@ -23,14 +22,17 @@ use Rattle.recovery.proofs.OpeningEnds.{end_le}
 use Rattle.recovery.proofs.BadPages.{used_end}
 use Rattle.recovery.proofs.Spots.{entry_down}
 use Rattle.recovery.proofs.Pages.{page_here, page_at_place, length_down, sealed_is, opening_sealed, blank_sealed}
-use Rattle.inspection.specs.Lawful.{fits_below, lowest_unlawful}
+use Rattle.inspection.specs.Lawful.{fits_below, lawful, lowest_unlawful}
 use Rattle.inspection.specs.Inspected.{inspectable, inspected}
-use Rattle.inspection.specs.declared.Inspected as answers
-use Rattle.inspection.specs.ClimbSteps.{Arrays, Zeroed, page_fits_in, keep_page, InRange}
-use Rattle.inspection.proofs.LowestUnlawful.{lowest_none, lowest_here, lowest_stays, lowest_cut, lowest_out, lowest_in}
+use Rattle.inspection.specs.declared.InspectError.TheVariants.{Sizes}
+use Rattle.std.specs.Prelude.{Ok, Err, Some, None}
+use Rattle.inspection.specs.ClimbSteps.{no_slot, page_fits_in, keep_page, FileInRange, InRange}
+use Rattle.inspection.specs.SomePlace.{some_place}
+use Rattle.inspection.proofs.SomePlace.{found_none, found_some}
+use Rattle.inspection.proofs.LowestUnlawful.{lawful_more, lowest_none, lowest_here, lowest_stays, lowest_cut, lowest_out, lowest_in}
 use Rattle.inspection.proofs.LawfulLogs.{fate_place, fate_opens}
-use Rattle.inspection.proofs.ArraysKnow.{Knows, knows_none, fits_is, keep}
-use Rattle.inspection.proofs.ClimbSteps.{range_file}
+use Rattle.inspection.proofs.ArraysKnow.{Knows, Long, knows_none, fits_is, keep}
+use Rattle.inspection.specs.declared.climbing.Kept.{Kept}
 
 -- what the page layer tells of the page at a place
 pub in_range : (s : List ℕ) (files place : ℕ) (u : Unpacked) → u ≡ tested (page_bytes s place) place files → InRange place u
@@ -49,21 +51,27 @@ in_range s files place Unfit e = tt
 
 -- ---- the way up
 
-pub climb_start : (s : List ℕ) (files m : ℕ) (k : Arrays) → Zeroed k m → Knows (down (pages_of s files) 0) m k
+pub range_file : (place : ℕ) (u : Unpacked) → InRange place u → FileInRange u
+range_file place Refused t = tt
+range_file place Blank t = tt
+range_file place Torn t = tt
+range_file place (Opening p) t = tt
+range_file place (Image p) t = t
+range_file place (Outcome p) t = tt
+range_file place Unfit t = tt
+
+-- arrays of nothing know the empty log
+pub climb_start : (s : List ℕ) (files N : ℕ) (n : ℕ) → suc n ≡ 1 → Knows {n = N} (down (pages_of s files) n) (record { fates = replicate N 0; newest = replicate (suc most_files) no_slot; below = replicate (suc most_files) no_slot })
 unfolding down
-climb_start s files m k z = knows_none m k z
+climb_start s files N zero e = knows_none N (suc most_files)
+climb_start s files N (suc n) e = absurd (omega arith)
 
 module _ (s : List ℕ) (files : ℕ) where
   -- the pages, and what is known of the lowest n
   abbrev log : ℕ → List Entry
   log n = down (pages_of s files) n
 
-  module _ (m n : ℕ) (k : Arrays) (hm : m ≡ length s / page_size) (w : Knows (log n) m k) where
-    pub climb_end : n ≤ m → m ≤ n → 0 ≡ lowest_unlawful (log m)
-    climb_end a b =
-        let e : n ≡ m = omega arith in
-        sym (lowest_none (log n) w.lawful_is) ∙ ap (λ (x : ℕ). lowest_unlawful (log x)) e
-
+  module _ {N : ℕ} (m n : ℕ) (k : Kept N) (hm : m ≡ length s / page_size) (w : Knows (log n) k) where
     -- an action that has a fate below is the place of an opening
     opened : n ≤ m → (a : ℕ) → 1 ≤ fate_number (fate_of (log n) a) → is_opening (decoded files s a) ≡ true
     unfolding sealed
@@ -74,36 +82,50 @@ module _ (s : List ℕ) (files : ℕ) where
         ∙ ap is_opening (sym (page_at_place files (length s / page_size) s a z.0 b)
         ∙ sym (entry_down (pages_of s files) n a (omega (arith, length_down (pages_of s files) n)))) ∙ fate_opens (log n) a w.lawful_is d
 
-    module _ (u : Unpacked) (h : n < m) (e : u ≡ tested (page_bytes s (n + 1)) (n + 1) files) where
+    module _ (place : ℕ) (at : suc n ≡ place) (h : place ≤ m) (u : Unpacked) (e : u ≡ tested (page_bytes s place) place files) where
       abbrev page : Entry
-      page = seal (decoded files s) (entry_of (page_bytes s (n + 1)) u)
+      page = seal (decoded files s) (entry_of (page_bytes s place) u)
 
-      log_up : log (n + 1) ≡ page ∷ log n
+      log_up : log place ≡ page ∷ log n
       unfolding down
       log_up =
-          let z : n + 1 ≡ suc n = add-one n in
-          ap log z
-          ∙ ap (λ (g : Entry). g ∷ log n) (page_here files (length s / page_size) s n (omega arith) ∙ ap (sealed files s) (sym z) ∙ sym (sealed_is s (n + 1) files u e))
+          ap log (sym at)
+          ∙ ap (λ (g : Entry). g ∷ log n) (page_here files (length s / page_size) s n (omega arith) ∙ ap (sealed files s) at ∙ sym (sealed_is s place files u e))
 
-      place_is : suc (length (log n)) ≡ n + 1
+      place_is : suc (length (log n)) ≡ place
       place_is = omega (arith, length_down (pages_of s files) n)
 
       module _ (r : Bool) (q : r ≡ page_fits_in k u) where
         page_fits : r ≡ fits_below page (log n)
-        page_fits = q ∙ fits_is (log n) m k w (decoded files s) (opened (omega arith)) (page_bytes s (n + 1)) u (range_file (n + 1) u (in_range s files (n + 1) u e))
+        page_fits = q ∙ fits_is (log n) k w (decoded files s) (opened (omega arith)) (page_bytes s place) u (range_file place u (in_range s files place u e))
 
-        pub climb_again : r ≡ true → (k' : Arrays) → k' ≡ keep_page k u (n + 1) → Knows (log (n + 1)) m k'
-        climb_again t k' i =
-            let step : Knows (page ∷ log n) m (keep_page k u (suc (length (log n))))
-            = keep (log n) m k w (decoded files s) (page_bytes s (n + 1)) u (omega (arith, place_is)) (subst (λ (x : ℕ). InRange x u) (sym place_is) (in_range s files (n + 1) u e)) (passed page_fits t) in
-            let kept : Knows (page ∷ log n) m k' = subst (λ (x : Arrays). Knows (page ∷ log n) m x) (ap (keep_page k u) place_is ∙ sym i) step in
-            subst (λ (l : List Entry). Knows l m k') (sym log_up) kept
+        kept_up : r ≡ true → Long k → m < N → Knows (log place) (keep_page k u place)
+        kept_up t long room =
+            let step : Knows (page ∷ log n) (keep_page k u (suc (length (log n))))
+            = keep (log n) k w long (decoded files s) (page_bytes s place) u (omega (arith, place_is)) (subst (λ (x : ℕ). InRange x u) (sym place_is) (in_range s files place u e)) (passed page_fits t) in
+            subst (λ (l : List Entry). Knows l (keep_page k u place)) (sym log_up) (subst (λ (x : ℕ). Knows (page ∷ log n) (keep_page k u x)) place_is step)
 
-        pub climb_stop : r ≡ false → n + 1 ≡ lowest_unlawful (log m)
+        pub climb_again : r ≡ true → Long k → m < N → (k' : Kept N) → k' ≡ keep_page k u place → (n' : ℕ) → suc n' ≡ place + 1 → Knows (log n') k'
+        climb_again t long room k' i n' j =
+            let z : place ≡ n' = omega arith in
+            subst (λ (x : ℕ). Knows (log x) k') z (subst (λ (x : Kept N). Knows (log place) x) (sym i) (kept_up t long room))
+
+        -- the last page fits
+        pub climb_last : r ≡ true → m ≤ place → None ≡ some_place (lowest_unlawful (log m))
+        climb_last t last =
+            let top : place ≡ m = omega arith in
+            let fits : lawful (page ∷ log n) ≡ true = lawful_more page (log n) (passed page_fits t) w.lawful_is in
+            ap some_place (sym (lowest_none (page ∷ log n) fits) ∙ ap lowest_unlawful (sym log_up) ∙ ap (λ (x : ℕ). lowest_unlawful (log x)) top)
+
+        pub climb_stop : r ≡ false → Some place ≡ some_place (lowest_unlawful (log m))
         climb_stop t =
-            let here : lowest_unlawful (log (n + 1)) ≡ n + 1
+            let here : lowest_unlawful (log place) ≡ place
             = ap lowest_unlawful log_up ∙ lowest_here page (log n) w.lawful_is (refused page_fits t) ∙ place_is in
-            sym (lowest_stays (pages_of s files) (n + 1) m (omega arith) (omega arith) ∙ here)
+            subst (λ (x : ℕ). Some x ≡ some_place x) at refl
+            ∙ ap some_place (sym (lowest_stays (pages_of s files) place m h (omega arith) ∙ here))
+
+    pub climb_end : n ≡ m → None ≡ some_place (lowest_unlawful (log m))
+    climb_end e = ap some_place (sym (lowest_none (log n) w.lawful_is) ∙ ap (λ (x : ℕ). lowest_unlawful (log x)) e)
 
 -- ---- the end: the pages from a place on are all blank, or one is used
 
@@ -148,25 +170,32 @@ module _ (s : List ℕ) (files m p : ℕ) (u : Unpacked) (b : Bool) (hm : m ≡ 
 -- ---- the answer
 
 -- the three ends of the pass
-module _ (s : List ℕ) (files r : ℕ) (q : r ≡ lowest_unlawful (down (pages_of s files) (length s / page_size))) where
+module _ (s : List ℕ) (files : ℕ) where
   abbrev end : ℕ
   end = end_of (pages_of s files) (length s / page_size)
 
   le : end ≤ length s / page_size
   le = end_le (pages_of s files) (length s / page_size)
 
-  pub upward_none : r ≡ 0 → 0 ≡ lowest_unlawful (down (pages_of s files) end)
-  upward_none z = lowest_cut (pages_of s files) end (length s / page_size) le (sym q ∙ z)
+  abbrev lowest_here_of : ℕ → ℕ
+  lowest_here_of n = lowest_unlawful (down (pages_of s files) n)
 
-  pub upward_found : (r ≡ 0 → ⊥) → (b : Bool) → b ≡ leb r end → b ≡ true → r ≡ lowest_unlawful (down (pages_of s files) end)
-  upward_found n b e t =
-      let l : r ≤ end = leb-true r end (sym e ∙ t) in
-      q ∙ lowest_in (pages_of s files) end (length s / page_size) le (omega (arith, n, q)) (omega (arith, q))
+  pub upward_none : None ≡ some_place (lowest_here_of (length s / page_size)) → 0 ≡ lowest_here_of end
+  upward_none q = lowest_cut (pages_of s files) end (length s / page_size) le (found_none _ q)
 
-  pub upward_blank : (b : Bool) → b ≡ leb r end → b ≡ false → 0 ≡ lowest_unlawful (down (pages_of s files) end)
-  upward_blank b e t =
-      let l : end < r = leb-false r end (sym e ∙ t) in
-      lowest_out (pages_of s files) end (length s / page_size) le (omega (arith, q))
+  module _ (p : ℕ) (q : Some p ≡ some_place (lowest_here_of (length s / page_size))) (b : Bool) (e : b ≡ leb p end) where
+    is_p : (p ≡ lowest_here_of (length s / page_size)) × (1 ≤ p)
+    is_p = found_some _ p q
+
+    pub upward_found : b ≡ true → p ≡ lowest_here_of end
+    upward_found t =
+        let l : p ≤ end = leb-true p end (sym e ∙ t) in
+        is_p.0 ∙ lowest_in (pages_of s files) end (length s / page_size) le (omega (arith, is_p.0, is_p.1)) (omega (arith, is_p.0))
+
+    pub upward_blank : b ≡ false → 0 ≡ lowest_here_of end
+    upward_blank t =
+        let l : end < p = leb-false p end (sym e ∙ t) in
+        lowest_out (pages_of s files) end (length s / page_size) le (omega (arith, is_p.0))
 
 pub most : (size files : ℕ) → inspectable size files ≡ true → size / page_size ≤ most_places
 unfolding inspectable
@@ -177,11 +206,11 @@ most size files h =
     let m : size ≤ most_places * page_size = leb-true size (most_places * page_size) c.1 in
     omega arith
 
-pub inspected_no : (s : List ℕ) (files : ℕ) → inspectable (length s) files ≡ false → answers.Inspected.Refused ≡ inspected s files
+pub inspected_no : (s : List ℕ) (files : ℕ) → inspectable (length s) files ≡ false → Err Sizes ≡ inspected s files
 unfolding inspected
 inspected_no s files h = rw h
 
 pub inspected_yes : (s : List ℕ) (files r : ℕ) → inspectable (length s) files ≡ true
-    → r ≡ lowest_unlawful (down (pages_of s files) (end_of (pages_of s files) (length s / page_size))) → answers.Inspected.Lowest r ≡ inspected s files
+    → r ≡ lowest_unlawful (down (pages_of s files) (end_of (pages_of s files) (length s / page_size))) → Ok r ≡ inspected s files
 unfolding inspected
 inspected_yes s files r h q = rw (h, q)

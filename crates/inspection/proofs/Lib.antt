@@ -1,8 +1,7 @@
 pub mod LowestUnlawful
 pub mod BadPages
 pub mod LawfulLogs
-pub mod Slots
 pub mod ArraysKnow
-pub mod ClimbSteps
 pub mod ClimbPass
 pub mod NoSecondOutcome
+pub mod SomePlace

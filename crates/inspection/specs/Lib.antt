@@ -1,3 +1,4 @@
 pub mod Lawful
 pub mod Inspected
 pub mod ClimbSteps
+pub mod SomePlace

@@ -1,19 +1,20 @@
-// The climb: one pass upward over the pages. What it keeps lies in local arrays, which it takes as slices, so that a small sheet
-// has small ones: clearing 64 KiB takes long beside a pass over a few hundred pages.
-ghost use Rattle.std.specs.Prelude.{◌≡◌, ◌/◌, ◌≤◌, length, get_or, leb};
+// The climb: one pass upward over the pages. A small sheet has few fates to be cleared: 64 KiB of them take long beside a pass over a few
+// hundred pages.
+ghost use Rattle.std.specs.Prelude.{◌≡◌, ◌/◌, ◌≤◌, ◌<◌, suc, length, get_or, leb};
 ghost use Rattle.page.specs.Layout.{page_size, most_places, most_files};
 ghost use Rattle.recovery.specs.World.{down, end_of};
 ghost use Rattle.recovery.specs.Lent.{pages_of};
-ghost use Rattle.recovery.specs.Steps.{few_pages};
 ghost use Rattle.inspection.specs.Lawful.{lowest_unlawful};
 ghost use Rattle.inspection.specs.Inspected.{inspected};
-ghost use Rattle.inspection.specs.ClimbSteps.{slot_numbers, arrays, LongEnough, Zeroed, slot_at, put_slot, version_in, image_fits_in, page_fits_in, keep_image, keep_page, FileInRange, InRange};
+ghost use Rattle.inspection.specs.SomePlace.{some_place};
+ghost use Rattle.inspection.specs.ClimbSteps.{version_in, image_fits_in, page_fits_in, keep_image, keep_page, FileInRange, InRange};
 
-use crate::{Inspected, is_inspectable};
+use crate::{InspectError, is_inspectable};
 use page::{Page, Unpacked};
 use recovery::{FEW_PAGES, is_blank_at, page_at};
 
-// An image: its place, its action and its start. Place 0 is none.
+// An image: its place, its action and its start. Place 0 is none, and no Option is: an image links to place 0 where its file has no
+// version, and one comparison serves both.
 #[derive(Clone, Copy)]
 struct Slot {
     place: u64,
@@ -21,185 +22,142 @@ struct Slot {
     start: u64,
 }
 
-// How many numbers the slots of every file take, three a file from file 0 on.
-const SLOT_NUMBERS: usize = 3 * (Page::MOST_FILES as usize + 1);
-
-// The image kept of a file.
-fn get_slot(slots: &[u64], file: u64) -> Slot
-    requires { (file ≤ most_files) × (length slots.now ≡ slot_numbers) }
-    ensures { result ≡ slot_at slots.now file }
-{
-    let a = 3 * (file as usize);
-    let place = slots[a];
-    let action = slots[a + 1];
-    let start = slots[a + 2];
-    Slot {
-        place,
-        action,
-        start,
-    }
-}
-
-// Keeps an image of a file.
-fn put_slot(slots: &mut [u64], file: u64, s: Slot)
-    requires { (file ≤ most_files) × (length slots.old ≡ slot_numbers) }
-    ensures { slots.new ≡ put_slot slots.old file s }
-{
-    let a = 3 * (file as usize);
-    slots[a] = s.place;
-    slots[a + 1] = s.action;
-    slots[a + 2] = s.start;
-}
-
-// The fate kept of an action, 0 for a number that is no place.
-fn fate_of(fates: &[u8], action: u64) -> u8
-    ensures { result ≡ get_or fates.now action 0 }
-{
-    let a = action as usize;
-    if fates.len() <= a {
-        return 0;
-    }
-    fates[a]
-}
-
-// The newest version of a file: its newest image if that is committed by now.
-fn version_of(fates: &[u8], newest: &[u64], below: &[u64], file: u64) -> Slot
-    requires { (file ≤ most_files) × (length newest.now ≡ slot_numbers) × (length below.now ≡ slot_numbers) }
-    ensures { result ≡ version_in (arrays fates.now newest.now below.now) file }
-{
-    let last = get_slot(newest, file);
-    let action = last.action;
-    if fate_of(fates, action) == 2 {
-        return last;
-    }
-    get_slot(below, file)
-}
-
-// Whether an image fits the pages below it.
-fn image_fits(p: Page, fates: &[u8], newest: &[u64], below: &[u64]) -> bool
-    requires { (p.file ≤ most_files) × (length newest.now ≡ slot_numbers) × (length below.now ≡ slot_numbers) }
-    ensures { result ≡ image_fits_in (arrays fates.now newest.now below.now) p }
-{
-    if fate_of(fates, p.action) != 1 {
-        return false;
-    }
-    let last = get_slot(newest, p.file);
-    if (fate_of(fates, last.action) == 1) & (last.action != p.action) {
-        return false;
-    }
-    let version = version_of(fates, newest, below, p.file);
-    if p.link != version.place {
-        return false;
-    }
-    version.start < p.start
-}
-
-// Whether a page fits the pages below it.
-fn page_fits(found: Unpacked, fates: &[u8], newest: &[u64], below: &[u64]) -> bool
-    requires { FileInRange found × (length newest.now ≡ slot_numbers) × (length below.now ≡ slot_numbers) }
-    ensures { result ≡ page_fits_in (arrays fates.now newest.now below.now) found }
-{
-    match found {
-        Unpacked::Torn => true,
-        Unpacked::Opening(p) => true,
-        Unpacked::Image(p) => image_fits(p, fates, newest, below),
-        Unpacked::Outcome(p) => fate_of(fates, p.action) == 1,
-        _ => false,
-    }
-}
-
-// Keeps an image as the newest of its file, above the version found until now.
-fn keep_image(p: Page, place: u64, fates: &[u8], newest: &mut [u64], below: &mut [u64])
-    requires { (p.file ≤ most_files) × (length newest.old ≡ slot_numbers) × (length below.old ≡ slot_numbers) }
-    ensures { arrays fates.now newest.new below.new ≡ keep_image (arrays fates.now newest.old below.old) p place }
-{
-    let version = version_of(fates, newest, below, p.file);
-    put_slot(below, p.file, version);
-    let image = Slot {
-        place,
-        action: p.action,
-        start: p.start,
+impl Slot {
+    const NONE: Slot = Slot {
+        place: 0,
+        action: 0,
+        start: 0,
     };
-    put_slot(newest, p.file, image);
 }
 
-// Keeps what a page that fits says.
-fn keep_page(found: Unpacked, place: u64, fates: &mut [u8], newest: &mut [u64], below: &mut [u64])
-    requires { InRange place found × LongEnough (arrays fates.old newest.old below.old) place }
-    ensures { arrays fates.new newest.new below.new ≡ keep_page (arrays fates.old newest.old below.old) found place }
-{
-    match found {
-        Unpacked::Opening(p) => {
-            fates[place as usize] = 1;
+// A slot for every file, from file 0 on.
+const SLOTS: usize = Page::MOST_FILES as usize + 1;
+
+// How many fates a small sheet needs, and any sheet: one for every place, from place 0 on.
+const FEW_FATES: usize = FEW_PAGES + 1;
+
+const MOST_FATES: usize = Page::MOST_PLACES as usize + 1;
+
+// What is kept of the pages below: a fate for each place below N, and for each file its newest image and the newest version below that.
+// A fate is a number as in the lent fates (`fate_number`): the laws of the log speak of those.
+#[derive(Drop)]
+struct Kept<const N: usize> {
+    fates: [u8; N],
+    newest: [Slot; SLOTS],
+    below: [Slot; SLOTS],
+}
+
+impl<const N: usize> Kept<N> {
+    // The fate kept of an action, 0 for a number that is no place.
+    fn fate_of(&self, action: u64) -> u8
+        ensures { result ≡ get_or self.now.fates action 0 }
+    {
+        self.fates.get(action as usize).copied().unwrap_or(0)
+    }
+
+    // The newest version of a file: its newest image if that is committed by now.
+    #[tactic(auto, unfolding(crate::specs::ClimbSteps::version_in))]
+    fn version_of(&self, file: u64) -> Slot
+        requires { file ≤ most_files }
+        ensures { result ≡ version_in self.now file }
+    {
+        let last = self.newest[file as usize];
+        if self.fate_of(last.action) == 2 {
+            return last;
         }
-        Unpacked::Image(p) => {
-            keep_image(p, place, fates, newest, below);
+        self.below[file as usize]
+    }
+
+    // Whether an image fits the pages below it.
+    #[tactic(auto, unfolding(crate::specs::ClimbSteps::image_fits_in))]
+    fn image_fits(&self, p: Page) -> bool
+        requires { p.file ≤ most_files }
+        ensures { result ≡ image_fits_in self.now p }
+    {
+        if self.fate_of(p.action) != 1 {
+            return false;
         }
-        Unpacked::Outcome(p) => {
-            let at = p.action as usize;
-            let fate = p.small + 1;
-            fates[at] = fate as u8;
+        let last = self.newest[p.file as usize];
+        if (self.fate_of(last.action) == 1) & (last.action != p.action) {
+            return false;
         }
-        _ => {}
+        let version = self.version_of(p.file);
+        (p.link == version.place) & (version.start < p.start)
+    }
+
+    // Whether a page fits the pages below it.
+    fn page_fits(&self, found: Unpacked) -> bool
+        requires { FileInRange found }
+        ensures { result ≡ page_fits_in self.now found }
+    {
+        match found {
+            Unpacked::Torn | Unpacked::Opening(_) => true,
+            Unpacked::Image(p) => self.image_fits(p),
+            Unpacked::Outcome(p) => self.fate_of(p.action) == 1,
+            _ => false,
+        }
+    }
+
+    // Keeps an image as the newest of its file, above the version found until now.
+    #[tactic(auto, unfolding(crate::specs::ClimbSteps::keep_image))]
+    fn keep_image(&mut self, p: Page, place: u64)
+        requires { p.file ≤ most_files }
+        ensures { self.new ≡ keep_image self.old p place }
+    {
+        self.below[p.file as usize] = self.version_of(p.file);
+        self.newest[p.file as usize] = Slot {
+            place,
+            action: p.action,
+            start: p.start,
+        };
+    }
+
+    // Keeps what a page that fits says.
+    fn keep_page(&mut self, found: Unpacked, place: u64)
+        requires { InRange place found × (place < N) }
+        ensures { self.new ≡ keep_page self.old found place }
+    {
+        match found {
+            Unpacked::Opening(_) => self.fates[place as usize] = 1,
+            Unpacked::Image(p) => self.keep_image(p, place),
+            Unpacked::Outcome(p) => {
+                let fate = p.small + 1;
+                self.fates[p.action as usize] = fate as u8;
+            }
+            _ => {}
+        }
     }
 }
 
-// The lowest place up to a number of pages that is bad or does not fit the pages below it, 0 if none.
-fn climb(
-    sheet: &[u8],
-    files: u64,
-    pages: u64,
-    fates: &mut [u8],
-    newest: &mut [u64],
-    below: &mut [u64],
-) -> u64
-    requires { (pages ≤ most_places) × (pages ≡ length sheet.now / page_size) × Zeroed (arrays fates.old newest.old below.old) pages }
-    ensures { result ≡ lowest_unlawful (down (pages_of sheet.now files) pages) }
+// The lowest place up to a number of pages that is bad or does not fit the pages below it.
+fn climb<const N: usize>(sheet: &[u8], files: u64, pages: u64) -> Option<u64>
+    requires { (pages < N) × (N ≤ suc most_places) × (pages ≡ length sheet.now / page_size) }
+    ensures { result ≡ some_place (lowest_unlawful (down (pages_of sheet.now files) pages)) }
 {
-    let mut n: u64 = 0;
-    while n < pages {
-        let place = n + 1;
+    let mut kept: Kept<N> = Kept {
+        fates: [0; N],
+        newest: [Slot::NONE; SLOTS],
+        below: [Slot::NONE; SLOTS],
+    };
+    for place in 1..=pages {
         let found = page_at(sheet, place, files);
-        if !page_fits(found, fates, newest, below) {
-            return place;
+        if !kept.page_fits(found) {
+            return Some(place);
         }
-        keep_page(found, place, fates, newest, below);
-        n = place;
+        kept.keep_page(found, place);
     }
-    0
-}
-
-// The climb on a small sheet.
-fn climb_small(sheet: &[u8], files: u64, pages: u64) -> u64
-    requires { (pages ≤ few_pages) × (pages ≡ length sheet.now / page_size) }
-    ensures { result ≡ lowest_unlawful (down (pages_of sheet.now files) pages) }
-{
-    let mut fates = [0u8; FEW_PAGES + 1];
-    let mut newest = [0u64; SLOT_NUMBERS];
-    let mut below = [0u64; SLOT_NUMBERS];
-    climb(sheet, files, pages, &mut fates, &mut newest, &mut below)
-}
-
-// The climb on any sheet.
-fn climb_large(sheet: &[u8], files: u64, pages: u64) -> u64
-    requires { (pages ≤ most_places) × (pages ≡ length sheet.now / page_size) }
-    ensures { result ≡ lowest_unlawful (down (pages_of sheet.now files) pages) }
-{
-    let mut fates = [0u8; Page::MOST_PLACES as usize + 1];
-    let mut newest = [0u64; SLOT_NUMBERS];
-    let mut below = [0u64; SLOT_NUMBERS];
-    climb(sheet, files, pages, &mut fates, &mut newest, &mut below)
+    None
 }
 
 // The climb, with arrays by the sheet's size.
-fn climb_sheet(sheet: &[u8], files: u64, pages: u64) -> u64
+fn climb_sheet(sheet: &[u8], files: u64, pages: u64) -> Option<u64>
     requires { (pages ≤ most_places) × (pages ≡ length sheet.now / page_size) }
-    ensures { result ≡ lowest_unlawful (down (pages_of sheet.now files) pages) }
+    ensures { result ≡ some_place (lowest_unlawful (down (pages_of sheet.now files) pages)) }
 {
     if pages <= FEW_PAGES as u64 {
-        return climb_small(sheet, files, pages);
+        return climb::<FEW_FATES>(sheet, files, pages);
     }
-    climb_large(sheet, files, pages)
+    climb::<MOST_FATES>(sheet, files, pages)
 }
 
 // Whether a page from a place up to a number of pages is not blank.
@@ -207,12 +165,10 @@ fn is_used_from(sheet: &[u8], files: u64, from: u64, pages: u64) -> bool
     requires { (1 ≤ from) × (pages ≤ most_places) × (pages ≡ length sheet.now / page_size) }
     ensures { result ≡ leb from (end_of (pages_of sheet.now files) pages) }
 {
-    let mut place = from;
-    while place <= pages {
+    for place in from..=pages {
         if !is_blank_at(sheet, place, files) {
             return true;
         }
-        place += 1;
     }
     false
 }
@@ -223,22 +179,19 @@ fn lowest(sheet: &[u8], files: u64) -> u64
     ensures { result ≡ lowest_unlawful (down (pages_of sheet.now files) (end_of (pages_of sheet.now files) (length sheet.now / page_size))) }
 {
     let pages = (sheet.len() / Page::SIZE) as u64;
-    let place = climb_sheet(sheet, files, pages);
-    if place == 0 {
-        return 0;
+    match climb_sheet(sheet, files, pages) {
+        Some(place) if is_used_from(sheet, files, place, pages) => place,
+        _ => 0,
     }
-    if is_used_from(sheet, files, place, pages) {
-        return place;
-    }
-    0
 }
 
-// Whether a sheet is lawful: 0, or the lowest place that is bad or does not fit those below it. One pass upward.
-pub fn inspect(sheet: &[u8], files: u64) -> Inspected
+// Whether a sheet is lawful: 0, or the lowest place that is bad or does not fit those below it. One pass upward. 0 stays the number of
+// a lawful sheet, and no None: the law `inspect_numbers` tells every two answers apart by C's numbers, where a Some(0) would be it too.
+pub fn inspect(sheet: &[u8], files: u64) -> Result<u64, InspectError>
     ensures { result ≡ inspected sheet.now files }
 {
     if !is_inspectable(sheet.len(), files) {
-        return Inspected::Refused;
+        return Err(InspectError::Sizes);
     }
-    Inspected::Lowest(lowest(sheet, files))
+    Ok(lowest(sheet, files))
 }

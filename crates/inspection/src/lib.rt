@@ -9,11 +9,10 @@ ghost use Rattle.inspection.specs.Inspected.{inspectable};
 pub use climbing::inspect;
 use page::Page;
 
-// What inspect answers: refusal 1, or the lowest place that is bad or does not fit, 0 if the sheet is lawful.
+// Why inspect refuses, line 1: the sheet's bytes or the file count cannot be.
 #[derive(Clone, Copy)]
-pub enum Inspected {
-    Refused,
-    Lowest(u64),
+pub enum InspectError {
+    Sizes,
 }
 
 // Line 1 for a sheet's bytes and a file count.

@@ -30,7 +30,7 @@ use Rattle.recovery.proofs.Pages.{pages_long, page_here}
 use Rattle.recovery.proofs.FlatRows.{rows_long}
 use Rattle.inspection.specs.Lawful.{lowest_unlawful}
 use Rattle.inspection.specs.Inspected.{inspectable, inspected}
-use Rattle.inspection.specs.declared.Inspected.TheVariants.{Lowest}
+use Rattle.std.specs.Prelude.{Ok}
 use Rattle.calls.proofs.Appends.{blank_is}
 use Rattle.moving.specs.Moved.{warm_rows, version_of, carried_by, versions_to, move_pages, Move, moved}
 use Rattle.moving.specs.MoveLeaves.{onto, MoveLeft, move_leaves}
@@ -222,10 +222,10 @@ module _ (s fates rows : List ℕ) (state : State) (fresh : List ℕ) (floor : �
         le-leb files most_files few_files.1,
       )
 
-  pub fresh_inspected : inspected x.fresh files ≡ Lowest 0
+  pub fresh_inspected : inspected x.fresh files ≡ Ok 0
   unfolding inspected
   fresh_inspected =
-      rw can_inspect (ap Lowest (lawful_as (pages_of x.fresh files) (length x.fresh / page_size) pages_are (sym (pages_long files (length x.fresh / page_size) x.fresh))))
+      rw can_inspect (ap (λ (x : ℕ). Ok x) (lawful_as (pages_of x.fresh files) (length x.fresh / page_size) pages_are (sym (pages_long files (length x.fresh / page_size) x.fresh))))
 
   -- ---- opened for as many files, with any floor
 

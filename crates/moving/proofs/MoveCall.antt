@@ -6,7 +6,7 @@ use mathlib.Core.List.{List}
 use native.Mathlib.Omega.{arith}
 use lib.ListN.{length}
 use lib.Dec.{eqb}
-use borrow.Author.Tests.{eq-eqb, ne_eqb}
+use borrow.Author.Tests.{ne_eqb}
 use Rattle.encoding.proofs.Logic.{and_true}
 use Rattle.page.specs.Layout.{page_size}
 use Rattle.recovery.specs.Log.{Entry}
@@ -18,6 +18,9 @@ use Rattle.recovery.specs.Steps.{line_one}
 use Rattle.recovery.proofs.Pages.{pages_long}
 use Rattle.recovery.proofs.FlatRows.{flat_rows}
 use Rattle.recovery.proofs.Leaves.{whole_is, lent_right_lem}
+use Rattle.std.specs.Prelude.{Some, None}
+use Rattle.inspection.specs.SomePlace.{some_place}
+use Rattle.inspection.proofs.SomePlace.{found_none, found_some}
 use Rattle.moving.specs.Moved.{is_sheet, lowest_undecided, warm_rows, on_rows, moved}
 use Rattle.moving.specs.MoveLeaves.{MoveLeft, move_by, lower_move, warm_move, move_leaves}
 use Rattle.moving.specs.MoveSteps.{move_line_one, warm_run, refusal_at}
@@ -85,16 +88,17 @@ module _ (s fs rs : List ℕ) (st : State) (fresh : List ℕ) where
     lent_ok = lent_right_lem s fs rs st wholes ∙ lines.0
 
     -- 23
-    pub move_busy : (p : ℕ) → p ≡ lowest_undecided fs st.end → (p ≡ 0 → ⊥) → (r : Done) → r ≡ refusal_at 23 p st → move_by r s fs rs fresh ≡ move_leaves s fs rs st fresh
+    pub move_busy : (p : ℕ) → Some p ≡ some_place (lowest_undecided fs st.end) → (r : Done) → r ≡ refusal_at 23 p st → move_by r s fs rs fresh ≡ move_leaves s fs rs st fresh
     unfolding moved
-    move_busy p hp z r e =
-        let m : moved w sheet ≡ (refuse 23 p w, sheet) = rw (lent_ok, long, lines.1, ← hp, ne_eqb p 0 z) in
+    move_busy p hp r e =
+        let k = found_some _ p hp in
+        let m : moved w sheet ≡ (refuse 23 p w, sheet) = rw (lent_ok, long, lines.1, ← k.0, ne_eqb p 0 (λ z. omega (arith, k.1))) in
         refused_as s fs rs st fresh wholes 23 p r e ∙ ap (lower_move s fresh) (sym m) ∙ leaves_moved
 
     -- on rebuilt rows
     module _ (xs : List ℕ) (hx : xs ≡ warm_run s fs rs st) where
       same_long : length xs ≡ length rs
-      same_long = warm_long s fs rs st lines.0 files xs (hx ∙ sym (warm_end s fs rs st lines.0 files (omega arith) (omega arith)))
+      same_long = warm_long s fs rs st lines.0 files xs (hx ∙ sym (warm_end s fs rs st lines.0 files refl))
 
       pub still_ok : move_line_one (length s) (length fs) (length xs) st.end st.undecided (length fresh) ≡ true
       still_ok = rw same_long ok
@@ -105,10 +109,10 @@ module _ (s fs rs : List ℕ) (st : State) (fresh : List ℕ) where
           let e : rows_of xs ≡ (warm_rows w).rows = ap rows_of hx ∙ flat_rows (warm_rows w).rows in
           rw (same_long, e)
 
-      pub move_on_lem : (p : ℕ) → p ≡ lowest_undecided fs st.end → p ≡ 0 → (x : MoveLeft) → x ≡ warm_move s fs xs st fresh → x ≡ move_leaves s fs rs st fresh
+      pub move_on_lem : None ≡ some_place (lowest_undecided fs st.end) → (x : MoveLeft) → x ≡ warm_move s fs xs st fresh → x ≡ move_leaves s fs rs st fresh
       unfolding moved warm_move
-      move_on_lem p hp z x e =
-          let m : moved w sheet ≡ on_rows (warm_rows w) sheet = rw (lent_ok, long, lines.1, ← hp, eq-eqb p 0 z) in
+      move_on_lem hp x e =
+          let m : moved w sheet ≡ on_rows (warm_rows w) sheet = rw (lent_ok, long, lines.1, found_none _ hp) in
           let k : on_rows (lent s fs xs st) (pages_of fresh (length xs / row_length)) ≡ on_rows (warm_rows w) sheet =
           ap (λ (v : World). on_rows v (pages_of fresh (length xs / row_length))) world_is ∙ ap (λ (n : ℕ). on_rows (warm_rows w) (pages_of fresh (n / row_length))) same_long in
           e ∙ ap (lower_move s fresh) (k ∙ sym m) ∙ leaves_moved

@@ -24,6 +24,9 @@ use Rattle.recovery.proofs.FlatRows.{rows_long}
 use Rattle.recovery.proofs.Leaves.{rows_back, whole_is}
 use Rattle.calls.proofs.Ends.{lent_is}
 use Rattle.encoding.specs.Lowest.{lowest}
+use Rattle.std.specs.Prelude.{Some, None}
+use Rattle.inspection.specs.SomePlace.{some_place}
+use Rattle.inspection.proofs.SomePlace.{found_none, found_some}
 use Rattle.moving.specs.Moved.{is_sheet, is_unused, lowest_damaged, versions_to, move_pages, highest_end, on_rows}
 use Rattle.moving.specs.MoveLeaves.{move_by, lower_move, warm_move}
 use Rattle.moving.specs.MoveSteps.{move_line_one, is_damaged, places_to, survey_to, stores_all, Roomy, refusal_at}
@@ -70,9 +73,9 @@ module _ (s fs rs : List ℕ) (st : State) (fresh : List ℕ)
   damaged_is = rw (rows_long rs)
 
   module _ (v : Survey) (hv : v ≡ survey_to s files st.end rs st.floor files) where
-    damaged_here : v.damaged ≡ lowest_damaged w (length w.rows)
+    damaged_here : v.damaged ≡ some_place (lowest_damaged w (length w.rows))
     unfolding survey_to
-    damaged_here = ap (λ (x : Survey). x.damaged) hv ∙ damaged_is
+    damaged_here = ap (λ (x : Survey). x.damaged) hv ∙ ap some_place damaged_is
 
     versions_here : v.versions ≡ places_to rs files
     unfolding survey_to
@@ -85,16 +88,16 @@ module _ (s fs rs : List ℕ) (st : State) (fresh : List ℕ)
     pub versions_few : v.versions ≤ files
     versions_few = rw versions_here (places_few rs files)
 
-    pub warm_damaged : (v.damaged ≡ 0 → ⊥) → (r : Done) → r ≡ refusal_at 7 v.damaged st → move_by r s fs rs fresh ≡ warm_move s fs rs st fresh
+    pub warm_damaged : (f : ℕ) → v.damaged ≡ Some f → (r : Done) → r ≡ refusal_at 7 f st → move_by r s fs rs fresh ≡ warm_move s fs rs st fresh
     unfolding warm_move
-    warm_damaged z r h =
-        let k : lowest_damaged w (length w.rows) ≡ v.damaged = sym damaged_here in
-        let m : on_rows w sheet ≡ (refuse 7 v.damaged w, sheet) = rw (k, ne_eqb v.damaged 0 z) in
-        refused_here 7 v.damaged r h ∙ ap (lower_move s fresh) (sym m)
+    warm_damaged f z r h =
+        let k = found_some _ f (sym z ∙ damaged_here) in
+        let m : on_rows w sheet ≡ (refuse 7 f w, sheet) = rw (← k.0, ne_eqb f 0 (λ i. omega (arith, k.1))) in
+        refused_here 7 f r h ∙ ap (lower_move s fresh) (sym m)
 
-    module _ (z : v.damaged ≡ 0) where
+    module _ (z : v.damaged ≡ None) where
       none : lowest_damaged w (length w.rows) ≡ 0
-      none = sym damaged_here ∙ z
+      none = found_none _ (sym z ∙ damaged_here)
 
       held : (f : ℕ) → 1 ≤ f → f ≤ files → row_holds w f (row_at w f) ≡ true
       held f h l = none_damaged w (length w.rows) none f h (rw (rows_long rs) l)

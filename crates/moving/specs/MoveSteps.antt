@@ -1,5 +1,8 @@
 -- What smaller functions of the move answer. Whoever reads what the move is can pass this file over: the laws join it to `moved`.
-use Rattle.std.specs.Prelude.{List, Bool, not, cond, ◌&&◌, ℕ, zero, suc, max, ◌+◌, ◌*◌, ◌/◌, ◌%◌, ◌≤◌, replicate, eqb}
+use Rattle.page.specs.declared.Page.{Page}
+use Rattle.std.specs.Prelude.{List, Bool, not, cond, ◌&&◌, ℕ, zero, suc, max, ◌+◌, ◌*◌, ◌/◌, ◌%◌, ◌≤◌, replicate, eqb, Option, Some, None}
+use Rattle.std.specs.Option.{option_or}
+use Rattle.std.specs.Bool.{then_some}
 use Rattle.page.specs.Layout.{page_size, most_places, most_files, value_size}
 use Rattle.recovery.specs.declared.Row.{Row}
 use Rattle.recovery.specs.declared.State.{State}
@@ -7,13 +10,12 @@ use Rattle.recovery.specs.declared.Done.{Done}
 use Rattle.recovery.specs.declared.Answer.TheVariants.{Refused}
 use Rattle.recovery.specs.Lent.{rows_of, flat, lent}
 use Rattle.recovery.specs.Steps.{line_one, sealed_image, row_of, row_holds_in}
-use Rattle.page.specs.declared.Sought as sought
-use Rattle.page.specs.declared.Sought.{Sought}
 use Rattle.page.specs.Table as table
 use Rattle.page.specs.Table.{packed, value_of}
 use Rattle.recovery.specs.Sheet.{page_bytes}
 use Rattle.calls.specs.Leaves.{with_page}
 use Rattle.encoding.specs.Lowest.{lowest}
+use Rattle.inspection.specs.SomePlace.{some_place}
 use Rattle.moving.specs.Moved.{is_sheet, warm_rows, highest_end}
 use Rattle.moving.specs.declared.checking.Survey.{Survey}
 
@@ -33,12 +35,12 @@ places_to rows (suc k) = places_to rows k + cond (eqb (row_of rows (suc k)).curr
 
 -- what one pass over the rows of files 1 to k finds: the lowest damaged one, the number of versions, and the floor that is answered
 unfoldable pub survey_to : List ℕ → ℕ → ℕ → List ℕ → ℕ → ℕ → Survey
-survey_to s files end rows floor k = record { damaged = lowest (is_damaged s files end rows) k; versions = places_to rows k; highest = highest_end floor (rows_of rows) k }
+survey_to s files end rows floor k = record { damaged = some_place (lowest (is_damaged s files end rows) k); versions = places_to rows k; highest = highest_end floor (rows_of rows) k }
 
 -- and with one row more
 unfoldable pub survey_with : Survey → ℕ → Row → Bool → Survey
 survey_with v file r holds = record {
-  damaged = cond (eqb v.damaged 0) (cond (not holds) file 0) v.damaged;
+  damaged = option_or v.damaged (then_some (not holds) file);
   versions = v.versions + cond (eqb r.current 0) 0 1;
   highest = max v.highest (max r.currentend r.tokenend);
 }
@@ -52,9 +54,9 @@ abbrev pub refusal_at : ℕ → ℕ → State → Done
 refusal_at number place state = record { answer = Refused number place; state = state }
 
 -- the last stored place and the fresh bytes, once the image that was found of a file is stored above a place
-abbrev pub stored_by : List ℕ → ℕ → ℕ → ℕ → List ℕ → Sought → ℕ × List ℕ
-stored_by s file place at fresh (sought.Sought.Image x) = (suc at, with_page fresh at (packed (table.image x.small file 1 0 x.start) (value_of (page_bytes s place)) (suc at)))
-stored_by s file place at fresh sought.Sought.Other = (at, fresh)
+abbrev pub stored_by : List ℕ → ℕ → ℕ → ℕ → List ℕ → Option Page → ℕ × List ℕ
+stored_by s file place at fresh (Some x) = (suc at, with_page fresh at (packed (table.image x.small file 1 0 x.start) (value_of (page_bytes s place)) (suc at)))
+stored_by s file place at fresh None = (at, fresh)
 
 -- the same for the rows of files 1 to k, above the opening at place 1
 unfoldable pub stores_to : List ℕ → ℕ → List ℕ → List ℕ → ℕ → ℕ × List ℕ

@@ -1,13 +1,14 @@
 // What the move looks for before it stores a page.
-ghost use Rattle.std.specs.Prelude.{cond, not, ◌≡◌, ◌+◌, ◌≤◌, ◌<◌, eqb};
+ghost use Rattle.std.specs.Prelude.{◌≡◌, ◌≤◌, ◌<◌};
 ghost use Rattle.page.specs.Layout.{most_files};
 ghost use Rattle.recovery.specs.Lent.{pages_of};
+ghost use Rattle.inspection.specs.SomePlace.{some_place};
 ghost use Rattle.moving.specs.Moved.{is_unused, lowest_undecided};
 ghost use Rattle.moving.specs.MoveSteps.{move_line_one, survey_with, survey_to};
 
 use page::Page;
 use rebuilding::row_holds_in;
-use recovery::{Row, State, fate_at, is_blank_at, is_lent_right, later, row_of};
+use recovery::{Row, State, fate_at, is_blank_at, is_lent_right, row_of};
 
 // Line 1, with the fresh sheet's length.
 pub(crate) fn is_movable(
@@ -25,66 +26,39 @@ pub(crate) fn is_movable(
         & ((1 <= pages) & (pages as u64 <= Page::MOST_PLACES))
 }
 
-// The lowest place up to the end with fate 1, 0 if there is none.
-pub(crate) fn lowest_undecided(fates: &[u8], end: u64) -> u64
-    ensures { result ≡ lowest_undecided fates.now end }
+// The lowest place up to the end with fate 1.
+pub(crate) fn lowest_undecided(fates: &[u8], end: u64) -> Option<u64>
+    ensures { result ≡ some_place (lowest_undecided fates.now end) }
 {
-    let mut n: u64 = 0;
-    while n < end {
-        let place = n + 1;
+    for place in 1..=end {
         if fate_at(fates, place) == 1 {
-            return place;
+            return Some(place);
         }
-        n = place;
     }
-    0
+    None
 }
 
-// What the rows tell, read off in one pass: the lowest file whose row is damaged, 0 if there is none, how many rows have a current
-// place, and the largest of the floor and both ends of every row.
+// What the rows tell, read off in one pass: the lowest file whose row is damaged, how many rows have a current place, and the largest of
+// the floor and both ends of every row.
 #[derive(Clone, Copy)]
 pub(crate) struct Survey {
-    pub damaged: u64,
+    pub damaged: Option<u64>,
     pub versions: u64,
     pub highest: u64,
 }
 
-// The lowest damaged file so far, once the row of one more is known.
-fn damaged_with(damaged: u64, file: u64, holds: bool) -> u64
-    ensures { result ≡ cond (eqb damaged 0) (cond (not holds) file 0) damaged }
-{
-    if damaged != 0 {
-        return damaged;
-    }
-    if holds {
-        return 0;
-    }
-    file
-}
-
-// How many versions so far, once the current place of one more row is known.
-fn versions_with(versions: u64, place: u64) -> u64
-    requires { versions < most_files }
-    ensures { result ≡ versions + cond (eqb place 0) 0 1 }
-{
-    if place == 0 {
-        return versions;
-    }
-    versions + 1
-}
-
-// The survey with one more row.
-fn survey_with(survey: Survey, file: u64, row: Row, holds: bool) -> Survey
-    requires { survey.versions < most_files }
-    ensures { result ≡ survey_with survey file row holds }
-{
-    let damaged = damaged_with(survey.damaged, file, holds);
-    let versions = versions_with(survey.versions, row.current);
-    let highest = later(survey.highest, later(row.currentend, row.tokenend));
-    Survey {
-        damaged,
-        versions,
-        highest,
+impl Survey {
+    // The survey with one more row.
+    #[tactic(auto, unfolding(crate::specs::MoveSteps::survey_with))]
+    fn with_row(self, file: u64, row: Row, holds: bool) -> Survey
+        requires { self.versions < most_files }
+        ensures { result ≡ survey_with self file row holds }
+    {
+        Survey {
+            damaged: self.damaged.or((!holds).then_some(file)),
+            versions: self.versions + u64::from(row.current != 0),
+            highest: self.highest.max(row.currentend.max(row.tokenend)),
+        }
     }
 }
 
@@ -93,18 +67,15 @@ pub(crate) fn survey_rows(sheet: &[u8], rows: &[u64], end: u64, files: u64, floo
     requires { files ≤ most_files }
     ensures { result ≡ survey_to sheet.now files end rows.now floor files }
 {
-    let mut n: u64 = 0;
     let mut survey = Survey {
-        damaged: 0,
+        damaged: None,
         versions: 0,
         highest: floor,
     };
-    while n < files {
-        let file = n + 1;
+    for file in 1..=files {
         let row = row_of(rows, file);
         let holds = row_holds_in(sheet, end, files, file, row);
-        survey = survey_with(survey, file, row, holds);
-        n = file;
+        survey = survey.with_row(file, row, holds);
     }
     survey
 }
@@ -114,13 +85,10 @@ pub(crate) fn is_unused(fresh: &[u8], files: u64) -> bool
     ensures { result ≡ is_unused (pages_of fresh.now files) }
 {
     let pages = (fresh.len() / Page::SIZE) as u64;
-    let mut n: u64 = 0;
-    while n < pages {
-        let place = n + 1;
+    for place in 1..=pages {
         if !is_blank_at(fresh, place, files) {
             return false;
         }
-        n = place;
     }
     true
 }

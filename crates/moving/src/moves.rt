@@ -26,8 +26,8 @@ fn move_warm(sheet: &[u8], fates: &[u8], rows: &[u64], state: State, fresh: &mut
 {
     let files = file_count(rows.len());
     let survey = survey_rows(sheet, rows, state.end, files, state.floor);
-    if survey.damaged != 0 {
-        return refuse_at(7, survey.damaged, state);
+    if let Some(damaged) = survey.damaged {
+        return refuse_at(7, damaged, state);
     }
     let pages = (fresh.len() / Page::SIZE) as u64;
     if pages < survey.versions + 2 {
@@ -50,8 +50,7 @@ pub fn move_to(sheet: &[u8], fates: &[u8], rows: &mut [u64], state: State, fresh
     if !is_movable(sheet.len(), fates.len(), rows.len(), state, fresh.len()) {
         return refuse_at(1, 0, state);
     }
-    let busy = lowest_undecided(fates, state.end);
-    if busy != 0 {
+    if let Some(busy) = lowest_undecided(fates, state.end) {
         return refuse_at(23, busy, state);
     }
     warm_rows(sheet, fates, rows, state);

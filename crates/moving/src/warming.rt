@@ -12,10 +12,7 @@ pub(crate) fn warm_rows(sheet: &[u8], fates: &[u8], rows: &mut [u64], state: Sta
     ensures { rows.new ≡ warm_run sheet.now fates.now rows.old state }
 {
     let files = file_count(rows.len());
-    let mut n: u64 = 0;
-    while n < files {
-        let file = n + 1;
+    for file in 1..=files {
         warm_row(sheet, fates, rows, state.end, file);
-        n = file;
     }
 }

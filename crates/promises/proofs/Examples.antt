@@ -24,7 +24,7 @@ use Rattle.recovery.specs.declared.Answer.TheVariants.{Refused, Opened, Rebuilt,
 use Rattle.recovery.specs.Lent.{row_length, open_leaves}
 use Rattle.recovery.specs.Numbers.{is_refused}
 use Rattle.inspection.specs.Lawful.{lowest_unlawful}
-use Rattle.inspection.specs.declared.Inspected.TheVariants.{Lowest}
+use Rattle.std.specs.Prelude.{Ok}
 use Rattle.inspection.specs.Inspected.{inspectable, inspected}
 use Rattle.calls.specs.Calls.{Call, begin, write, read, test, decide, rebuild}
 use Rattle.calls.specs.Cuts.{first_bytes}
@@ -431,7 +431,7 @@ nothing_below_met = (promised 12 2).nothing_below (at first) (at (newer ++ does 
 pub was_written_met : WasWritten 12 2 (at late) 1 0 2 5 1
 was_written_met = (promised 12 2).was_written (at late) 1 6 0 2 5 1 late_run late_reads
 
-pub lawful_met : inspected (sheet_of (box_at late)) 2 ≡ Lowest 0
+pub lawful_met : inspected (sheet_of (box_at late)) 2 ≡ Ok 0
 lawful_met = (promised 12 2).lawful (at late) late_run
 
 pub opened_met : is_refused (open_leaves (sheet_of (box_at late)) fates rows 0).answer ≡ false
@@ -620,7 +620,7 @@ floor_needed = (promised 8 1).as_model (events 8 1 backdated) (is_run 8 1 backda
 abbrev foreign : List ℕ
 foreign = packed (table.opening 1) (replicate 32 0) 1 ++ packed (table.opening 2) (replicate 32 0) 2
 
-foreign_lawful : inspected foreign 1 ≡ Lowest 0
+foreign_lawful : inspected foreign 1 ≡ Ok 0
 unfolding head front packed fields_of lowest highest within between meets_rules is_page_of table.torn in_bounds tested tabulate fate_of images_of not_by effective versions_of token_of decoded sealed pages down end_of lowest_unlawful inspectable inspected
 foreign_lawful = refl
 

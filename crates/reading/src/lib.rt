@@ -1,8 +1,7 @@
 // Read: the value of a file at a time, for an action or for none.
 #![tactic(auto)]
 
-ghost use Rattle.std.specs.Prelude.{true, false, ◌≡◌, ◌/◌, length};
-ghost use Rattle.page.specs.declared.Sought as sought;
+ghost use Rattle.std.specs.Prelude.{true, false, ◌≡◌, ◌/◌, length, Some};
 ghost use Rattle.recovery.specs.World.{is_file};
 ghost use Rattle.recovery.specs.Lent.{left_by, row_length};
 ghost use Rattle.recovery.specs.Steps.{line_one, sealed_image};
@@ -13,7 +12,7 @@ ghost use Rattle.calls.specs.ReadSteps.{read_line, walk_answer, walk_at, Looked}
 ghost use Rattle.reading.specs.WarmReads.{Versions, Reads};
 
 use calls::action_line;
-use page::{Page, Sought};
+use page::Page;
 use rebuilding::{row_holds_by, warm_row};
 use recovery::{
     Answer, Done, Row, State, file_count, has_file, image_at, is_carried_at, is_lent_right,
@@ -62,7 +61,7 @@ fn none_below(carried: bool) -> Answer
 
 // The first image from a place down the links whose start is not above a time. A link leads to a lower place, so this ends.
 fn walk(sheet: &[u8], from: u64, files: u64, file: u64, time: u64, first: Page) -> Answer
-    requires { sealed_image files sheet.now file from ≡ sought.Sought.Image first }
+    requires { sealed_image files sheet.now file from ≡ Some first }
     ensures { result ≡ walk_at files sheet.now file time false from first }
 {
     let mut place = from;
@@ -78,7 +77,7 @@ fn walk(sheet: &[u8], from: u64, files: u64, file: u64, time: u64, first: Page) 
             return none_below(carried);
         }
         let found = image_at(sheet, next, files, file);
-        let Sought::Image(y) = found else {
+        let Some(y) = found else {
             return Answer::Refused(13, place);
         };
         place = next;
@@ -93,13 +92,13 @@ fn read_versions(
     file: u64,
     time: u64,
     row: Row,
-    current: Sought,
+    current: Option<Page>,
 ) -> Reading
     requires { Looked files sheet.now file row.current current }
     ensures { Versions files sheet.now file time row result }
 {
     let reached = current_read(row, time);
-    let Sought::Image(newest) = current else {
+    let Some(newest) = current else {
         return Reading {
             answer: Answer::Nothing,
             row: reached,
@@ -135,7 +134,7 @@ fn read_row(
             row,
         };
     }
-    let Sought::Image(x) = token else {
+    let Some(x) = token else {
         return read_versions(sheet, files, file, time, row, current);
     };
     if time < x.start {

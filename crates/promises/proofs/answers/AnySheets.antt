@@ -17,7 +17,7 @@ use Rattle.recovery.proofs.Pages.{pages_long, length_down}
 use Rattle.recovery.proofs.BadPages.{used_end}
 use Rattle.recovery.proofs.OpeningEnds.{end_le}
 use Rattle.inspection.specs.Inspected.{inspected}
-use Rattle.inspection.specs.declared.Inspected.TheVariants.{Lowest}
+use Rattle.std.specs.Prelude.{Ok}
 use Rattle.inspection.proofs.BadPages.{lawful_is}
 use Rattle.inspection.proofs.LowestUnlawful.{none_lawful}
 use Rattle.promises.specs.Runs.{off, Event, heard, AllAllowed}
@@ -37,7 +37,7 @@ clean_above P n p h k = go (is_blank (nth blank P p)) refl
     go true e = blank_entry (nth blank P p) e
     go false e = absurd (omega (arith, used_end P p e n k))
 
-module _ (n files : ℕ) (s : List ℕ) (long : length s ≡ page_size * n) (sz : sizes n n files ≡ true) (h : inspected s files ≡ Lowest 0) where
+module _ (n files : ℕ) (s : List ℕ) (long : length s ≡ page_size * n) (sz : sizes n n files ≡ true) (h : inspected s files ≡ Ok 0) where
   abbrev P : List Entry
   P = pages_of s files
 
@@ -85,7 +85,7 @@ module _ (n files : ℕ) (s : List ℕ) (long : length s ≡ page_size * n) (sz 
     };
   }
 
-pub any_heard : (n files : ℕ) (s : List ℕ) (es : List Event) → sizes n n files ≡ true → length s ≡ page_size * n → inspected s files ≡ Lowest 0 → AllAllowed files (off s) es
+pub any_heard : (n files : ℕ) (s : List ℕ) (es : List Event) → sizes n n files ≡ true → length s ≡ page_size * n → inspected s files ≡ Ok 0 → AllAllowed files (off s) es
     → heard (off s) es ≡ model_heard false (model_of n files (log_in files s)) es
 unfolding reached
 any_heard n files s es sz long h t = heard_alike n files (off s) (reached n files s long sz h) es t

@@ -1,61 +1,62 @@
 -- `inspection::climbing::climb`: what is kept is what the log below says (`Knows`), so a page fits it exactly if it fits the log.
--- The measure is the pages left. Assumes nothing.
-use Prim.Native.Nat.{◌+◌}
-use mathlib.Core.Path.{refl, ◌∙◌}
+-- Assumes nothing.
+use Prim.Native.Nat.{suc, pred}
+use mathlib.Core.Path.{◌≡◌, refl, sym, subst}
 use native.Mathlib.Omega.{arith}
-use Rattle.inspection.specs.ClimbSteps.{arrays}
-use Rattle.inspection.proofs.ClimbSteps.{range_file}
-use Rattle.inspection.proofs.ClimbPass.{in_range, climb_start, climb_again, climb_stop, climb_end}
-use borrow.Author.Rules.{rules}
+use Rattle.inspection.proofs.ArraysKnow.{Long, long_none, long_kept}
+use Rattle.inspection.proofs.ClimbPass.{in_range, range_file, climb_start, climb_again, climb_stop, climb_last, climb_end}
 use Rattle.inspection.proofs.climbing.climb.Goals as goal
 
-pub loop-n-init : goal.loop-n-init
-loop-n-init c =
-    let a = c.args in
-    (search rules, climb_start a.sheet.now a.files a.pages (arrays a.fates.now a.newest.now a.below.now) c.requires.2, refl, refl, refl)
+pub loop-place-init : goal.loop-place-init
+loop-place-init g c = (omega arith, long_none g.row.N, climb_start c.args.sheet.now c.args.files g.row.N)
 
 pub page_fits-requires : goal.page_fits-requires
-page_fits-requires c =
-    let k = c.loop-n in
-    let a = c.args in
-    let p = k.n + 1 in
-    let u = c.page_at-found.result in
-    let l = k.invariant.1.long in
-    (range_file p u (in_range a.sheet.now a.files p u c.page_at-found.ensures), l.newest_long, l.below_long)
+page_fits-requires g c = (omega arith, range_file c.loop-place.place _ (in_range c.args.sheet.now c.args.files _ _ c.page_at-found.ensures))
 
 pub returns-then-not-page_fits : goal.returns-then-not-page_fits
-returns-then-not-page_fits c =
-    let k = c.loop-n in
-    climb_stop _ _ _ _ (arrays k.fates k.newest k.below) c.requires.1 k.invariant.1 _ c.loop-n-test.true c.page_at-found.ensures
+returns-then-not-page_fits g c =
+    let p = c.loop-place.place in
+    let at : suc (pred p) ≡ p = omega arith in
+    climb_stop c.args.sheet.now c.args.files c.args.pages (pred p) c.loop-place.kept c.requires.2 (c.loop-place.invariant.2 (pred p) at) p at c.loop-place-test.true
+    _
+    c.page_at-found.ensures
     _
     c.page_fits.ensures
     c.if-not-page_fits.true
 
 pub keep_page-requires : goal.keep_page-requires
-keep_page-requires c =
-    let l = c.loop-n.invariant.1.long in (
-      in_range _ _ _ _ c.page_at-found.ensures,
-      record { fates_long = omega (arith, l.fates_long, c.loop-n-test.true); newest_long = l.newest_long; below_long = l.below_long },
-    )
+keep_page-requires g c = (omega arith, (in_range c.args.sheet.now c.args.files _ _ c.page_at-found.ensures, omega arith))
 
-pub loop-n-preserved : goal.loop-n-preserved
-loop-n-preserved c =
-    let k = c.loop-n in
-    let lengths = c.keep_page.auto in (
-      omega (arith, c.loop-n-test.true),
-      climb_again _ _ _ _ (arrays k.fates k.newest k.below) c.requires.1 k.invariant.1 _ c.loop-n-test.true c.page_at-found.ensures
+pub loop-place-preserved : goal.loop-place-preserved
+loop-place-preserved g c =
+    let p = c.loop-place.place in
+    let at : suc (pred p) ≡ p = omega arith in (
+      omega arith,
+      subst Long (sym c.keep_page.ensures) (long_kept c.loop-place.kept c.page_at-found.result p c.loop-place.invariant.1),
+      climb_again c.args.sheet.now c.args.files c.args.pages (pred p) c.loop-place.kept c.requires.2 (c.loop-place.invariant.2 (pred p) at) p at c.loop-place-test.true
+          _
+          c.page_at-found.ensures
           _
           c.page_fits.ensures
           c.if-not-page_fits.false
+          c.loop-place.invariant.1
+          c.requires.0
           _
           c.keep_page.ensures,
-      lengths.fates ∙ k.invariant.2,
-      lengths.newest ∙ k.invariant.3,
-      lengths.below ∙ k.invariant.4,
     )
 
+pub returns-else-not-page_fits : goal.returns-else-not-page_fits
+returns-else-not-page_fits g c =
+    let p = c.loop-place.place in
+    let at : suc (pred p) ≡ p = omega arith in
+    climb_last c.args.sheet.now c.args.files c.args.pages (pred p) c.loop-place.kept c.requires.2 (c.loop-place.invariant.2 (pred p) at) p at c.loop-place-test.true
+    _
+    c.page_at-found.ensures
+    _
+    c.page_fits.ensures
+    c.if-not-page_fits.false
+    (omega arith)
+
 pub returns : goal.returns
-returns c =
-    let a = c.args in
-    let k = c.loop-n in
-    climb_end a.sheet.now a.files a.pages k.n (arrays k.fates k.newest k.below) c.requires.1 k.invariant.1 k.invariant.0 c.loop-n-test.false
+returns g c =
+    climb_end c.args.sheet.now c.args.files c.args.pages c.args.pages c.loop-place.kept c.requires.2 (c.loop-place.invariant.2 c.args.pages (omega arith)) refl

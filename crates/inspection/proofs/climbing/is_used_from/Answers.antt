@@ -1,23 +1,22 @@
--- `inspection::climbing::is_used_from`: the end is not blank, and every page above it is. The measure is the pages left.
--- Assumes nothing.
+-- `inspection::climbing::is_used_from`: the end is not blank, and every page above it is. Assumes nothing.
+use Prim.Native.Nat.{◌+◌}
 use mathlib.Core.Path.{refl, ◌∙◌}
 use native.Mathlib.Omega.{arith}
 use Rattle.inspection.proofs.ClimbPass.{up_hit, up_miss, up_end}
-use borrow.Author.Rules.{rules}
 use Rattle.inspection.proofs.climbing.is_used_from.Goals as goal
-
-pub loop-place-init : goal.loop-place-init
-loop-place-init c = (search rules, refl)
 
 pub returns-then-not-is_blank_at : goal.returns-then-not-is_blank_at
 returns-then-not-is_blank_at c =
-    up_hit _ _ _ _ _ _ c.requires.2 (omega arith) c.loop-place-test.true refl c.is_blank_at.ensures c.if-not-is_blank_at.true ∙ c.loop-place.invariant.1
+    up_hit _ _ _ _ _ _ c.requires.2 (omega arith) (omega arith) refl c.is_blank_at.ensures c.if-not-is_blank_at.true ∙ c.loop-place.invariant
 
 pub loop-place-preserved : goal.loop-place-preserved
-loop-place-preserved c = (
-  omega arith,
-  up_miss _ _ _ _ _ _ c.requires.2 (omega arith) c.loop-place-test.true refl c.is_blank_at.ensures c.if-not-is_blank_at.false ∙ c.loop-place.invariant.1,
-)
+loop-place-preserved c = up_miss _ _ _ _ _ _ c.requires.2 (omega arith) (omega arith) refl c.is_blank_at.ensures c.if-not-is_blank_at.false ∙ c.loop-place.invariant
 
 pub returns : goal.returns
-returns c = up_end _ _ _ c.loop-place-test.false ∙ c.loop-place.invariant.1
+returns c = up_end _ _ _ (omega arith) ∙ c.loop-place.invariant
+
+pub returns-else-not-is_blank_at : goal.returns-else-not-is_blank_at
+returns-else-not-is_blank_at c =
+    up_end _ c.args.pages (c.loop-place.place + 1) (omega arith)
+    ∙ up_miss _ _ _ _ _ _ c.requires.2 (omega arith) (omega arith) refl c.is_blank_at.ensures c.if-not-is_blank_at.false
+    ∙ c.loop-place.invariant

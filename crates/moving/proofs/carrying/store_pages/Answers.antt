@@ -1,7 +1,6 @@
 -- `moving::carrying::store_pages`: three stores, one after another. Assumes nothing.
 use Prim.Native.Nat.{ℕ}
 use mathlib.Core.Path.{◌≡◌, ap, ◌∙◌}
-use mathlib.Core.Bool.{Bool, cond}
 use Rattle.page.specs.Table as table
 use Rattle.moving.proofs.StoredPages.{stores_all_lem}
 use native.Mathlib.Omega.{arith}
@@ -12,6 +11,6 @@ returns c =
     let a = c.args in
     let p = c.append in
     let v = c.store_versions-at in
-    let one : c.one_if-small.result ≡ 1 = c.one_if-small.ensures ∙ ap (λ (y : Bool). cond y 1 0) (c.is_blank_at.ensures ∙ c.requires.1) in
+    let one : c.from-small.result ≡ 1 = rw (c.from-small.ensures, c.is_blank_at.ensures, c.requires.1) in
     stores_all_lem a.sheet.now a.files a.rows.now a.fresh.now p.new.sheet v.new.fresh _ v.result _ _ c.requires.0
     (c.opening_as-opening.ensures ∙ ap (λ (n : ℕ). table.opening_as n 1) one) p.ensures (omega (arith, p.auto)) v.ensures (omega (arith, v.auto)) (c.outcome-outcome.ensures ∙ ap (table.outcome 1) one) c.append-2.ensures

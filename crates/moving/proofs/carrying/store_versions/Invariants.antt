@@ -2,11 +2,8 @@
 use Rattle.moving.specs.MoveSteps.{stores_to}
 use lib.ListN.{length}
 use mathlib.Core.Path.{◌≡◌}
-use Prim.Native.Nat.{◌≤◌, ◌-◌}
+use Prim.Native.Nat.{suc, pred, ◌≤◌}
 use Rattle.moving.proofs.carrying.store_versions.Given as goal
 
-abbrev pub invariant-loop-n : goal.invariant-loop-n
-invariant-loop-n l = (l.n ≤ l.files) × ((l.at, l.fresh) ≡ stores_to l.sheet l.files l.rows l.initial.fresh l.n) × (length l.fresh ≡ length l.initial.fresh)
-
-abbrev pub decreases-loop-n : goal.decreases-loop-n
-decreases-loop-n l = l.files - l.n
+abbrev pub invariant-loop-file : goal.invariant-loop-file
+invariant-loop-file l = (l.file ≤ suc l.files) × ((l.at, l.fresh) ≡ stores_to l.sheet l.files l.rows l.initial.fresh (pred l.file)) × (length l.fresh ≡ length l.initial.fresh)

@@ -1,6 +1,7 @@
 -- `moving::moves::move_to`: 1, 23, every row rebuilt, and the move on rebuilt rows. Assumes nothing.
 use Rattle.moving.proofs.MoveEnds.{line_one_lem}
 use Rattle.moving.proofs.MoveCall.{move_refused, move_busy, still_ok, move_on_lem}
+use mathlib.Core.Path.{sym, ◌∙◌}
 use Rattle.encoding.proofs.Logic.{refused, passed}
 use Rattle.moving.proofs.moves.move_to.Goals as goal
 
@@ -9,10 +10,10 @@ returns-then-not-is_movable c =
     let a = c.args in
     move_refused a.sheet.now a.fates.now a.rows.now a.state a.fresh.now (refused c.is_movable.ensures c.if-not-is_movable.true) _ c.refuse_at.ensures
 
-pub returns-then-busy-ne0 : goal.returns-then-busy-ne0
-returns-then-busy-ne0 c =
+pub returns-in-Some : goal.returns-in-Some
+returns-in-Some c =
     let a = c.args in
-    move_busy a.sheet.now a.fates.now a.rows.now a.state a.fresh.now (passed c.is_movable.ensures c.if-not-is_movable.false) _ c.lowest_undecided-busy.ensures c.if-busy-ne0.true _ c.refuse_at-then-busy-ne0.ensures
+    move_busy a.sheet.now a.fates.now a.rows.now a.state a.fresh.now (passed c.is_movable.ensures c.if-not-is_movable.false) _ (sym c.in-Some.is ∙ c.lowest_undecided.ensures) _ c.refuse_at-in-Some.ensures
 
 pub warm_rows-requires : goal.warm_rows-requires
 warm_rows-requires c =
@@ -27,4 +28,4 @@ move_warm-requires c =
 pub returns : goal.returns
 returns c =
     let a = c.args in
-    move_on_lem a.sheet.now a.fates.now a.rows.now a.state a.fresh.now (passed c.is_movable.ensures c.if-not-is_movable.false) _ c.warm_rows.ensures _ c.lowest_undecided-busy.ensures c.if-busy-ne0.false _ c.move_warm.ensures
+    move_on_lem a.sheet.now a.fates.now a.rows.now a.state a.fresh.now (passed c.is_movable.ensures c.if-not-is_movable.false) _ c.warm_rows.ensures (sym c.in_default.is ∙ c.lowest_undecided.ensures) _ c.move_warm.ensures

@@ -10,10 +10,10 @@ survey_rows-survey-requires c =
     let few = (lent_is _ _ _ _ _ (line_one_lem a.sheet.now a.fates.now a.rows.now a.state a.fresh.now c.requires).0).sizes.most_files_lem in
     omega (arith, c.file_count-files.ensures)
 
-pub returns-then-survey-ne0 : goal.returns-then-survey-ne0
-returns-then-survey-ne0 c =
+pub returns-in-Some : goal.returns-in-Some
+returns-in-Some c =
     let a = c.args in
-    warm_damaged a.sheet.now a.fates.now a.rows.now a.state a.fresh.now c.requires _ (rw c.file_count-files.ensures at c.survey_rows-survey.ensures) c.if-survey-ne0.true _ c.refuse_at.ensures
+    warm_damaged a.sheet.now a.fates.now a.rows.now a.state a.fresh.now c.requires _ (rw c.file_count-files.ensures at c.survey_rows-survey.ensures) _ c.in-Some.is _ c.refuse_at.ensures
 
 pub overflow_add-survey : goal.overflow_add-survey
 overflow_add-survey c =
@@ -25,24 +25,24 @@ overflow_add-survey c =
 pub returns-then-pages-survey : goal.returns-then-pages-survey
 returns-then-pages-survey c =
     let a = c.args in
-    warm_full a.sheet.now a.fates.now a.rows.now a.state a.fresh.now c.requires _ (rw c.file_count-files.ensures at c.survey_rows-survey.ensures) c.if-survey-ne0.false c.if-pages-survey.true _ c.refuse_at-then-pages-survey.ensures
+    warm_full a.sheet.now a.fates.now a.rows.now a.state a.fresh.now c.requires _ (rw c.file_count-files.ensures at c.survey_rows-survey.ensures) c.in_default.is c.if-pages-survey.true _ c.refuse_at-then-pages-survey.ensures
 
 pub returns-then-not-is_unused : goal.returns-then-not-is_unused
 returns-then-not-is_unused c =
     let a = c.args in
-    warm_used a.sheet.now a.fates.now a.rows.now a.state a.fresh.now c.requires _ (rw c.file_count-files.ensures at c.survey_rows-survey.ensures) c.if-survey-ne0.false c.if-pages-survey.false _ (rw c.file_count-files.ensures at c.is_unused.ensures) c.if-not-is_unused.true _ c.refuse_at-then-not-is_unused.ensures
+    warm_used a.sheet.now a.fates.now a.rows.now a.state a.fresh.now c.requires _ (rw c.file_count-files.ensures at c.survey_rows-survey.ensures) c.in_default.is c.if-pages-survey.false _ (rw c.file_count-files.ensures at c.is_unused.ensures) c.if-not-is_unused.true _ c.refuse_at-then-not-is_unused.ensures
 
 pub store_pages-requires : goal.store_pages-requires
 store_pages-requires c =
     let a = c.args in
     let k = c.file_count-files.ensures in
     let v = rw k at c.survey_rows-survey.ensures in (
-      rw k (roomy a.sheet.now a.fates.now a.rows.now a.state a.fresh.now c.requires _ v c.if-survey-ne0.false c.if-pages-survey.false),
-      rw k (blank_first a.sheet.now a.fates.now a.rows.now a.state a.fresh.now c.requires _ v c.if-survey-ne0.false c.if-pages-survey.false _ (rw k at c.is_unused.ensures) c.if-not-is_unused.false),
+      rw k (roomy a.sheet.now a.fates.now a.rows.now a.state a.fresh.now c.requires _ v c.in_default.is c.if-pages-survey.false),
+      rw k (blank_first a.sheet.now a.fates.now a.rows.now a.state a.fresh.now c.requires _ v c.in_default.is c.if-pages-survey.false _ (rw k at c.is_unused.ensures) c.if-not-is_unused.false),
     )
 
 pub returns : goal.returns
 returns c =
     let a = c.args in
     let k = c.file_count-files.ensures in
-    warm_done a.sheet.now a.fates.now a.rows.now a.state a.fresh.now c.requires _ (rw k at c.survey_rows-survey.ensures) c.if-survey-ne0.false c.if-pages-survey.false _ (rw k at c.is_unused.ensures) c.if-not-is_unused.false _ (rw k at c.store_pages.ensures)
+    warm_done a.sheet.now a.fates.now a.rows.now a.state a.fresh.now c.requires _ (rw k at c.survey_rows-survey.ensures) c.in_default.is c.if-pages-survey.false _ (rw k at c.is_unused.ensures) c.if-not-is_unused.false _ (rw k at c.store_pages.ensures)
