@@ -13,10 +13,9 @@ fn raise(row: &mut Row, current: u64, token: u64)
 }
 
 // The same by value, for callers: the record lies in a local, which is lent.
-pub fn raised_row(row: Row, current: u64, token: u64) -> Row
+pub fn raised_row(mut row: Row, current: u64, token: u64) -> Row
     ensures { result ≡ raised row current token }
 {
-    let mut lent = row;
-    raise(&mut lent, current, token);
-    lent
+    raise(&mut row, current, token);
+    row
 }
