@@ -46,16 +46,11 @@ pub fn rebuilt_row(sheet: &[u8], fates: &[u8], end: u64, files: u64, file: u64) 
 }
 
 // Line 7 for a place of a row, by what was found there: it is 0, or a place up to the end with a sealed image of the file.
+#[tactic(auto, unfolding(recovery::specs::Steps::place_holds_by))]
 fn place_holds_by(end: u64, place: u64, found: Option<Page>) -> bool
     ensures { result ≡ place_holds_by end place found }
 {
-    if place == 0 {
-        return true;
-    }
-    if end < place {
-        return false;
-    }
-    found.is_some()
+    (place == 0) | ((place <= end) & found.is_some())
 }
 
 // The action of an image that was found, 0 of none.

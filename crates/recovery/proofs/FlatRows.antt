@@ -97,19 +97,22 @@ put_flat rs j r h = flat_set rs j r h
 
 -- ---- as the code takes a row out of the run and puts it back
 
-chunk_at : (rows : List ℕ) (m k : ℕ) (d : List ℕ) → k < m → get_or (first_chunks row_length m rows) k d ≡ take row_length (drop (row_length * k) rows)
-chunk_at rows zero k d h = absurd (omega arith)
-chunk_at rows (suc m) zero d h = refl
-chunk_at rows (suc m) (suc k) d h =
-    let e : row_length + row_length * k ≡ row_length * suc k = omega arith in
-    chunk_at (drop row_length rows) m k d (omega arith) ∙ ap (take row_length) (drop-drop (row_length * k) row_length rows ∙ ap (λ n. drop n rows) e)
+-- the elements of a run in chunks of c
+pub chunk_at : {A : Type 0} (c : ℕ) (xs : List A) (m k : ℕ) (d : List A) → k < m → get_or (first_chunks c m xs) k d ≡ take c (drop (c * k) xs)
+chunk_at c xs zero k d h = absurd (omega arith)
+chunk_at c xs (suc m) zero d h = let z : c * 0 ≡ 0 = omega arith in rw z
+chunk_at c xs (suc m) (suc k) d h =
+    let e : c + c * k ≡ c * suc k = omega arith in
+    chunk_at c (drop c xs) m k d (omega arith) ∙ ap (take c) (drop-drop (c * k) c xs ∙ ap (λ n. drop n xs) e)
+
+pub chunk_element : {A : Type 0} (c : ℕ) (xs : List A) (m k i : ℕ) (d : List A) (e : A) → k < m → i < c → get_or (get_or (first_chunks c m xs) k d) i e ≡ get_or xs (c * k + i) e
+chunk_element c xs m k i d e h l = ap (λ ys. get_or ys i e) (chunk_at c xs m k d h) ∙ get_or-take c (drop (c * k) xs) i e l ∙ get_or-drop (c * k) xs i e
 
 pub chunk_row : (rows : List ℕ) (m k : ℕ) (d : List ℕ) → k < m → row_from (get_or (first_chunks row_length m rows) k d) 0 ≡ row_from rows k
 chunk_row rows m k d h =
-    let at : (i : ℕ) → i < row_length → get_or (take row_length (drop (row_length * k) rows)) i 0 ≡ get_or rows (row_length * k + i) 0 =
-    λ i l. get_or-take row_length (drop (row_length * k) rows) i 0 l ∙ get_or-drop (row_length * k) rows i 0 in
-    let first : get_or (take row_length (drop (row_length * k) rows)) 0 0 ≡ get_or rows (row_length * k) 0 = simp unary_clauses at (at 0 (omega arith)) in
-    rw (chunk_at rows m k d h) (rw (first, at 1 (omega arith), at 2 (omega arith), at 3 (omega arith), at 4 (omega arith), at 5 (omega arith)))
+    let at : (i : ℕ) → i < row_length → get_or (get_or (first_chunks row_length m rows) k d) i 0 ≡ get_or rows (row_length * k + i) 0 = λ i l. chunk_element row_length rows m k i d 0 h l in
+    let first : get_or (get_or (first_chunks row_length m rows) k d) 0 0 ≡ get_or rows (row_length * k) 0 = simp unary_clauses at (at 0 (omega arith)) in
+    rw (first, at 1 (omega arith), at 2 (omega arith), at 3 (omega arith), at 4 (omega arith), at 5 (omega arith))
 
 pub put_part : (xs ys : List ℕ) (j : ℕ) (r : Row) → ys ≡ numbers r → row_length * j + row_length ≤ length xs
     → put_mid (row_length * j) (row_length * j + row_length - row_length * j) xs ys ≡ put_row xs j r

@@ -6,7 +6,7 @@ use mathlib.Core.List.{List}
 use native.Mathlib.Omega.{arith}
 use lib.ListN.{length}
 use lib.Dec.{eqb, leb}
-use borrow.Author.Tests.{eq-eqb, ne_eqb, le-leb, lt-leb, eqb-true, leb-true, leb-false}
+use borrow.Author.Tests.{eqb-true, leb-true, leb-false}
 use Rattle.encoding.proofs.Logic.{by_test}
 use Rattle.page.specs.declared.Page.{Page}
 use Rattle.page.specs.declared.Unpacked.{Unpacked}
@@ -147,19 +147,6 @@ carried_at files s (suc q) = go (leb place (length s / page_size)) refl
 
 pub held_in : (files : ℕ) (s : List ℕ) (file place : ℕ) → is_image_of file (nth blank (pages_of s files) place) ≡ is_some (sealed_image files s file place)
 held_in files s file place = ap (λ (x : Bool × ℕ). x.0) (lies_in files s file place)
-
-module _ (e p : ℕ) where
-  pub place_zero : p ≡ 0 → (u : Option Page) → true ≡ place_holds_by e p u
-  unfolding place_holds_by
-  place_zero h u = simp (eq-eqb p 0 h)
-
-  pub place_above : (p ≡ 0 → ⊥) → e < p → (u : Option Page) → false ≡ place_holds_by e p u
-  unfolding place_holds_by
-  place_above z h u = simp (ne_eqb p 0 z, lt-leb p e h)
-
-  pub place_up_to : (p ≡ 0 → ⊥) → p ≤ e → (u : Option Page) → is_some u ≡ place_holds_by e p u
-  unfolding place_holds_by
-  place_up_to z h u = simp (ne_eqb p 0 z, le-leb p e h)
 
 module _ (files : ℕ) (s : List ℕ) (e f : ℕ) where
   place_held : (p : ℕ) (u : Option Page) → u ≡ sealed_image files s f p → place_holds_by e p u ≡ place_holds (sheet_world s files e) f p

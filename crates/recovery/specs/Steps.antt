@@ -1,6 +1,6 @@
 -- What smaller functions of the code answer. A reader of document 01 can pass this file over: the laws join it to `rebuilt`, and those of
 -- `calls` to commit and abort.
-use Rattle.std.specs.Prelude.{◌≡◌, List, [], ◌∷◌, Bool, cond, ◌&&◌, ◌||◌, ℕ, suc, pred, ◌+◌, ◌/◌, length, drop, eqb, leb, Option, is_some, Some, None}
+use Rattle.std.specs.Prelude.{◌≡◌, List, [], ◌∷◌, Bool, cond, ◌&&◌, ◌||◌, ℕ, suc, pred, ◌/◌, length, get_or, drop, eqb, leb, Option, is_some, Some, None}
 use Rattle.page.specs.declared.Page.{Page}
 use Rattle.page.specs.Layout.{page_size}
 use Rattle.page.specs.Answers.{tested, on_image}
@@ -52,10 +52,12 @@ before_named a (r ∷ rs) f = cond (is_rebuilt_for a r) f (before_named a rs (su
 unfoldable pub next_named : List ℕ → ℕ → ℕ → ℕ
 next_named rows f a = before_named a (drop f (rows_of rows)) f
 
--- whether one of the four rows after k others has an action as its token's
-unfoldable pub in_four : List ℕ → ℕ → ℕ → Bool
-in_four rows k a =
-    eqb (row_from rows k).tokenaction a || eqb (row_from rows (k + 1)).tokenaction a || eqb (row_from rows (k + 2)).tokenaction a || eqb (row_from rows (k + 3)).tokenaction a
+-- whether a row, by its numbers, has an action as its token's; and one of four rows
+abbrev pub names_action : List ℕ → ℕ → Bool
+names_action numbers a = eqb (row_from numbers 0).tokenaction a
+
+unfoldable pub in_four : List (List ℕ) → ℕ → Bool
+in_four rows a = names_action (get_or rows 0 []) a || names_action (get_or rows 1 []) a || names_action (get_or rows 2 []) a || names_action (get_or rows 3 []) a
 
 abbrev pub rebuilt_with : ℕ → ℕ → ℕ → ℕ → ℕ → Row
 rebuilt_with current currentend token tokenend tokenaction = record {

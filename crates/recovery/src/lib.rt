@@ -19,7 +19,7 @@ pub use lookup::{
 };
 pub use numbering::numbers_of;
 use page::Page;
-pub use rolling::{later, raised_row};
+pub use rolling::raised_row;
 pub use rows::{file_count, has_file, is_file, next_named, row_of, set_row};
 pub use starts::highest_start;
 

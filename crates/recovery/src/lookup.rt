@@ -114,7 +114,8 @@ pub fn image_at(sheet: &[u8], place: u64, files: u64, file: u64) -> Option<Page>
     Some(image)
 }
 
-// The lent fate of an action, 0 for no place.
+// The lent fate of an action, 0 for no place. A number and no enum: a lent byte may hold any, document 01 gives each a meaning, and
+// test answers it as it is.
 pub fn fate_at(fates: &[u8], action: u64) -> u64
     ensures { result ≡ nth 0 fates.now action }
 {

@@ -31,19 +31,28 @@ impl From<Refusal> for u64 {
 }
 
 // Which of the eight it is, then its values and zeros.
+impl From<Answer> for [u64; ANSWER_LENGTH] {
+    ghost from_gives = { λ answer numbers. numbers ≡ numbers_of answer };
+
+    fn from(answer: Answer) -> [u64; ANSWER_LENGTH] {
+        match answer {
+            Answer::Refused(why, place) => [0, u64::from(why), place, 0, 0, 0],
+            Answer::Opened(end, undecided) => [1, end, undecided, 0, 0, 0],
+            Answer::Rebuilt(current, currentend, token, tokenend, tokenaction) => {
+                [2, current, currentend, token, tokenend, tokenaction]
+            }
+            Answer::Stored(place) => [3, place, 0, 0, 0, 0],
+            Answer::Value(place, start, size) => [4, place, start, size, 0, 0],
+            Answer::Nothing => [5, 0, 0, 0, 0, 0],
+            Answer::Told(fate, place) => [6, fate, place, 0, 0, 0],
+            Answer::Moved(floor) => [7, floor, 0, 0, 0, 0],
+        }
+    }
+}
+
+// The same under the name that the documents give it.
 pub fn numbers_of(answer: Answer) -> [u64; ANSWER_LENGTH]
     ensures { result ≡ numbers_of answer }
 {
-    match answer {
-        Answer::Refused(why, place) => [0, u64::from(why), place, 0, 0, 0],
-        Answer::Opened(end, undecided) => [1, end, undecided, 0, 0, 0],
-        Answer::Rebuilt(current, currentend, token, tokenend, tokenaction) => {
-            [2, current, currentend, token, tokenend, tokenaction]
-        }
-        Answer::Stored(place) => [3, place, 0, 0, 0, 0],
-        Answer::Value(place, start, size) => [4, place, start, size, 0, 0],
-        Answer::Nothing => [5, 0, 0, 0, 0, 0],
-        Answer::Told(fate, place) => [6, fate, place, 0, 0, 0],
-        Answer::Moved(floor) => [7, floor, 0, 0, 0, 0],
-    }
+    answer.into()
 }

@@ -1,15 +1,8 @@
 // Rolling a row forward: a read, and a write of a token's file again, raise the row's ends.
-ghost use Rattle.std.specs.Prelude.{◌≡◌, max};
+ghost use Rattle.std.specs.Prelude.{◌≡◌};
 ghost use Rattle.recovery.specs.RollSteps.{raised};
 
 use crate::Row;
-
-// The later of two times.
-pub fn later(a: u64, b: u64) -> u64
-    ensures { result ≡ max a b }
-{
-    a.max(b)
-}
 
 // Raises the ends of a lent row: the current one to at least `current`, the token's to at least `token`.
 fn raise(row: &mut Row, current: u64, token: u64)
@@ -20,10 +13,9 @@ fn raise(row: &mut Row, current: u64, token: u64)
 }
 
 // The same by value, for callers: the record lies in a local, which is lent.
-pub fn raised_row(row: Row, current: u64, token: u64) -> Row
+pub fn raised_row(mut row: Row, current: u64, token: u64) -> Row
     ensures { result ≡ raised row current token }
 {
-    let mut lent = row;
-    raise(&mut lent, current, token);
-    lent
+    raise(&mut row, current, token);
+    row
 }

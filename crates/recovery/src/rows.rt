@@ -1,8 +1,8 @@
 // Rows: a file's row in the lent run of numbers.
-ghost use Rattle.std.specs.Prelude.{◌≡◌, ◌+◌, ◌*◌, ◌/◌, ◌≤◌, length};
+ghost use Rattle.std.specs.Prelude.{◌≡◌, ◌+◌, ◌*◌, ◌/◌, ◌≤◌, ◌<◌, ℕ, [], false, length, get_or};
 ghost use Rattle.recovery.specs.World.{is_file, is_rebuilt_for};
 ghost use Rattle.recovery.specs.Lent.{row_length, row_from, numbers, put_row};
-ghost use Rattle.recovery.specs.Steps.{row_of, in_four, next_named, with_row_of};
+ghost use Rattle.recovery.specs.Steps.{row_of, names_action, in_four, next_named, with_row_of};
 
 use crate::{ROW_LENGTH, Row};
 
@@ -62,101 +62,80 @@ pub fn has_file(numbers: usize, file: u64) -> bool
     is_file(file_count(numbers), file)
 }
 
-// The row after k others in the run.
-fn read_row(rows: &[u64], k: usize) -> Row
-    requires { row_length * k + row_length ≤ length rows.now }
-    ensures { result ≡ row_from rows.now k }
-{
-    let (rows, _) = rows.as_chunks();
-    Row::from(rows[k])
-}
-
-fn write_row(rows: &mut [u64], k: usize, row: Row)
-    requires { row_length * k + row_length ≤ length rows.old }
-    ensures { rows.new ≡ put_row rows.old k row }
-{
-    let at = ROW_LENGTH * k;
-    rows[at..at + ROW_LENGTH].copy_from_slice(&<[u64; ROW_LENGTH]>::from(row));
-}
-
 // The row of a file, cold for no file.
-#[tactic(auto, using(crate::proofs::Lookups::row_none, crate::proofs::Lookups::row_some))]
+#[tactic(auto, using(crate::proofs::Lookups::row_none, crate::proofs::Lookups::row_some, crate::proofs::FlatRows::chunk_row))]
 pub fn row_of(rows: &[u64], file: u64) -> Row
     ensures { result ≡ row_of rows.now file }
 {
     if !has_file(rows.len(), file) {
         return Row::COLD;
     }
-    read_row(rows, file as usize - 1)
+    let (rows, _) = rows.as_chunks();
+    Row::from(rows[file as usize - 1])
 }
 
-// The action of the token in the row after k others, where it lies.
-fn action_at(rows: &[u64], k: usize) -> u64
-    requires { row_length * k + row_length ≤ length rows.now }
-    ensures { result ≡ (row_from rows.now k).tokenaction }
+// Whether a row, by its numbers, has this action as its token's.
+fn names_action(row: &[u64; ROW_LENGTH], action: u64) -> bool
+    ensures { result ≡ names_action row.now action }
 {
-    rows[ROW_LENGTH * k + TOKEN_ACTION]
+    row[TOKEN_ACTION] == action
 }
 
-// Whether the row after k others is rebuilt and names this action.
-fn is_rebuilt_for(rows: &[u64], k: usize, action: u64) -> bool
-    requires { row_length * k + row_length ≤ length rows.now }
-    ensures { result ≡ is_rebuilt_for action (row_from rows.now k) }
+// Whether a row is rebuilt and names this action.
+fn is_rebuilt_for(row: &[u64; ROW_LENGTH], action: u64) -> bool
+    ensures { result ≡ is_rebuilt_for action (row_from row.now 0) }
 {
-    (rows[ROW_LENGTH * k] == 1) & (action_at(rows, k) == action)
+    (row[0] == 1) & names_action(row, action)
 }
 
-// Whether one of the next four rows has this action as its token's, whatever its mark.
+// Whether one of four rows has this action as its token's, whatever its mark: no choice but one for all four.
 #[tactic(auto, unfolding(crate::specs::Steps::in_four))]
-fn is_in_four(rows: &[u64], k: usize, action: u64) -> bool
-    requires { row_length * (k + 4) ≤ length rows.now }
-    ensures { result ≡ in_four rows.now k action }
+fn is_in_four(rows: &[[u64; ROW_LENGTH]; 4], action: u64) -> bool
+    ensures { result ≡ in_four rows.now action }
 {
-    (action_at(rows, k) == action)
-        | (action_at(rows, k + 1) == action)
-        | (action_at(rows, k + 2) == action)
-        | (action_at(rows, k + 3) == action)
+    names_action(&rows[0], action)
+        | names_action(&rows[1], action)
+        | names_action(&rows[2], action)
+        | names_action(&rows[3], action)
 }
 
-// Passes over rows that do not name the action, four at a time: one choice for four rows.
-fn skip_fours(rows: &[u64], from: usize, action: u64) -> usize
-    requires { from ≤ length rows.now / row_length }
-    ensures { (from ≤ result) × (next_named rows.now result action ≡ next_named rows.now from action) }
+// How many of these rows to pass over, four at a time: none of them names the action.
+fn skip_fours(rows: &[[u64; ROW_LENGTH]], action: u64) -> usize
+    ensures { (result ≤ length rows.now) × ((i : ℕ) → i < result → names_action (get_or rows.now i []) action ≡ false) }
 {
-    let files = rows.len() / ROW_LENGTH;
-    let mut k = from;
-    while k + 4 <= files {
-        if is_in_four(rows, k, action) {
-            return k;
+    let (fours, _) = rows.as_chunks();
+    for (n, four) in fours.iter().enumerate() {
+        if is_in_four(four, action) {
+            return 4 * n;
         }
-        k += 4;
     }
-    k
+    4 * fours.len()
 }
 
 // How many files lie before the next rebuilt row that names the action, once so many are passed. If there is none: all of them, or as many
-// as were passed.
+// as were passed. No range counts k: it goes on by as many rows as were passed over.
 pub fn next_named(rows: &[u64], passed: u64, action: u64) -> u64
     ensures { result ≡ next_named rows.now passed action }
 {
-    let files = rows.len() / ROW_LENGTH;
+    let (each, _) = rows.as_chunks();
     let mut k = passed as usize;
-    while k < files {
-        if is_rebuilt_for(rows, k, action) {
+    while k < each.len() {
+        if is_rebuilt_for(&each[k], action) {
             return k as u64;
         }
-        k = skip_fours(rows, k + 1, action);
+        k += 1 + skip_fours(&each[k + 1..], action);
     }
     k as u64
 }
 
 // Puts a file's row into the run; for no file nothing changes.
-#[tactic(auto, using(crate::proofs::Lookups::set_none, crate::proofs::Lookups::set_some))]
+#[tactic(auto, using(crate::proofs::Lookups::set_none))]
 pub fn set_row(rows: &mut [u64], file: u64, row: Row)
     ensures { rows.new ≡ with_row_of rows.old file row }
 {
     if !has_file(rows.len(), file) {
         return;
     }
-    write_row(rows, file as usize - 1, row);
+    let at = ROW_LENGTH * (file as usize - 1);
+    rows[at..at + ROW_LENGTH].copy_from_slice(&<[u64; ROW_LENGTH]>::from(row));
 }

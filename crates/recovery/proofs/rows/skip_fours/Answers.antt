@@ -1,26 +1,19 @@
--- `recovery::rows::skip_fours`. The loop's invariant: no row that was passed over names the action. The measure is what is left of the files. Assumes nothing.
+-- `recovery::rows::skip_fours`. The loop's invariant: no row that was passed over names the action. Assumes nothing.
+use Rattle.recovery.proofs.Named.{four_passed}
+use Rattle.encoding.proofs.Logic.{refused}
 use native.Mathlib.Omega.{arith}
-use mathlib.Core.Path.{◌∙◌, refl, sym}
-use Rattle.recovery.proofs.Named.{next_four}
+use lib.ListN.{length}
+use Prim.Native.Nat.{◌/◌}
 use Rattle.recovery.proofs.rows.skip_fours.Goals as goal
 
-pub loop-k-init : goal.loop-k-init
-loop-k-init c = (c.requires, omega arith, refl)
-
-pub is_in_four-requires : goal.is_in_four-requires
-is_in_four-requires c = omega (arith, c.loop-k-test.true)
-
 pub returns-then-is_in_four : goal.returns-then-is_in_four
-returns-then-is_in_four c = (c.loop-k.invariant.1, c.loop-k.invariant.2)
+returns-then-is_in_four c = (omega (arith, c.as_chunks.ensures.front_len, c.loop-n-test.true), c.loop-n.invariant)
 
-pub loop-k-smaller : goal.loop-k-smaller
-loop-k-smaller c = omega (arith, c.loop-k-test.true)
-
-pub loop-k-preserved : goal.loop-k-preserved
-loop-k-preserved c =
+pub loop-n-preserved : goal.loop-n-preserved
+loop-n-preserved c =
     let a = c.args in
-    let room = c.loop-k-test.true in
-    (omega (arith, room), omega (arith, c.loop-k.invariant.1), next_four a.rows.now a.action c.loop-k.k (omega (arith, room)) (sym c.is_in_four.ensures ∙ c.if-is_in_four.false) ∙ c.loop-k.invariant.2)
+    let k = c.as_chunks.ensures in
+    four_passed a.rows.now a.action (length a.rows.now / 4) c.loop-n.n _ (omega (arith, k.front_len, c.loop-n-test.true)) (rw k.front at (refused c.is_in_four.ensures c.if-is_in_four.false)) c.loop-n.invariant
 
 pub returns : goal.returns
-returns c = (c.loop-k.invariant.1, c.loop-k.invariant.2)
+returns c = (omega (arith, c.as_chunks.ensures.front_len), λ i h. c.loop-n.invariant i (omega (arith, h, c.loop-n-test.false)))
