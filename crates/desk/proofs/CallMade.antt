@@ -1,8 +1,10 @@
 -- A call on a desk that has a state: it is answered, or a waiting cut strikes it and leaves the first bytes of its page. Assumes nothing.
 use Prim.Native.Nat.{ℕ, suc, ◌+◌, ◌-◌, ◌*◌, ◌/◌, min, ◌≤◌}
-use mathlib.Core.Path.{◌≡◌, sym, ap, ◌∙◌, subst}
+use Rattle.std.proofs.Common.{Some, None, unwrap_or}
+use Rattle.std.specs.Bool.{then_some}
+use mathlib.Core.Path.{◌≡◌, refl, sym, ap, ◌∙◌, subst}
 use mathlib.Core.List.{List, ◌++◌}
-use mathlib.Core.Bool.{true, false, cond, not, false≢true}
+use mathlib.Core.Bool.{Bool, true, false, cond, not, false≢true}
 use native.Mathlib.Omega.{arith}
 use lib.ListN.{length, take, drop, length-take, length-drop}
 use lib.Seq.{take_all}
@@ -10,13 +12,13 @@ use lib.Dec.{eqb}
 use borrow.Author.Tests.{eq-eqb, leb-true, le-leb}
 use borrow.Rule.Slice.PartMut.{put_mid, same_len_mid}
 use Rattle.encoding.specs.Bytes.{part}
-use Rattle.encoding.proofs.Logic.{and_true}
+use Rattle.encoding.proofs.Logic.{and_true, clash}
 use Rattle.encoding.proofs.Parts.{length_part, put_part}
 use Rattle.page.specs.Layout.{page_size}
 use Rattle.recovery.specs.declared.State.{State}
 use Rattle.recovery.specs.declared.Done.{Done}
 use Rattle.recovery.specs.Sheet.{page_bytes}
-use Rattle.recovery.specs.Lent.{Left, left_by}
+use Rattle.recovery.specs.Lent.{Left, left_by, closed}
 use Rattle.recovery.specs.Steps.{has_place, part_at}
 use Rattle.calls.specs.declared.asking.Call.{Call}
 use Rattle.calls.specs.Asked.{asked}
@@ -26,7 +28,7 @@ use Rattle.calls.proofs.CutLaws.{first_stored}
 use Rattle.calls.proofs.Appends.{put_page}
 use Rattle.desk.specs.declared.talking.Desk.{Desk}
 use Rattle.desk.specs.declared.talking.Turn.{Turn}
-use Rattle.desk.specs.Conversation.{answered, lost, is_struck, acted_by, acted}
+use Rattle.desk.specs.Conversation.{cut_of, state_of, answered, lost, is_struck, acted_by, acted}
 use Rattle.desk.specs.TalkSteps.{left_after, answered_turn, lost_turn}
 
 -- the bytes from an index on put back
@@ -51,13 +53,26 @@ cut_page_is s ys old place cut a e p q h =
     let z : ys ≡ take cut (take (page_size * place + page_size - page_size * place) (drop (page_size * place) s)) ++ drop cut old = rw (q, p) at h in
     rw (q, p) (put_page s place ys ∙ ap (with_page s place) (rw n at z))
 
-struck : (d : Desk) (left : State) → is_struck d left ≡ true → (d.cut ≤ page_size) × (left.end ≡ d.state.end → ⊥)
+-- what `struck_after` answers
+pub not_struck : (b : Bool) (x : ℕ) → then_some b x ≡ None → b ≡ false
+not_struck true x e = clash cc
+not_struck false x e = refl
+
+pub struck_at : (b : Bool) {x y : ℕ} → then_some b x ≡ Some y → (b ≡ true) × (y ≡ x)
+struck_at true {x} {y} e = let q : x ≡ y = cc in (refl, sym q)
+struck_at false e = clash cc
+
+-- a state that the desk has
+pub state_is : (d : Desk) {state : State} → d.state ≡ Some state → state_of d ≡ state
+state_is d e = ap (λ o. unwrap_or o closed) e
+
+struck : (d : Desk) (left : State) → is_struck d left ≡ true → (cut_of d ≤ page_size) × (left.end ≡ (state_of d).end → ⊥)
 struck d left e =
     let h = and_true _ _ e in
-    (leb-true d.cut page_size h.0, λ q. false≢true (sym (ap not (eq-eqb left.end d.state.end q)) ∙ h.1))
+    (leb-true (cut_of d) page_size h.0, λ q. false≢true (sym (ap not (eq-eqb left.end (state_of d).end q)) ∙ h.1))
 
 module _ (d : Desk) (s fates rows : List ℕ) (k : Call) (value : List ℕ) (done : Done) (s' fates' rows' : List ℕ)
-    (h : left_by done s' fates' rows' ≡ call_leaves s fates rows d.state (asked k value)) where
+    (h : left_by done s' fates' rows' ≡ call_leaves s fates rows (state_of d) (asked k value)) where
   abbrev left : Left
   left = left_by done s' fates' rows'
 
@@ -66,40 +81,40 @@ module _ (d : Desk) (s fates rows : List ℕ) (k : Call) (value : List ℕ) (don
   answered_as t e q =
       ap (λ u. left_after u s' fates' rows') q ∙ sym (ap (λ b. cond b (lost d s left) (answered d k left)) e) ∙ ap (acted_by d s k) h
 
-  same_but : SameBut d.state.end s s'
-  same_but = subst (λ (x : Left). SameBut d.state.end s x.sheet) (sym h) (only_one_page s fates rows d.state (asked k value))
+  same_but : SameBut (state_of d).end s s'
+  same_but = subst (λ (x : Left). SameBut (state_of d).end s x.sheet) (sym h) (only_one_page s fates rows (state_of d) (asked k value))
 
   module _ (e : is_struck d done.state ≡ true) where
-    room : page_size * d.state.end + page_size ≤ length s
-    room = room_above s fates rows d.state (asked k value) (λ q. (struck d done.state e).1 (ap (λ (x : Left). x.state.end) h ∙ q))
+    room : page_size * (state_of d).end + page_size ≤ length s
+    room = room_above s fates rows (state_of d) (asked k value) (λ q. (struck d done.state e).1 (ap (λ (x : Left). x.state.end) h ∙ q))
 
-    pub cut_within : d.cut ≤ page_size
+    pub cut_within : cut_of d ≤ page_size
     cut_within = (struck d done.state e).0
 
-    pub room_left : page_size * d.state.end + page_size ≤ length s'
+    pub room_left : page_size * (state_of d).end + page_size ≤ length s'
     room_left = omega (arith, room, same_but.long)
 
     -- the page that was kept aside
-    part_kept : (place : ℕ) → place ≡ min d.state.end (length s / page_size) + 1 → part_at s place ≡ page_bytes s (suc d.state.end)
+    part_kept : (place : ℕ) → place ≡ min (state_of d).end (length s / page_size) + 1 → part_at s place ≡ page_bytes s (suc (state_of d).end)
     unfolding part_at
     part_kept place q =
-        let z : place ≡ suc d.state.end = omega (arith, room) in
-        let has : has_place s (suc d.state.end) ≡ true = rw (le-leb 1 (suc d.state.end) (omega arith), le-leb (suc d.state.end) (length s / page_size) (omega (arith, room))) in
+        let z : place ≡ suc (state_of d).end = omega (arith, room) in
+        let has : has_place s (suc (state_of d).end) ≡ true = rw (le-leb 1 (suc (state_of d).end) (omega arith), le-leb (suc (state_of d).end) (length s / page_size) (omega (arith, room))) in
         rw (z, has)
 
-    page_kept : (part zeros old : List ℕ) → part ≡ page_bytes s (suc d.state.end) → length zeros ≡ page_size → old ≡ cond (eqb (length zeros) (length part)) part zeros
-        → old ≡ page_bytes s (suc d.state.end)
+    page_kept : (part zeros old : List ℕ) → part ≡ page_bytes s (suc (state_of d).end) → length zeros ≡ page_size → old ≡ cond (eqb (length zeros) (length part)) part zeros
+        → old ≡ page_bytes s (suc (state_of d).end)
     page_kept part zeros old p l q =
         let n : length part ≡ page_size = ap length p ∙ simp (length-take, length-drop) (omega (arith, room)) in
         q ∙ ap (λ b. cond b part zeros) (eq-eqb (length zeros) (length part) (l ∙ sym n)) ∙ p
 
-    pub lost_as : (t : Turn) (part zeros old s'' : List ℕ) (place : ℕ) → place ≡ min d.state.end (length s / page_size) + 1 → part ≡ part_at s place → length zeros ≡ page_size → old ≡ cond (eqb (length zeros) (length part)) part zeros
-        → t ≡ lost_turn d.files → s'' ≡ with_page s' d.state.end (take d.cut (page_bytes s' (suc d.state.end)) ++ drop d.cut old)
+    pub lost_as : (t : Turn) (part zeros old s'' : List ℕ) (place : ℕ) → place ≡ min (state_of d).end (length s / page_size) + 1 → part ≡ part_at s place → length zeros ≡ page_size → old ≡ cond (eqb (length zeros) (length part)) part zeros
+        → t ≡ lost_turn d.files → s'' ≡ with_page s' (state_of d).end (take (cut_of d) (page_bytes s' (suc (state_of d).end)) ++ drop (cut_of d) old)
         → left_after t s'' fates' rows' ≡ acted d s fates rows k value
     unfolding acted
     lost_as t part zeros old s'' place i p l o q b =
         let z : s'' ≡ (lost d s left).sheet =
-        b ∙ ap (λ x. with_page s' d.state.end (take d.cut (page_bytes s' (suc d.state.end)) ++ drop d.cut x)) (page_kept part zeros old (p ∙ part_kept place i) l o)
-        ∙ first_stored d.state.end s s' same_but d.cut in
+        b ∙ ap (λ x. with_page s' (state_of d).end (take (cut_of d) (page_bytes s' (suc (state_of d).end)) ++ drop (cut_of d) x)) (page_kept part zeros old (p ∙ part_kept place i) l o)
+        ∙ first_stored (state_of d).end s s' same_but (cut_of d) in
         ap (λ u. left_after u s'' fates' rows') q ∙ ap (λ x. left_after (lost_turn d.files) x fates' rows') z
         ∙ sym (ap (λ b. cond b (lost d s left) (answered d k left)) e) ∙ ap (acted_by d s k) h

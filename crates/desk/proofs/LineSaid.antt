@@ -1,22 +1,21 @@
 -- A line of input: what its command does, and the bytes of its reply. Assumes nothing.
-use Rattle.std.proofs.Common.{Option}
-use Prim.Native.Nat.{ℕ, zero, suc, ◌-◌, ◌*◌, min, ◌≤◌}
+use Rattle.std.proofs.Common.{Option, Some, None, is_some}
+use Prim.Native.Nat.{ℕ, zero, suc, ◌-◌, ◌*◌, min}
 use mathlib.Core.Path.{◌≡◌, sym, ap, ◌∙◌}
 use mathlib.Core.List.{List, [], ◌∷◌, ◌++◌}
-use mathlib.Core.Bool.{Bool, true, false, cond, not}
+use mathlib.Core.Bool.{true, false, cond}
 use native.Mathlib.Omega.{arith}
 use lib.ListN.{length, take, drop, length-drop, drop_of_length-le}
 use lib.Seq.{take_all}
 use borrow.Author.Tests.{eq-eqb, ne_eqb}
 use borrow.Rule.Slice.PartMut.{put_mid, Post-is}
-use Rattle.encoding.proofs.Logic.{and_true}
+use Rattle.encoding.proofs.Logic.{and_false}
 use Rattle.page.specs.Layout.{most_files}
 use Rattle.recovery.specs.declared.State.{State}
 use Rattle.recovery.specs.declared.Done.{Done}
 use Rattle.recovery.specs.World.{is_file}
-use Rattle.recovery.specs.Lent.{left_by, row_length, closed, open_leaves}
+use Rattle.recovery.specs.Lent.{left_by, row_length, open_leaves}
 use Rattle.recovery.specs.Numbers.{numbers_of, is_refused}
-use Rattle.recovery.proofs.Lookups.{is_file_lem}
 use Rattle.calls.specs.declared.asking.Call.{Call}
 use Rattle.commands.specs.declared.parsing.Command.{Command}
 use Rattle.commands.specs.declared.printing.Reply as reply
@@ -48,17 +47,17 @@ front_part : (rows : List ℕ) (n : ℕ) → take (n - 0) (drop 0 rows) ≡ take
 front_part rows n = let z : n - 0 ≡ n = omega arith in rw z
 
 -- an opening
-pub open_left : (d : Desk) (s fates rows s' fates' rows' : List ℕ) (done : Done) (files floor : ℕ) (r : Reply) (b : Bool) → left_by done s' fates' rows' ≡ open_leaves s fates rows floor
-    → r ≡ open_reply (numbers_of done.answer) → b ≡ not (is_refused done.answer)
-    → left_after (record { reply = r; desk = record { on = b; files = files; state = done.state; cut = d.cut } }) s' fates' rows' ≡ opened_for d s fates rows files floor
+pub open_left : (d : Desk) (s fates rows s' fates' rows' : List ℕ) (done : Done) (files floor : ℕ) (r : Reply) (o : Option State) → left_by done s' fates' rows' ≡ open_leaves s fates rows floor
+    → r ≡ open_reply (numbers_of done.answer) → o ≡ cond (is_refused done.answer) None (Some done.state)
+    → left_after (record { reply = r; desk = record { files = files; state = o; cut = d.cut } }) s' fates' rows' ≡ opened_for d s fates rows files floor
 unfolding opened_for
-open_left d s fates rows s' fates' rows' done files floor r b h p q = rw (p, q) (ap (opened_by d files) h)
+open_left d s fates rows s' fates' rows' done files floor r o h p q = rw (p, q) (ap (opened_by d files) h)
 
 module _ (d : Desk) (s fates rows : List ℕ) (t : Turn) where
-  pub start_refused : (files floor : ℕ) (state : State) → is_file most_files files ≡ false → state ≡ closed
-      → t ≡ record { reply = reply.Reply.No 1 0; desk = record { on = false; files = d.files; state = state; cut = d.cut } } → left_after t s fates rows ≡ started_for d s fates rows files floor
+  pub start_refused : (files floor : ℕ) → is_file most_files files ≡ false
+      → t ≡ record { reply = reply.Reply.No 1 0; desk = record { files = d.files; state = None; cut = d.cut } } → left_after t s fates rows ≡ started_for d s fates rows files floor
   unfolding started_for
-  start_refused files floor state e q h = rw (e, h, q)
+  start_refused files floor e h = rw (e, h)
 
   pub start_opened : (files floor n : ℕ) (fates' rows'' : List ℕ) → is_file most_files files ≡ true → n ≡ row_length * files
       → left_after t s fates' rows'' ≡ opened_for d s fates (take (n - 0) (drop 0 rows)) files floor → left_after t s fates' (put_mid 0 (n - 0) rows rows'') ≡ started_for d s fates rows files floor
@@ -68,7 +67,7 @@ module _ (d : Desk) (s fates rows : List ℕ) (t : Turn) where
       ap (left_after t s fates') (lent_front rows rows'' n) ∙ ap (lending rows n) k
       ∙ ap (λ m. lending rows m (opened_for d s fates (take m rows) files floor)) q
       ∙ sym (ap (λ b. cond b (lending rows (row_length * files) (opened_for d s fates (take (row_length * files) rows) files floor))
-      (replied (reply.Reply.No 1 0) (record { on = false; files = d.files; state = closed; cut = d.cut }) s fates rows)) e)
+      (replied (reply.Reply.No 1 0) (record { files = d.files; state = None; cut = d.cut }) s fates rows)) e)
 
   -- a call
   module _ (k : Call) (value : List ℕ) where
@@ -86,8 +85,15 @@ module _ (d : Desk) (s fates rows : List ℕ) (t : Turn) where
         ap (left_after t s' fates') (lent_front rows rows'' n) ∙ ap (lending rows n) z ∙ ap (λ m. lending rows m (acted d s fates (take m rows) k value)) q
         ∙ sym (ap (λ b. cond b (lending rows (row_length * d.files) (acted d s fates (take (row_length * d.files) rows) k value)) (replied reply.Reply.Closed d s fates rows)) e)
 
-pub open_files : (d : Desk) → is_open d ≡ true → d.files ≤ most_files
-open_files d e = (is_file_lem most_files d.files (and_true d.on (is_file most_files d.files) e).1).1
+-- there is a state, for files whose rows can be lent
+pub no_state : (d : Desk) → d.state ≡ None → is_open d ≡ false
+no_state d e = rw e
+
+pub not_lent : (d : Desk) → is_file most_files d.files ≡ false → is_open d ≡ false
+not_lent d f = and_false (is_some d.state) (is_file most_files d.files) f
+
+pub is_lent : (d : Desk) {state : State} → d.state ≡ Some state → is_file most_files d.files ≡ true → is_open d ≡ true
+is_lent d e f = rw (e, f)
 
 -- ---- a line
 

@@ -1,5 +1,5 @@
 -- What a command does to the desk, and the reply. The calls are those of the store, and a cut leaves what a cut leaves of them.
-use Rattle.std.specs.Prelude.{ℕ, suc, ◌*◌, List, ◌++◌, Bool, true, false, cond, not, ◌&&◌, length, take, drop, eqb, leb, Option, Some, None}
+use Rattle.std.specs.Prelude.{ℕ, suc, ◌*◌, List, ◌++◌, Bool, cond, not, ◌&&◌, length, take, drop, eqb, leb, Option, Some, None, is_some, unwrap_or}
 use Rattle.page.specs.Layout.{page_size, most_files}
 use Rattle.recovery.specs.declared.State.{State}
 use Rattle.recovery.specs.Numbers.{numbers_of, is_refused}
@@ -33,10 +33,18 @@ pub record After : Type 0 where
 abbrev pub no_cut : ℕ
 no_cut = suc page_size
 
+-- the bytes after which the next append is cut
+abbrev pub cut_of : Desk → ℕ
+cut_of d = unwrap_or d.cut no_cut
+
+-- the state, closed where there is none
+abbrev pub state_of : Desk → State
+state_of d = unwrap_or d.state closed
+
 -- the call is answered
 abbrev pub answered : Desk → Call → Left → After
 answered d k x = record {
-  turn = record { reply = call_reply k (numbers_of x.answer); desk = record { on = true; files = d.files; state = x.state; cut = d.cut } };
+  turn = record { reply = call_reply k (numbers_of x.answer); desk = record { files = d.files; state = Some x.state; cut = d.cut } };
   sheet = x.sheet;
   fates = x.fates;
   rows = x.rows;
@@ -45,27 +53,27 @@ answered d k x = record {
 -- the supply is cut while its page is stored: the cut is used up, and the state is gone
 abbrev pub lost : Desk → List ℕ → Left → After
 lost d s x = record {
-  turn = record { reply = reply.Reply.Lost; desk = record { on = false; files = d.files; state = closed; cut = no_cut } };
-  sheet = stored_of (first_bytes d.cut) d.state.end x.sheet s;
+  turn = record { reply = reply.Reply.Lost; desk = record { files = d.files; state = None; cut = None } };
+  sheet = stored_of (first_bytes (cut_of d)) (state_of d).end x.sheet s;
   fates = x.fates;
   rows = x.rows;
 }
 
 -- a cut that waits strikes a call that appends: one that raises the end
 abbrev pub is_struck : Desk → State → Bool
-is_struck d left = leb d.cut page_size && not (eqb left.end d.state.end)
+is_struck d left = leb (cut_of d) page_size && not (eqb left.end (state_of d).end)
 
 abbrev pub acted_by : Desk → List ℕ → Call → Left → After
 acted_by d s k x = cond (is_struck d x.state) (lost d s x) (answered d k x)
 
 unfoldable pub acted : Desk → List ℕ → List ℕ → List ℕ → Call → List ℕ → After
-acted d s fates rows k value = acted_by d s k (call_leaves s fates rows d.state (asked k value))
+acted d s fates rows k value = acted_by d s k (call_leaves s fates rows (state_of d) (asked k value))
 
 -- ---- an opening; a refused one leaves no state
 
 abbrev pub opened_by : Desk → ℕ → Left → After
 opened_by d files x = record {
-  turn = record { reply = open_reply (numbers_of x.answer); desk = record { on = not (is_refused x.answer); files = files; state = x.state; cut = d.cut } };
+  turn = record { reply = open_reply (numbers_of x.answer); desk = record { files = files; state = cond (is_refused x.answer) None (Some x.state); cut = d.cut } };
   sheet = x.sheet;
   fates = x.fates;
   rows = x.rows;
@@ -84,7 +92,7 @@ replied r d s fates rows = record { turn = record { reply = r; desk = d }; sheet
 
 -- there is a state, for files whose rows can be lent
 abbrev pub is_open : Desk → Bool
-is_open d = d.on && is_file most_files d.files
+is_open d = is_some d.state && is_file most_files d.files
 
 -- without a state a call is not made
 unfoldable pub called_for : Desk → List ℕ → List ℕ → List ℕ → Call → List ℕ → After
@@ -96,7 +104,7 @@ unfoldable pub started_for : Desk → List ℕ → List ℕ → List ℕ → ℕ
 started_for d s fates rows files floor =
     cond (is_file most_files files)
     (lending rows (row_length * files) (opened_for d s fates (take (row_length * files) rows) files floor))
-    (replied (reply.Reply.No 1 0) (record { on = false; files = d.files; state = closed; cut = d.cut }) s fates rows)
+    (replied (reply.Reply.No 1 0) (record { files = d.files; state = None; cut = d.cut }) s fates rows)
 
 -- a bare `open` has no numbers: it is for eight files, and its floor is the highest start on the sheet, so that nothing can be backdated
 abbrev pub bare_files : ℕ
@@ -110,7 +118,7 @@ conversed d s fates rows None line = replied reply.Reply.What d s fates rows
 conversed d s fates rows (Some command.Command.BareOpen) line = started_for d s fates rows bare_files (bare_floor s)
 conversed d s fates rows (Some (command.Command.Open files floor)) line = started_for d s fates rows files floor
 conversed d s fates rows (Some (command.Command.Cut n)) line =
-    replied (reply.Reply.Cut n) (record { on = d.on; files = d.files; state = d.state; cut = n }) s fates rows
+    replied (reply.Reply.Cut n) (record { files = d.files; state = d.state; cut = Some n }) s fates rows
 conversed d s fates rows (Some (command.Command.Call k from)) line = called_for d s fates rows k (drop from line)
 
 -- ---- a line of input and the bytes of its reply
@@ -123,7 +131,7 @@ pub record Spoken : Type 0 where
   pub out : List ℕ
 
 abbrev pub first_desk : Desk
-first_desk = record { on = false; files = 0; state = closed; cut = no_cut }
+first_desk = record { files = 0; state = None; cut = None }
 
 abbrev pub spoken : List ℕ → After → Spoken
 spoken out x = record {

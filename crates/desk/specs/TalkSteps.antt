@@ -1,7 +1,6 @@
 -- What smaller functions of the conversation leave. A reader of 01 can pass this over.
-use Rattle.std.specs.Prelude.{ℕ, List, true, false}
+use Rattle.std.specs.Prelude.{ℕ, List, Some, None}
 use Rattle.recovery.specs.declared.Done.{Done}
-use Rattle.recovery.specs.Lent.{closed}
 use Rattle.recovery.specs.Numbers.{numbers_of}
 use Rattle.calls.specs.declared.asking.Call.{Call}
 use Rattle.commands.specs.declared.printing.Reply as reply
@@ -9,7 +8,7 @@ use Rattle.desk.specs.declared.talking.Desk.{Desk}
 use Rattle.desk.specs.declared.talking.Turn.{Turn}
 use Rattle.desk.specs.declared.talking.Said.{Said}
 use Rattle.desk.specs.Wording.{call_reply}
-use Rattle.desk.specs.Conversation.{After, Spoken, no_cut}
+use Rattle.desk.specs.Conversation.{After, Spoken}
 
 abbrev pub left_after : Turn → List ℕ → List ℕ → List ℕ → After
 left_after t s fates rows = record { turn = t; sheet = s; fates = fates; rows = rows }
@@ -18,7 +17,7 @@ abbrev pub left_said : Said → List ℕ → List ℕ → List ℕ → List ℕ 
 left_said r s fates rows out = record { said = r; sheet = s; fates = fates; rows = rows; out = out }
 
 abbrev pub answered_turn : Desk → Call → Done → Turn
-answered_turn d k r = record { reply = call_reply k (numbers_of r.answer); desk = record { on = true; files = d.files; state = r.state; cut = d.cut } }
+answered_turn d k r = record { reply = call_reply k (numbers_of r.answer); desk = record { files = d.files; state = Some r.state; cut = d.cut } }
 
 abbrev pub lost_turn : ℕ → Turn
-lost_turn files = record { reply = reply.Reply.Lost; desk = record { on = false; files = files; state = closed; cut = no_cut } }
+lost_turn files = record { reply = reply.Reply.Lost; desk = record { files = files; state = None; cut = None } }

@@ -1,58 +1,53 @@
 // A call on a desk that has a state, and what a waiting cut leaves of it.
-ghost use Rattle.std.specs.Prelude.{◌≡◌, ◌++◌, suc, ◌+◌, ◌*◌, ◌≤◌, length, take, drop};
+ghost use Rattle.std.specs.Prelude.{Some, ◌≡◌, ◌++◌, suc, ◌+◌, ◌*◌, ◌≤◌, length, take, drop};
+ghost use Rattle.std.specs.Bool.{then_some};
 ghost use Rattle.page.specs.Layout.{page_size};
 ghost use Rattle.recovery.specs.Sheet.{page_bytes};
 ghost use Rattle.calls.specs.Leaves.{with_page};
-ghost use Rattle.desk.specs.Conversation.{is_struck, acted};
+ghost use Rattle.desk.specs.Conversation.{cut_of, is_struck, acted};
 ghost use Rattle.desk.specs.TalkSteps.{left_after, answered_turn, lost_turn};
 
 use crate::showing::call_reply;
-use crate::talking::{Desk, NO_CUT, Turn, no_state};
+use crate::talking::{Desk, Turn};
 use calls::Call;
 use commands::Reply;
-use encoding::least;
 use making::make;
 use page::Page;
-use recovery::{Done, State, numbers_of, part_at};
+use recovery::{Done, State, part_at};
 
 // A call that was answered.
 fn answered(desk: Desk, call: Call, done: Done) -> Turn
     ensures { result ≡ answered_turn desk call done }
 {
-    let answer = done.answer;
-    let state = done.state;
-    let reply = call_reply(call, numbers_of(answer));
-    let desk = Desk {
-        on: true,
-        files: desk.files,
-        state,
-        cut: desk.cut,
-    };
-    Turn { reply, desk }
+    Turn {
+        reply: call_reply(call, done.answer),
+        desk: Desk {
+            state: Some(done.state),
+            ..desk
+        },
+    }
 }
 
 // The cut is used up, and the state is gone.
 fn lost(files: u64) -> Turn
     ensures { result ≡ lost_turn files }
 {
-    let desk = Desk {
-        on: false,
-        files,
-        state: no_state(),
-        cut: NO_CUT,
-    };
     Turn {
         reply: Reply::Lost,
-        desk,
+        desk: Desk {
+            files,
+            state: None,
+            cut: None,
+        },
     }
 }
 
-// A cut that waits strikes a call that appends: one that raised the end.
-fn is_struck(desk: Desk, left: State) -> bool
-    ensures { result ≡ is_struck desk left }
+// The bytes after which a cut that waits strikes a call. It strikes one that appends: that raised the end.
+fn struck_after(desk: Desk, state: State, left: State) -> Option<u64>
+    requires { desk.state ≡ Some state }
+    ensures { result ≡ then_some (is_struck desk left) (cut_of desk) }
 {
-    let state = desk.state;
-    (desk.cut <= Page::SIZE as u64) & (left.end != state.end)
+    desk.cut.filter(|&cut| (cut <= Page::SIZE as u64) & (left.end != state.end))
 }
 
 // The bytes from an index on as they were.
@@ -80,21 +75,21 @@ pub(crate) fn act(
     fates: &mut [u8],
     rows: &mut [u64],
     desk: Desk,
+    state: State,
     call: Call,
     value: &[u8],
 ) -> Turn
+    requires { desk.state ≡ Some state }
     ensures { left_after result sheet.new fates.new rows.new ≡ acted desk sheet.old fates.old rows.old call value.now }
 {
     let mut old = [0u8; Page::SIZE];
-    let state = desk.state;
     // With an end past the sheet no call appends, and there is no page to keep.
     let pages = (sheet.len() / Page::SIZE) as u64;
-    encoding::copy(&mut old, part_at(&sheet[..], least(state.end, pages) + 1));
+    encoding::copy(&mut old, part_at(&sheet[..], state.end.min(pages) + 1));
     let done = make(sheet, fates, rows, state, call, value);
-    let left = done.state;
-    if !is_struck(desk, left) {
+    let Some(cut) = struck_after(desk, state, done.state) else {
         return answered(desk, call, done);
-    }
-    cut_page(sheet, state.end, &old, desk.cut);
+    };
+    cut_page(sheet, state.end, &old, cut);
     lost(desk.files)
 }

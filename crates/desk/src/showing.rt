@@ -2,13 +2,14 @@
 ghost use Rattle.std.specs.Prelude.{◌≡◌};
 ghost use Rattle.page.specs.Answers.{value_in};
 ghost use Rattle.recovery.specs.Sheet.{page_bytes};
+ghost use Rattle.recovery.specs.Numbers.{numbers_of};
 ghost use Rattle.commands.specs.Replies.{prints};
 ghost use Rattle.desk.specs.Wording.{stored_by, call_reply, open_reply, shown};
 
 use calls::Call;
 use commands::{Reply, print};
 use page::Page;
-use recovery::{ANSWER_LENGTH, part_at};
+use recovery::{Answer, numbers_of, part_at};
 
 // The place of a call's page, in the call's own word.
 fn stored_by(call: Call, place: u64) -> Reply
@@ -24,33 +25,32 @@ fn stored_by(call: Call, place: u64) -> Reply
     }
 }
 
-// The reply to a call, by the numbers of its answer.
-pub(crate) fn call_reply(call: Call, numbers: [u64; ANSWER_LENGTH]) -> Reply
-    ensures { result ≡ call_reply call numbers }
+// The reply to a call, by its answer.
+#[tactic(auto, unfolding(crate::specs::Wording::call_reply))]
+pub(crate) fn call_reply(call: Call, answer: Answer) -> Reply
+    ensures { result ≡ call_reply call (numbers_of answer) }
 {
-    let kind = numbers[0];
-    if kind == 0 {
-        return Reply::No(numbers[1], numbers[2]);
+    match answer {
+        Answer::Refused(number, place) => Reply::No(number, place),
+        Answer::Stored(place) => stored_by(call, place),
+        Answer::Value(place, start, size) => Reply::Shown(place, start, size),
+        Answer::Nothing => Reply::Nothing,
+        _ => {
+            let numbers = numbers_of(answer);
+            Reply::Told(numbers[1], numbers[2])
+        }
     }
-    if kind == 3 {
-        return stored_by(call, numbers[1]);
-    }
-    if kind == 4 {
-        return Reply::Shown(numbers[1], numbers[2], numbers[3]);
-    }
-    if kind == 5 {
-        return Reply::Nothing;
-    }
-    Reply::Told(numbers[1], numbers[2])
 }
 
-// The reply to an opening, by the numbers of its answer.
-pub(crate) fn open_reply(numbers: [u64; ANSWER_LENGTH]) -> Reply
-    ensures { result ≡ open_reply numbers }
+// The reply to an opening, by its answer.
+#[tactic(auto, unfolding(crate::specs::Wording::open_reply))]
+pub(crate) fn open_reply(answer: Answer) -> Reply
+    ensures { result ≡ open_reply (numbers_of answer) }
 {
-    if numbers[0] == 0 {
-        return Reply::No(numbers[1], numbers[2]);
+    if let Answer::Refused(number, place) = answer {
+        return Reply::No(number, place);
     }
+    let numbers = numbers_of(answer);
     Reply::Opened(numbers[1], numbers[2])
 }
 

@@ -1,27 +1,26 @@
 // A conversation: commands, one a line, on one sheet.
-ghost use Rattle.std.specs.Prelude.{◌≡◌, ◌*◌, ◌≤◌, length, drop};
+ghost use Rattle.std.specs.Prelude.{◌≡◌, ◌*◌, ◌≤◌, None, Some, cond, drop};
 ghost use Rattle.page.specs.Layout.{most_files};
-ghost use Rattle.recovery.specs.Lent.{closed, row_length};
+ghost use Rattle.recovery.specs.Lent.{row_length};
+ghost use Rattle.recovery.specs.Numbers.{is_refused};
 ghost use Rattle.commands.specs.Commands.{parsed};
-ghost use Rattle.desk.specs.Conversation.{opened_for, started_for, is_open, called_for, bare_files, bare_floor, conversed, first_desk, said_to};
+ghost use Rattle.desk.specs.Conversation.{opened_for, started_for, called_for, bare_files, bare_floor, conversed, first_desk, said_to};
 ghost use Rattle.desk.specs.TalkSteps.{left_after, left_said};
 
 use crate::cutting::act;
 use crate::showing::{open_reply, tell};
 use calls::Call;
 use commands::{Command, Reply, parse};
-use encoding::least;
 use page::Page;
-use recovery::{ROW_LENGTH, State, highest_start, numbers_of};
+use recovery::{Answer, Done, ROW_LENGTH, State, highest_start};
 
-// What the desk keeps from line to line, beside sheet, fates and rows: whether it has a state, for how many files, and after how many
-// bytes the next append is cut; 65 if it is not.
+// What the desk keeps from line to line, beside sheet, fates and rows: for how many files it is, the state if it has one, and after how many
+// bytes the next append is cut, if it is.
 #[derive(Clone, Copy)]
 pub struct Desk {
-    pub on: bool,
     pub files: u64,
-    pub state: State,
-    pub cut: u64,
+    pub state: Option<State>,
+    pub cut: Option<u64>,
 }
 
 // A reply, and the desk after it.
@@ -48,19 +47,18 @@ pub const ROWS: usize = ROW_LENGTH * (Page::MOST_FILES as usize);
 // How many files a bare `open` is for.
 const BARE_FILES: u64 = 8;
 
-pub(crate) const NO_CUT: u64 = Page::SIZE as u64 + 1;
-
-pub(crate) fn no_state() -> State
-    ensures { result ≡ closed }
+// The state that an opening leaves: none if it is refused.
+#[tactic(auto, unfolding(recovery::specs::Numbers::is_refused))]
+fn state_left(done: Done) -> Option<State>
+    ensures { result ≡ cond (is_refused done.answer) None (Some done.state) }
 {
-    State {
-        end: 0,
-        floor: 0,
-        undecided: 0,
+    match done.answer {
+        Answer::Refused(_, _) => None,
+        _ => Some(done.state),
     }
 }
 
-// An opening for so many files, lent their rows. A refused one leaves no state.
+// An opening for so many files, lent their rows.
 fn open_desk(
     sheet: &[u8],
     fates: &mut [u8],
@@ -72,18 +70,13 @@ fn open_desk(
     ensures { left_after result sheet.now fates.new rows.new ≡ opened_for desk sheet.now fates.old rows.old files floor }
 {
     let done = opening::open(sheet, fates, rows, floor);
-    let answer = done.answer;
-    let state = done.state;
-    let numbers = numbers_of(answer);
-    let desk = Desk {
-        on: numbers[0] != 0,
-        files,
-        state,
-        cut: desk.cut,
-    };
     Turn {
-        reply: open_reply(numbers),
-        desk,
+        reply: open_reply(done.answer),
+        desk: Desk {
+            files,
+            state: state_left(done),
+            ..desk
+        },
     }
 }
 
@@ -106,86 +99,70 @@ fn row_numbers(files: u64) -> usize
 fn start(
     sheet: &[u8],
     fates: &mut [u8],
-    rows: &mut [u64],
+    rows: &mut [u64; ROWS],
     desk: Desk,
     files: u64,
     floor: u64,
 ) -> Turn
-    requires { length rows.old ≡ row_length * most_files }
     ensures { left_after result sheet.now fates.new rows.new ≡ started_for desk sheet.now fates.old rows.old files floor }
 {
     if !recovery::is_file(Page::MOST_FILES, files) {
-        let off = Desk {
-            on: false,
-            files: desk.files,
-            state: no_state(),
-            cut: desk.cut,
-        };
-        return only(Reply::No(1, 0), off);
+        return only(
+            Reply::No(1, 0),
+            Desk {
+                state: None,
+                ..desk
+            },
+        );
     }
     let n = row_numbers(files);
     open_desk(sheet, fates, &mut rows[0..n], desk, files, floor)
 }
 
 // A bare `open`: its floor is the highest start on the sheet.
-fn bare_start(sheet: &[u8], fates: &mut [u8], rows: &mut [u64], desk: Desk) -> Turn
-    requires { length rows.old ≡ row_length * most_files }
+fn bare_start(sheet: &[u8], fates: &mut [u8], rows: &mut [u64; ROWS], desk: Desk) -> Turn
     ensures { left_after result sheet.now fates.new rows.new ≡ started_for desk sheet.now fates.old rows.old bare_files (bare_floor sheet.now) }
 {
     let floor = highest_start(sheet, BARE_FILES);
     start(sheet, fates, rows, desk, BARE_FILES, floor)
 }
 
-// There is a state, for files whose rows can be lent.
-fn is_open(desk: Desk) -> bool
-    ensures { result ≡ is_open desk }
-{
-    desk.on & recovery::is_file(Page::MOST_FILES, desk.files)
-}
-
-// A call, if there is a state.
+// A call, if there is a state, for files whose rows can be lent.
 fn call_now(
     sheet: &mut [u8],
     fates: &mut [u8],
-    rows: &mut [u64],
+    rows: &mut [u64; ROWS],
     desk: Desk,
     call: Call,
     value: &[u8],
 ) -> Turn
-    requires { length rows.old ≡ row_length * most_files }
     ensures { left_after result sheet.new fates.new rows.new ≡ called_for desk sheet.old fates.old rows.old call value.now }
 {
-    if !is_open(desk) {
+    let Some(state) = desk.state else {
+        return only(Reply::Closed, desk);
+    };
+    if !recovery::is_file(Page::MOST_FILES, desk.files) {
         return only(Reply::Closed, desk);
     }
     let n = row_numbers(desk.files);
-    act(sheet, fates, &mut rows[0..n], desk, call, value)
-}
-
-fn with_cut(desk: Desk, cut: u64) -> Desk
-    ensures { result ≡ record { on = desk.on; files = desk.files; state = desk.state; cut = cut } }
-{
-    let state = desk.state;
-    Desk {
-        on: desk.on,
-        files: desk.files,
-        state,
-        cut,
-    }
+    act(sheet, fates, &mut rows[0..n], desk, state, call, value)
 }
 
 // The rest of a line from an index on.
 fn rest(line: &[u8], from: usize) -> &[u8]
     ensures { result.now ≡ drop from line.now }
 {
-    let n = line.len();
-    let at = least(from as u64, n as u64) as usize;
-    &line[at..n]
+    &line[from.min(line.len())..]
 }
 
 // A line of input.
-fn converse(sheet: &mut [u8], fates: &mut [u8], rows: &mut [u64], desk: Desk, line: &[u8]) -> Turn
-    requires { length rows.old ≡ row_length * most_files }
+fn converse(
+    sheet: &mut [u8],
+    fates: &mut [u8],
+    rows: &mut [u64; ROWS],
+    desk: Desk,
+    line: &[u8],
+) -> Turn
     ensures { left_after result sheet.new fates.new rows.new ≡ conversed desk sheet.old fates.old rows.old (parsed line.now) line.now }
 {
     let Some(command) = parse(line) else {
@@ -194,7 +171,13 @@ fn converse(sheet: &mut [u8], fates: &mut [u8], rows: &mut [u64], desk: Desk, li
     match command {
         Command::BareOpen => bare_start(&sheet[..], fates, rows, desk),
         Command::Open(files, floor) => start(&sheet[..], fates, rows, desk, files, floor),
-        Command::Cut(n) => only(Reply::Cut(n), with_cut(desk, n)),
+        Command::Cut(n) => only(
+            Reply::Cut(n),
+            Desk {
+                cut: Some(n),
+                ..desk
+            },
+        ),
         Command::Call(call, from) => call_now(sheet, fates, rows, desk, call, rest(line, from)),
     }
 }
@@ -204,10 +187,9 @@ pub fn closed_desk() -> Desk
     ensures { result ≡ first_desk }
 {
     Desk {
-        on: false,
         files: 0,
-        state: no_state(),
-        cut: NO_CUT,
+        state: None,
+        cut: None,
     }
 }
 
@@ -222,12 +204,13 @@ pub fn answer(
 ) -> Said
     ensures { left_said result sheet.new fates.new rows.new out.new ≡ said_to desk sheet.old fates.old rows.old line.now out.old }
 {
-    if rows.len() != ROWS {
+    let Some(rows) = rows.as_mut_array() else {
         return Said { desk, count: 0 };
-    }
+    };
     let turn = converse(sheet, fates, rows, desk, line);
-    let reply = turn.reply;
-    let next = turn.desk;
-    let count = tell(&sheet[..], reply, out);
-    Said { desk: next, count }
+    let count = tell(&sheet[..], turn.reply, out);
+    Said {
+        desk: turn.desk,
+        count,
+    }
 }

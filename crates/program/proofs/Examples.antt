@@ -116,7 +116,7 @@ short_typed = reads_typed 8 8 refl (replicate 8 0) rows refl short (reads 3 10 1
 abbrev asked : After
 asked = turned (after (open_name ∷ begin_name ∷ commits 1 ∷ cut_after 20 ∷ [])) (commits 1)
 
-pub cut_waits_on : (asked.turn.reply ≡ reply.Reply.Committed 2) × (asked.turn.desk.cut ≡ 20)
+pub cut_waits_on : (asked.turn.reply ≡ reply.Reply.Committed 2) × (asked.turn.desk.cut ≡ Some 20)
 unfolding words number_of three is_text alone with_one with_two with_three with_text command_of parsed decimal spaced open_name begin_name write_name read_name test_name commit_name abort_name cut_name call_reply open_reply started_for opened_for called_for acted head front packed fields_of lowest highest within between meets_rules is_page_of torn in_bounds tested tabulate fate_of outcome_of images_of not_by effective versions_of token_of highest_start decoded sealed pages down warm_row row_holds lent_right end_of highest_bad undecided_of cold_rows unfinished opened rows_of flat sizes_right open_leaves follow each_row call packed_entry with_page call_leaves mixed is_refused
 cut_waits_on = (refl, refl)
 

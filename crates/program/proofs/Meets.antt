@@ -1,9 +1,9 @@
 -- A line said to the program and the event that it is: they leave the same sheet, and the reply is what the box answers. Assumes nothing.
-use Rattle.std.proofs.Common.{Option, Some, None}
+use Rattle.std.proofs.Common.{Option, Some, None, is_some}
 use Prim.Native.Nat.{ℕ, ◌*◌, ◌/◌, ◌≤◌}
 use mathlib.Core.Path.{◌≡◌, refl, sym, ap, ◌∙◌, subst}
 use mathlib.Core.List.{List, [], ◌++◌}
-use mathlib.Core.Bool.{Bool, true, false, cond, not, ◌&&◌}
+use mathlib.Core.Bool.{Bool, true, false, cond, ◌&&◌}
 use native.Mathlib.Omega.{arith}
 use lib.ListN.{length, take, drop, length-append, length-drop, length-replicate}
 use lib.Seq.{take_at, length-take-le}
@@ -31,7 +31,7 @@ use Rattle.commands.specs.declared.parsing.Command as command
 use Rattle.commands.specs.declared.parsing.Command.{Command}
 use Rattle.commands.specs.declared.printing.Reply as reply
 use Rattle.desk.specs.Wording.{call_reply, open_reply}
-use Rattle.desk.specs.Conversation.{After, answered, lost, is_struck, acted, opened_for, lending, replied, is_open, called_for, started_for, bare_files, bare_floor, conversed}
+use Rattle.desk.specs.Conversation.{After, cut_of, state_of, answered, lost, is_struck, acted, opened_for, lending, replied, is_open, called_for, started_for, bare_files, bare_floor, conversed}
 use Rattle.promises.specs.Runs.{Box, on, off, sheet_of, Event, calls, cuts, box_of, answer_to, numbered, after, runs}
 use Rattle.calls.proofs.OtherRows.{rows_as_many}
 use Rattle.program.specs.Program.{Memory, memory_of, call_event, open_event, events_of, in_words, reply_heard}
@@ -39,7 +39,7 @@ use Rattle.program.specs.Program.{Memory, memory_of, call_event, open_event, eve
 -- ---- the program's memory and a box that has the same
 
 abbrev pub left_for : Memory → Answer → Left
-left_for m a = record { answer = a; state = m.desk.state; sheet = m.sheet; fates = m.fates; rows = take (row_length * m.desk.files) m.rows }
+left_for m a = record { answer = a; state = state_of m.desk; sheet = m.sheet; fates = m.fates; rows = take (row_length * m.desk.files) m.rows }
 
 pub data Met (m : Memory) : Box → Type 0 where
   met_on : is_open m.desk ≡ true → (a : Answer) → Met m (on (left_for m a))
@@ -77,29 +77,29 @@ module _ (m : Memory) (s : AllRows m.rows) (c : code.Call) (value : List ℕ) wh
   n = row_length * m.desk.files
 
   abbrev X : Left
-  X = call_leaves m.sheet m.fates (take n m.rows) m.desk.state k
+  X = call_leaves m.sheet m.fates (take n m.rows) (state_of m.desk) k
 
   abbrev made_by : Bool → After
   made_by z = lending m.rows n (cond z (lost m.desk m.sheet X) (answered m.desk c X))
 
   abbrev event_by : Bool → Event
-  event_by z = cond z (cuts k (first_bytes m.desk.cut)) (calls k)
+  event_by z = cond z (cuts k (first_bytes (cut_of m.desk))) (calls k)
 
   abbrev StepsBy : Box → After → Event → Type 0
   StepsBy b x e = Steps x (after b e) (in_words (call_reply c) e (numbered (answer_to b e)))
 
   module _ (o : is_open m.desk ≡ true) (a : Answer) where
     few : n ≤ row_length * most_files
-    few = let f = is_file_lem most_files m.desk.files (and_true m.desk.on (is_file most_files m.desk.files) o).1 in omega arith
+    few = let f = is_file_lem most_files m.desk.files (and_true (is_some m.desk.state) (is_file most_files m.desk.files) o).1 in omega arith
 
     rows_are : length X.rows ≡ n
-    rows_are = rows_as_many m.sheet m.fates (take n m.rows) m.desk.state k ∙ length-take-le n m.rows (omega (arith, few, s))
+    rows_are = rows_as_many m.sheet m.fates (take n m.rows) (state_of m.desk) k ∙ length-take-le n m.rows (omega (arith, few, s))
 
     made : (z : Bool) → StepsBy (on (left_for m a)) (made_by z) (event_by z)
     made true = record { next = met_off refl; rows = back_long m.rows X.rows n s few rows_are; reply = refl }
     made false = record {
       next = subst (λ r. Met (memory_of (made_by false)) (on (record { answer = X.answer; state = X.state; sheet = X.sheet; fates = X.fates; rows = r })))
-          (front_back m.rows X.rows n s few rows_are) (met_on (and_true m.desk.on (is_file most_files m.desk.files) o).1 X.answer);
+          (front_back m.rows X.rows n s few rows_are) (met_on (and_true (is_some m.desk.state) (is_file most_files m.desk.files) o).1 X.answer);
       rows = back_long m.rows X.rows n s few rows_are;
       reply = refl;
     }
@@ -153,7 +153,7 @@ module _ (m : Memory) (s : AllRows m.rows) (files floor : ℕ) where
 
   abbrev open_by : Bool → After
   open_by r = lending m.rows q (record {
-    turn = record { reply = open_reply (numbers_of Y.answer); desk = record { on = not r; files = files; state = Y.state; cut = m.desk.cut } };
+    turn = record { reply = open_reply (numbers_of Y.answer); desk = record { files = files; state = cond r None (Some Y.state); cut = m.desk.cut } };
     sheet = Y.sheet;
     fates = Y.fates;
     rows = Y.rows;
@@ -177,7 +177,7 @@ module _ (m : Memory) (s : AllRows m.rows) (files floor : ℕ) where
     }
 
   abbrev refused_open : After
-  refused_open = replied (reply.Reply.No 1 0) (record { on = false; files = m.desk.files; state = closed; cut = m.desk.cut }) m.sheet m.fates m.rows
+  refused_open = replied (reply.Reply.No 1 0) (record { files = m.desk.files; state = None; cut = m.desk.cut }) m.sheet m.fates m.rows
 
   abbrev StepsFrom : List ℕ → After → List ℕ → Type 0
   StepsFrom u x rows = Steps x (box_of (open_leaves u m.fates rows floor)) (open_reply (numbers_of (open_leaves u m.fates rows floor).answer))
@@ -194,7 +194,7 @@ module _ (m : Memory) (s : AllRows m.rows) (files floor : ℕ) where
 -- ---- every line
 
 -- one that changes the waiting cut alone
-waits : (m : Memory) (b : Box) (n : ℕ) → Met m b → Met (record { desk = record { on = m.desk.on; files = m.desk.files; state = m.desk.state; cut = n }; sheet = m.sheet; fates = m.fates; rows = m.rows }) b
+waits : (m : Memory) (b : Box) (n : ℕ) → Met m b → Met (record { desk = record { files = m.desk.files; state = m.desk.state; cut = Some n }; sheet = m.sheet; fates = m.fates; rows = m.rows }) b
 waits m b n (met_on o a) = met_on o a
 waits m b n (met_off o) = met_off o
 

@@ -1,22 +1,22 @@
 -- From a bare `open` on nothing is backdated: its floor stays until the next opening, and the next bare one finds the same images. Shuts out a
 -- program whose floor is 0 after a cut, or goes by the committed images alone, or is passed over while a cut waits. Assumes nothing.
-use Rattle.std.proofs.Common.{Option, Some, None}
+use Rattle.std.proofs.Common.{Option, Some, None, is_some, unwrap_or}
 use Prim.Native.Nat.{ℕ, ◌*◌, ◌≤◌, ◌<◌}
 use mathlib.Core.Path.{◌≡◌, refl, sym, ap, ◌∙◌, subst}
 use mathlib.Core.List.{List, [], ◌∷◌, ◌++◌}
-use mathlib.Core.Bool.{true, false, false≢true}
+use mathlib.Core.Bool.{Bool, true, false, cond, false≢true}
 use mathlib.Core.Logic.{◌⊎◌, inl, inr}
 use native.Mathlib.Omega.{arith}
 use lib.ListN.{take, drop}
-use borrow.Author.Tests.{not-true}
 use Rattle.encoding.proofs.Logic.{by_test, and_true, clash}
 use Rattle.page.specs.Layout.{most_files}
 use Rattle.recovery.specs.declared.Answer.TheVariants.{Stored}
+use Rattle.recovery.specs.declared.State.{State}
 use Rattle.recovery.specs.Log.{Image, image}
 use Rattle.recovery.specs.Sheet.{sealed}
 use Rattle.recovery.specs.Numbers.{is_refused}
 use Rattle.recovery.specs.World.{sizes, is_file}
-use Rattle.recovery.specs.Lent.{Left, row_length, open_leaves}
+use Rattle.recovery.specs.Lent.{Left, row_length, closed, open_leaves}
 use Rattle.recovery.proofs.HighestStart.{none_later}
 use Rattle.recovery.proofs.Refused.{opened_floor}
 use Rattle.calls.specs.declared.asking.Call as code
@@ -29,7 +29,7 @@ use Rattle.commands.specs.declared.parsing.Command.{Command}
 use Rattle.commands.specs.declared.printing.Reply as reply
 use Rattle.commands.specs.Commands.{parsed}
 use Rattle.desk.specs.declared.talking.Desk.{Desk}
-use Rattle.desk.specs.Conversation.{After, answered, lost, is_struck, acted, acted_by, opened_for, lending, replied, is_open, called_for, started_for, bare_files, bare_floor, conversed}
+use Rattle.desk.specs.Conversation.{After, state_of, answered, lost, is_struck, acted, acted_by, opened_for, lending, replied, is_open, called_for, started_for, bare_files, bare_floor, conversed}
 use Rattle.promises.specs.Runs.{Box, sheet_of, Event, is_moved, moved_in, call_on, after, runs, Allowed, AllAllowed, blank_box}
 use Rattle.promises.specs.Promises.{IsPageOf}
 use Rattle.promises.proofs.logs.Outcomes.{Lies}
@@ -44,8 +44,8 @@ use Rattle.program.specs.Backdating.{IsUnnumbered, NothingBackdated}
 use Rattle.program.proofs.Meets.{Met, met_on, met_off, left_for, met_sheet, AllRows, line_steps}
 use Rattle.program.proofs.Proved.{Fits, start_fits, event_allowed, from_first}
 
-is_on_lem : (d : Desk) → is_open d ≡ true → d.on ≡ true
-is_on_lem d o = (and_true d.on (is_file most_files d.files) o).0
+is_on_lem : (d : Desk) → is_open d ≡ true → is_some d.state ≡ true
+is_on_lem d o = (and_true (is_some d.state) (is_file most_files d.files) o).0
 
 -- what a call stores starts above the floor
 late : (m : Left) (k : Call) (q : ℕ) (j : Image) → (call_on m k).answer ≡ Stored q → IsPageOf k (image j) → m.state.floor < j.start
@@ -62,23 +62,28 @@ late m (rebuild file) q j e h = absurd h
 
 module _ (low : ℕ) where
   abbrev Above : Desk → Type 0
-  Above d = d.on ≡ true → low ≤ d.state.floor
+  Above d = is_some d.state ≡ true → low ≤ (state_of d).floor
+
+  -- the state that an opening leaves: none if it is refused
+  opened_above : (r : Bool) (x : State) → (r ≡ false → low ≤ x.floor) → is_some (cond r None (Some x)) ≡ true → low ≤ (unwrap_or (cond r None (Some x)) closed).floor
+  opened_above true x f h = absurd (false≢true h)
+  opened_above false x f h = f refl
 
   open_above : (m : Memory) (line : List ℕ) → low ≤ bare_floor m.sheet → Above (conversed m.desk m.sheet m.fates m.rows (Some command.Command.BareOpen) line).turn.desk
   unfolding started_for opened_for
-  open_above m line l h =
+  open_above m line l =
       let x : Left = open_leaves m.sheet m.fates (take (row_length * bare_files) m.rows) (bare_floor m.sheet) in
-      omega (arith, opened_floor m.sheet m.fates (take (row_length * bare_files) m.rows) (bare_floor m.sheet) (not-true (is_refused x.answer) h))
+      opened_above (is_refused x.answer) x.state (λ e. omega (arith, opened_floor m.sheet m.fates (take (row_length * bare_files) m.rows) (bare_floor m.sheet) e))
 
   call_above : (m : Memory) (k : code.Call) (value : List ℕ) → Above m.desk → Above (called_for m.desk m.sheet m.fates m.rows k value).turn.desk
   unfolding called_for acted
   call_above m k value u =
       let rows : List ℕ = take (row_length * m.desk.files) m.rows in
-      let x : Left = call_leaves m.sheet m.fates rows m.desk.state (asked k value) in
+      let x : Left = call_leaves m.sheet m.fates rows (state_of m.desk) (asked k value) in
       by_test (λ (y : After). Above y.turn.desk) (is_open m.desk)
       {x = lending m.rows (row_length * m.desk.files) (acted_by m.desk m.sheet k x)} {y = replied reply.Reply.Closed m.desk m.sheet m.fates m.rows}
       (λ o. by_test (λ (y : After). Above y.turn.desk) (is_struck m.desk x.state) {x = lost m.desk m.sheet x} {y = answered m.desk k x}
-      (λ e h. absurd (false≢true h)) (λ e h. omega (arith, u (is_on_lem m.desk o), floor_stays m.sheet m.fates rows m.desk.state (asked k value)))) (λ o. u)
+      (λ e h. absurd (false≢true h)) (λ e h. omega (arith, u (is_on_lem m.desk o), floor_stays m.sheet m.fates rows (state_of m.desk) (asked k value)))) (λ o. u)
 
   adds_late : (m : Memory) (b : Box) → Met m b → Above m.desk → (e : Event) (q : ℕ) (j : Image) → Adds b e q (image j) → low < j.start
   adds_late m b (met_on o a) u e q j h = omega (arith, u (is_on_lem m.desk o), late (left_for m a) h.by q j (some_is h.stored) h.page)

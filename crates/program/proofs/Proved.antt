@@ -20,7 +20,7 @@ use Rattle.commands.specs.declared.parsing.Command as command
 use Rattle.commands.specs.declared.parsing.Command.{Command}
 use Rattle.commands.specs.Commands.{parsed}
 use Rattle.commands.proofs.EveryLine.{every_line}
-use Rattle.desk.specs.Conversation.{bare_files, bare_floor, spoken, said_to}
+use Rattle.desk.specs.Conversation.{cut_of, bare_files, bare_floor, spoken, said_to}
 use Rattle.promises.specs.Runs.{Box, sheet_of, Event, after, runs, Typed, Allowed, AllAllowed, blank_box}
 use Rattle.promises.proofs.bytes.Mixed.{first_ordered}
 use Rattle.promises.proofs.boxes.BoxRuns.{runs_join}
@@ -53,7 +53,7 @@ start_fits line = every_line line (Fits line) (record {
 
 module _ (files : ℕ) (m : Memory) (s : AllRows m.rows) (b : Box) where
   call_allowed : (k : Call) → Typed k → Allowed files b (call_event m k)
-  call_allowed k h = by_test (Allowed files b) (strikes m k) (λ e. (h, first_ordered m.desk.cut)) (λ e. h)
+  call_allowed k h = by_test (Allowed files b) (strikes m k) (λ e. (h, first_ordered (cut_of m.desk))) (λ e. h)
 
   open_allowed : (n floor : ℕ) → (is_file most_files n ≡ true → n ≡ files) → Allowed files b (open_event m n floor)
   open_allowed n floor h = go (is_file most_files n) refl

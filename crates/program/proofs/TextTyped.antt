@@ -26,7 +26,7 @@ use Rattle.commands.specs.declared.parsing.Command.{Command}
 use Rattle.commands.specs.declared.printing.Reply as reply
 use Rattle.commands.specs.Commands.{parsed}
 use Rattle.desk.specs.Wording.{call_reply, shown}
-use Rattle.desk.specs.Conversation.{After, bare_files, bare_floor, conversed}
+use Rattle.desk.specs.Conversation.{After, cut_of, bare_files, bare_floor, conversed}
 use Rattle.calls.specs.Cuts.{first_bytes}
 use Rattle.promises.specs.Runs.{Box, sheet_of, Event, calls, cuts, answer_to, numbered, after, runs, blank_box, Run}
 use Rattle.promises.proofs.boxes.BoxRuns.{pages_on, reached}
@@ -82,7 +82,7 @@ record IsWrite (c : prelude.Option Command) (line : List ℕ) (file start action
 whole_call : (m : Memory) (c k : Call) (e : Event) → call_event m c ≡ e → IsWhole k e → c ≡ k
 whole_call m c k e h w = go (strikes m c) (subst (IsWhole k) (sym h) w)
   where
-    go : (b : Bool) → IsWhole k (cond b (cuts c (first_bytes m.desk.cut)) (calls c)) → c ≡ k
+    go : (b : Bool) → IsWhole k (cond b (cuts c (first_bytes (cut_of m.desk))) (calls c)) → c ≡ k
     go true q = q.0
     go false q = q
 
@@ -147,9 +147,9 @@ module _ (m : Memory) (b : Box) (file time action place start size : ℕ) where
       heard q none e h = clash cc
       heard q (some x) e h = record { event = q; answer = e ∙ ap some (shown_value file time action place start size x h) }
 
-      go : (z : Bool) → strikes m k ≡ z → in_words words (cond z (cuts k (first_bytes m.desk.cut)) (calls k)) (numbered (answer_to b (cond z (cuts k (first_bytes m.desk.cut)) (calls k)))) ≡ reply.Reply.Shown place start size → Answered
+      go : (z : Bool) → strikes m k ≡ z → in_words words (cond z (cuts k (first_bytes (cut_of m.desk))) (calls k)) (numbered (answer_to b (cond z (cuts k (first_bytes (cut_of m.desk))) (calls k)))) ≡ reply.Reply.Shown place start size → Answered
       go true e h = clash cc
-      go false e h = heard (ap (λ z. cond z (cuts k (first_bytes m.desk.cut)) (calls k)) e) (answer_to b (calls k)) refl h
+      go false e h = heard (ap (λ z. cond z (cuts k (first_bytes (cut_of m.desk))) (calls k)) e) (answer_to b (calls k)) refl h
 
 -- ---- so the text was typed
 

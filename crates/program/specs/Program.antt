@@ -17,7 +17,7 @@ use Rattle.commands.specs.declared.printing.Reply.{Reply}
 use Rattle.commands.specs.Commands.{parsed}
 use Rattle.desk.specs.declared.talking.Desk.{Desk}
 use Rattle.desk.specs.Wording.{call_reply, open_reply}
-use Rattle.desk.specs.Conversation.{After, is_open, is_struck, bare_files, bare_floor, conversed, spoken, said_to, first_desk}
+use Rattle.desk.specs.Conversation.{After, cut_of, state_of, is_open, is_struck, bare_files, bare_floor, conversed, spoken, said_to, first_desk}
 use Rattle.promises.specs.Runs.{Box, sheet_of, Event, calls, opens, cuts, moves, cuts_move, answer_to, numbered, Run}
 use Rattle.promises.specs.Promises.{box_after}
 
@@ -48,10 +48,10 @@ first_memory pages fates rows = record { desk = first_desk; sheet = replicate (p
 
 -- a call, which a waiting cut may strike
 abbrev pub strikes : Memory → Call → Bool
-strikes m k = is_open m.desk && is_struck m.desk (call_leaves m.sheet m.fates (take (row_length * m.desk.files) m.rows) m.desk.state k).state
+strikes m k = is_open m.desk && is_struck m.desk (call_leaves m.sheet m.fates (take (row_length * m.desk.files) m.rows) (state_of m.desk) k).state
 
 abbrev pub call_event : Memory → Call → Event
-call_event m k = cond (strikes m k) (cuts k (first_bytes m.desk.cut)) (calls k)
+call_event m k = cond (strikes m k) (cuts k (first_bytes (cut_of m.desk))) (calls k)
 
 -- an opening is lent the rows of its files, or none where there could be none
 abbrev pub open_event : Memory → ℕ → ℕ → Event

@@ -1,8 +1,8 @@
 // The command program: lines from standard input to the desk, and its replies to standard output, line by line. A read that fails is the
-// end of the input, and a write that fails is passed over.
+// end of the input, and a write that fails is passed over. Nothing is allocated, so that no line can fail for want of memory.
 #![tactic(auto)]
 
-ghost use Rattle.std.specs.Prelude.{◌≡◌, suc, ◌≤◌, ◌<◌, length};
+ghost use Rattle.std.specs.Prelude.{◌≤◌, suc};
 ghost use Rattle.commands.specs.Commands.{longest};
 
 use commands::{LONGEST, ROOM};
@@ -16,177 +16,85 @@ const KEPT: usize = LONGEST + 1;
 // How many bytes one read takes at most.
 const BUFFER: usize = 4096;
 
-// The desk, and how many bytes of a line are kept.
+// The desk with its sheet, fates and rows, and the bytes of a line that have been read.
 #[derive(Drop)]
 struct Session {
     desk: Desk,
+    sheet: [u8; SHEET],
+    fates: [u8; PAGES],
+    rows: [u64; ROWS],
+    line: [u8; KEPT],
     len: usize,
+    ghost kept: { len ≤ suc longest },
 }
 
-// What is left of the turns: none at the end of the input.
-#[derive(Drop)]
-struct Taken {
-    turns: u64,
-    session: Session,
-}
-
-// The end of a line: its reply is written.
-fn reply<W: Write>(
-    output: &mut W,
-    text: &[u8],
-    sheet: &mut [u8],
-    fates: &mut [u8],
-    rows: &mut [u64],
-    session: Session,
-) -> Desk
-    requires { (length text.now ≡ suc longest) × (session.len ≤ suc longest) }
-{
-    let mut out = [0u8; ROOM];
-    let len = session.len;
-    let before = session.desk;
-    let said = desk::answer(sheet, fates, rows, before, &text[0..len], &mut out);
-    let n = said.count;
-    let after = said.desk;
-    if n <= ROOM {
-        let _ = output.write_all(&out[0..n]);
-        let _ = output.flush();
-    }
-    after
-}
-
-// One byte of the input.
-fn take_byte<W: Write>(
-    output: &mut W,
-    text: &mut [u8],
-    sheet: &mut [u8],
-    fates: &mut [u8],
-    rows: &mut [u64],
-    session: Session,
-    byte: u8,
-) -> Session
-    requires { (length text.old ≡ suc longest) × (session.len ≤ suc longest) }
-    ensures { result.len ≤ suc longest }
-{
-    if byte == b'\n' {
-        let after = reply(output, &text[..], sheet, fates, rows, session);
-        return Session {
-            desk: after,
+impl Session {
+    // On a blank sheet.
+    fn new() -> Session {
+        Session {
+            desk: desk::closed_desk(),
+            sheet: [0; SHEET],
+            fates: [0; PAGES],
+            rows: [0; ROWS],
+            line: [0; KEPT],
             len: 0,
-        };
+        }
     }
-    let len = session.len;
-    let same = session.desk;
-    if KEPT <= len {
-        return Session { desk: same, len };
-    }
-    text[len] = byte;
-    Session {
-        desk: same,
-        len: len + 1,
-    }
-}
 
-// The bytes of one read.
-fn take_bytes<W: Write>(
-    output: &mut W,
-    bytes: &[u8],
-    text: &mut [u8],
-    sheet: &mut [u8],
-    fates: &mut [u8],
-    rows: &mut [u64],
-    session: Session,
-) -> Session
-    requires { (length text.old ≡ suc longest) × (session.len ≤ suc longest) }
-    ensures { result.len ≤ suc longest }
-{
-    let mut at = session;
-    let mut i = 0;
-    while i < bytes.len() {
-        at = take_byte(output, text, sheet, fates, rows, at, bytes[i]);
-        i += 1;
+    // The end of a line: its reply is written.
+    fn reply<W: Write>(&mut self, output: &mut W) {
+        let mut out = [0u8; ROOM];
+        let said = desk::answer(
+            &mut self.sheet,
+            &mut self.fates,
+            &mut self.rows,
+            self.desk,
+            &self.line[..self.len],
+            &mut out,
+        );
+        self.desk = said.desk;
+        self.len = 0;
+        if let Some(reply) = out.get(..said.count) {
+            let _ = output.write_all(reply);
+            let _ = output.flush();
+        }
     }
-    at
-}
 
-// One read, and what is left of the turns.
-fn take_some<R: Read, W: Write>(
-    input: &mut R,
-    output: &mut W,
-    text: &mut [u8],
-    sheet: &mut [u8],
-    fates: &mut [u8],
-    rows: &mut [u64],
-    session: Session,
-    turns: u64,
-) -> Taken
-    requires { (length text.old ≡ suc longest) × (session.len ≤ suc longest) × (0 < turns) }
-    ensures { (result.session.len ≤ suc longest) × (result.turns < turns) }
-{
-    let mut buffer = [0u8; BUFFER];
-    let n = input.read(&mut buffer).unwrap_or(0);
-    if n == 0 {
-        return Taken { turns: 0, session };
+    // One byte of the input.
+    fn take_byte<W: Write>(&mut self, output: &mut W, byte: u8) {
+        if byte == b'\n' {
+            self.reply(output);
+        } else if self.len < KEPT {
+            self.line[self.len] = byte;
+            self.len += 1;
+        }
     }
-    let after = take_bytes(output, &buffer[..n], text, sheet, fates, rows, session);
-    Taken {
-        turns: turns - 1,
-        session: after,
-    }
-}
 
-// All of the input; a last line may have no end of line.
-fn take_all<R: Read, W: Write>(
-    input: &mut R,
-    output: &mut W,
-    text: &mut [u8],
-    sheet: &mut [u8],
-    fates: &mut [u8],
-    rows: &mut [u64],
-)
-    requires { length text.old ≡ suc longest }
-{
-    let mut turns = u64::MAX;
-    let mut session = Session {
-        desk: desk::closed_desk(),
-        len: 0,
-    };
-    while turns > 0 {
-        let taken = take_some(input, output, text, sheet, fates, rows, session, turns);
-        session = taken.session;
-        turns = taken.turns;
+    // The bytes of one read; whether there were any.
+    fn take_some<R: Read, W: Write>(&mut self, input: &mut R, output: &mut W) -> bool {
+        let mut buffer = [0u8; BUFFER];
+        let n = input.read(&mut buffer).unwrap_or(0);
+        for &byte in &buffer[..n] {
+            self.take_byte(output, byte);
+        }
+        0 < n
     }
-    take_last(output, &text[..], sheet, fates, rows, session);
-}
 
-fn take_last<W: Write>(
-    output: &mut W,
-    text: &[u8],
-    sheet: &mut [u8],
-    fates: &mut [u8],
-    rows: &mut [u64],
-    session: Session,
-)
-    requires { (length text.now ≡ suc longest) × (session.len ≤ suc longest) }
-{
-    if 0 < session.len {
-        reply(output, text, sheet, fates, rows, session);
+    // All of the input; a last line may have no end of line.
+    fn take_all<R: Read, W: Write>(&mut self, input: &mut R, output: &mut W) {
+        for _ in 0..u64::MAX {
+            if !self.take_some(input, output) {
+                break;
+            }
+        }
+        if 0 < self.len {
+            self.reply(output);
+        }
     }
 }
 
 // A conversation on a blank sheet of 256 pages.
 pub fn run(rt: &(impl Input + Print)) {
-    let mut text = [0u8; KEPT];
-    let mut sheet = [0u8; SHEET];
-    let mut fates = [0u8; PAGES];
-    let mut rows = [0u64; ROWS];
-    let mut input = rt.reader();
-    let mut output = io::writer(rt);
-    take_all(
-        &mut input,
-        &mut output,
-        &mut text,
-        &mut sheet,
-        &mut fates,
-        &mut rows,
-    );
+    let mut session = Session::new();
+    session.take_all(&mut rt.reader(), &mut io::writer(rt));
 }
