@@ -10,7 +10,8 @@ use lib.Seq.{drop-drop}
 use borrow.Author.Tests.{le-leb, lt-leb}
 use borrow.Rule.Slice.PartMut.{put_mid, Post-is}
 use Rattle.page.specs.declared.Page.{Page}
-use Rattle.page.specs.declared.Packing.{Packing}
+use Rattle.page.specs.declared.PackError.{PackError}
+use Rattle.std.specs.Prelude.{Result}
 use Rattle.page.specs.Layout.{page_size}
 use Rattle.page.specs.Table.{packed, meets_rules}
 use Rattle.page.specs.Answers.{in_bounds, tested, is_blank_page, packs}
@@ -45,7 +46,7 @@ module _ (s : List ℕ) (p : Page) (v : List ℕ) (q files : ℕ) where
   part = take (page_size * q + page_size - page_size * q) (drop (page_size * q) s)
 
   -- what pack leaves of the part
-  pub pack_left : (r : Packing) (after left : List ℕ) → page_size * q + page_size ≤ length s → ◌≡◌ {A = Packing × List ℕ} (r, after) (packs p v (q + 1) files part)
+  pub pack_left : (r : Result (Unit {0}) PackError) (after left : List ℕ) → page_size * q + page_size ≤ length s → ◌≡◌ {A = Result (Unit {0}) PackError × List ℕ} (r, after) (packs p v (q + 1) files part)
       → left ≡ put_mid (page_size * q) (page_size * q + page_size - page_size * q) s after → left ≡ appended s q files p v
   unfolding appended packs
   pack_left r after left l h e = e ∙ put_page s q after ∙ go bounds refl rules refl
@@ -55,13 +56,13 @@ module _ (s : List ℕ) (p : Page) (v : List ℕ) (q files : ℕ) where
 
       go : (b : Bool) → bounds ≡ b → (m : Bool) → rules ≡ m → with_page s q after ≡ appended s q files p v
       go true x true y =
-          let z : after ≡ packed p v (suc q) = ap (λ (t : Packing × List ℕ). t.1) (simp (add-one q, had, x, y) at h) in
+          let z : after ≡ packed p v (suc q) = ap (λ (t : Result (Unit {0}) PackError × List ℕ). t.1) (simp (add-one q, had, x, y) at h) in
           rw (z, le-leb (page_size * q + page_size) (length s) l, x, y)
       go true x false y =
-          let z : after ≡ part = ap (λ (t : Packing × List ℕ). t.1) (simp (add-one q, had, x, y) at h) in
+          let z : after ≡ part = ap (λ (t : Result (Unit {0}) PackError × List ℕ). t.1) (simp (add-one q, had, x, y) at h) in
           rw (z, le-leb (page_size * q + page_size) (length s) l, x, y) (part_back s q)
       go false x m y =
-          let z : after ≡ part = ap (λ (t : Packing × List ℕ). t.1) (simp (add-one q, had, x) at h) in
+          let z : after ≡ part = ap (λ (t : Result (Unit {0}) PackError × List ℕ). t.1) (simp (add-one q, had, x) at h) in
           rw (z, le-leb (page_size * q + page_size) (length s) l, x) (part_back s q)
 
   -- no room

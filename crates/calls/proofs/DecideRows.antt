@@ -12,15 +12,14 @@ use lib.Dec.{eqb}
 use borrow.Author.Tests.{eq-eqb, ne_eqb, le-leb, lt-leb, eqb-true, eqb-false}
 use Rattle.encoding.proofs.Logic.{and_both}
 use Rattle.page.specs.declared.Page.{Page}
-use Rattle.page.specs.declared.Sought as sought
-use Rattle.page.specs.declared.Sought.{Sought}
+use Rattle.std.specs.Prelude.{Option, is_some, Some, None}
 use Rattle.page.specs.Answers.{tested, image_of_file}
 use Rattle.recovery.specs.Places.{nth}
 use Rattle.recovery.specs.Log.{Entry, blank}
 use Rattle.recovery.specs.Sheet.{page_bytes, is_opening, decoded}
 use Rattle.recovery.specs.World.{is_image_of, image_action, is_rebuilt_for, cold, is_file}
 use Rattle.recovery.specs.Lent.{row_length, rows_of, flat, pages_of}
-use Rattle.recovery.specs.Steps.{sealed_image, is_found, action_found, sheet_world, row_of, next_named, with_row_of}
+use Rattle.recovery.specs.Steps.{sealed_image, action_found, sheet_world, row_of, next_named, with_row_of}
 use Rattle.recovery.specs.declared.Row.{Row}
 use Rattle.recovery.proofs.FlatRows.{rows_long, rows_flat, flat_rows, flat_long, put_flat}
 use Rattle.recovery.proofs.Lookups.{set_some}
@@ -32,8 +31,8 @@ use Rattle.calls.specs.DecideSteps.{is_token_in, settled_row, settled_rows}
 -- ---- a token at a place
 
 -- an image that was found is one under an action
-abbrev is_under : ℕ → Sought → Bool
-is_under a u = is_found u && eqb (action_found u) a
+abbrev is_under : ℕ → Option Page → Bool
+is_under a u = is_some u && eqb (action_found u) a
 
 module _ (s : List ℕ) (files end a f place : ℕ) where
   pub token_high : end < place → false ≡ is_token_in s files end a f place
@@ -41,27 +40,27 @@ module _ (s : List ℕ) (files end a f place : ℕ) where
   token_high h = simp (lt-leb place end h)
 
   module _ (h : place ≤ end) where
-    token_by : (u : Sought) → u ≡ sealed_image files s f place → is_under a u ≡ is_token_in s files end a f place
+    token_by : (u : Option Page) → u ≡ sealed_image files s f place → is_under a u ≡ is_token_in s files end a f place
     unfolding is_token_in
     token_by u e =
         let there : Entry = nth blank (pages_of s files) place in
         simp (le-leb place end h) (ap (λ (x : Bool × ℕ). x.0 && eqb x.1 a) (ap of_sought e ∙ sym (lies_in files s f place)) ∙ under_action true (is_image_of f there) (image_action there) a)
 
     -- by the quick look, and one look at the action's opening
-    pub token_none : sought.Sought.Other ≡ image_of_file f (tested (page_bytes s place) place files) → false ≡ is_token_in s files end a f place
-    token_none e = token_by sought.Sought.Other (image_none files s f place e)
+    pub token_none : None ≡ image_of_file f (tested (page_bytes s place) place files) → false ≡ is_token_in s files end a f place
+    token_none e = token_by None (image_none files s f place e)
 
-    module _ (x : Page) (e : sought.Sought.Image x ≡ image_of_file f (tested (page_bytes s place) place files)) where
+    module _ (x : Page) (e : Some x ≡ image_of_file f (tested (page_bytes s place) place files)) where
       pub token_other : (x.action ≡ a → ⊥) → false ≡ is_token_in s files end a f place
       token_other o = go (is_opening (decoded files s x.action)) refl
         where
           go : (b : Bool) → is_opening (decoded files s x.action) ≡ b → false ≡ is_token_in s files end a f place
-          go true q = sym (ne_eqb x.action a o) ∙ token_by (sought.Sought.Image x) (image_sealed files s f place x e q)
-          go false q = token_by sought.Sought.Other (image_unsealed files s f place x e q)
+          go true q = sym (ne_eqb x.action a o) ∙ token_by (Some x) (image_sealed files s f place x e q)
+          go false q = token_by None (image_unsealed files s f place x e q)
 
       pub token_own : (b : Bool) → x.action ≡ a → b ≡ is_opening (decoded files s a) → b ≡ is_token_in s files end a f place
-      token_own true o q = sym (eq-eqb x.action a o) ∙ token_by (sought.Sought.Image x) (image_sealed files s f place x e (ap (λ y. is_opening (decoded files s y)) o ∙ sym q))
-      token_own false o q = token_by sought.Sought.Other (image_unsealed files s f place x e (ap (λ y. is_opening (decoded files s y)) o ∙ sym q))
+      token_own true o q = sym (eq-eqb x.action a o) ∙ token_by (Some x) (image_sealed files s f place x e (ap (λ y. is_opening (decoded files s y)) o ∙ sym q))
+      token_own false o q = token_by None (image_unsealed files s f place x e (ap (λ y. is_opening (decoded files s y)) o ∙ sym q))
 
 -- ---- one row
 

@@ -9,15 +9,15 @@ use native.Mathlib.Omega.{arith}
 use lib.ListN.{length}
 use borrow.Author.Tests.{eq-eqb}
 use Rattle.encoding.proofs.Logic.{clash}
-use Rattle.page.specs.declared.Sought as sought
-use Rattle.page.specs.declared.Sought.{Sought}
+use Rattle.page.specs.declared.Page.{Page}
+use Rattle.std.specs.Prelude.{Option, is_some, Some, None}
 use Rattle.page.specs.Layout.{page_size}
 use Rattle.recovery.specs.Places.{nth}
 use Rattle.recovery.specs.Log.{Image, Entry, blank, image, Placed, images_of}
 use Rattle.recovery.specs.World.{down}
 use Rattle.recovery.specs.Sheet.{page_bytes, image_from}
 use Rattle.recovery.specs.Lent.{pages_of}
-use Rattle.recovery.specs.Steps.{sealed_image, is_found}
+use Rattle.recovery.specs.Steps.{sealed_image}
 use Rattle.recovery.proofs.Held.{held_in}
 use Rattle.calls.specs.Walk.{images_below, follow}
 use Rattle.calls.specs.Links.{Links, here, on}
@@ -40,13 +40,13 @@ module _ (files : ℕ) (s : List ℕ) where
   image_lies (suc q) i e =
       go (sealed_image files s i.file (suc q)) refl (sym (held_in files s i.file (suc q)) ∙ rw e (eq-eqb i.file i.file refl))
     where
-      go : (u : Sought) → sealed_image files s i.file (suc q) ≡ u → is_found (sealed_image files s i.file (suc q)) ≡ true → Lies (suc q) i
-      go (sought.Sought.Image x) h k =
+      go : (u : Option Page) → sealed_image files s i.file (suc q) ≡ u → is_some (sealed_image files s i.file (suc q)) ≡ true → Lies (suc q) i
+      go (Some x) h k =
           let m = met_at files s i.file (suc q) x h in
           let j : i ≡ image_from (page_bytes s (suc q)) x = cc (sym e ∙ m.page_is) in
           let l : i.link ≡ x.link = ap (λ (k : Image). k.link) j in
           record { low = m.low; high = omega arith; link = omega (arith, m.rules.link) }
-      go sought.Sought.Other h k = clash cc
+      go None h k = clash cc
 
   pub fewer_links : (x y : Placed) (n : ℕ) → page x.place ≡ image x.image → Links page x n y → n < x.place
   fewer_links x y n e here = (image_lies x.place x.image e).low

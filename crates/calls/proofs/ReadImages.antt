@@ -12,8 +12,7 @@ use Rattle.encoding.proofs.Logic.{and_true, and_false}
 use Rattle.page.specs.declared.Page.{Page}
 use Rattle.page.specs.declared.Unpacked.{Unpacked}
 use Rattle.page.specs.declared.Unpacked.TheVariants.{Refused, Blank, Torn, Opening, Image, Outcome, Unfit}
-use Rattle.page.specs.declared.Sought as sought
-use Rattle.page.specs.declared.Sought.{Sought}
+use Rattle.std.specs.Prelude.{Option, is_some, Some, None}
 use Rattle.page.specs.Layout.{page_size}
 use Rattle.page.specs.Answers.{tested, on_image}
 use Rattle.page.proofs.Found.{ImageIs, image_is, found}
@@ -22,7 +21,7 @@ use Rattle.recovery.specs.Log.{blank, image}
 use Rattle.recovery.specs.Sheet.{page_bytes, entry_of, image_from, is_opening, seal, decoded}
 use Rattle.recovery.specs.World.{is_image_of}
 use Rattle.recovery.specs.Lent.{pages_of}
-use Rattle.recovery.specs.Steps.{sealed_image, is_found, place_holds_by, action_found, token_holds_by, row_holds_by}
+use Rattle.recovery.specs.Steps.{sealed_image, place_holds_by, action_found, token_holds_by, row_holds_by}
 use Rattle.recovery.specs.declared.Row.{Row}
 use Rattle.recovery.proofs.Pages.{page_at_place, sealed_is}
 use Rattle.recovery.proofs.Held.{held_in}
@@ -44,12 +43,12 @@ in_room s (suc q) files x e =
     let b = (found (page_bytes s (suc q)) (suc q) files (Image x) e).bounds in
     (omega arith, omega (arith, b.size_is, length-take page_size (drop (page_size * q) s), length-drop (page_size * q) s))
 
-not_image : {A : Type 0} {x : Page} → sought.Sought.Other ≡ sought.Sought.Image x → A
+not_image : {A : Type 0} {x : Page} → None ≡ Some x → A
 not_image e = let z : ◌≡◌ {A = ℕ} 0 1 = cc in absurd (omega arith)
 
 module _ (files : ℕ) (s : List ℕ) (f p : ℕ) (x : Page) where
   from_image : (y : Page) → Image y ≡ tested (page_bytes s p) p files → (a : Bool) → eqb y.file f ≡ a → (o : Bool) → is_opening (decoded files s y.action) ≡ o
-      → cond (a && o) (sought.Sought.Image y) sought.Sought.Other ≡ sought.Sought.Image x → Met files s f p x
+      → cond (a && o) (Some y) None ≡ Some x → Met files s f p x
   from_image y q true ea true eo k =
       let z : y ≡ x = cc in
       let l = in_room s p files y q in
@@ -65,7 +64,7 @@ module _ (files : ℕ) (s : List ℕ) (f p : ℕ) (x : Page) where
   from_image y q false ea o eo k = not_image k
 
   from_test : (u : Unpacked) → u ≡ tested (page_bytes s p) p files
-      → on_image u (λ (y : Page). cond (eqb y.file f && is_opening (decoded files s y.action)) (sought.Sought.Image y) sought.Sought.Other) sought.Sought.Other ≡ sought.Sought.Image x
+      → on_image u (λ (y : Page). cond (eqb y.file f && is_opening (decoded files s y.action)) (Some y) None) None ≡ Some x
       → Met files s f p x
   from_test Refused q k = not_image k
   from_test Blank q k = not_image k
@@ -75,33 +74,33 @@ module _ (files : ℕ) (s : List ℕ) (f p : ℕ) (x : Page) where
   from_test Unfit q k = not_image k
   from_test (Image y) q k = from_image y q (eqb y.file f) refl (is_opening (decoded files s y.action)) refl k
 
-  pub met_at : sealed_image files s f p ≡ sought.Sought.Image x → Met files s f p x
+  pub met_at : sealed_image files s f p ≡ Some x → Met files s f p x
   unfolding sealed_image
   met_at e = from_test (tested (page_bytes s p) p files) refl e
 
-pub none_at : (files : ℕ) (s : List ℕ) (f p : ℕ) → sought.Sought.Other ≡ sealed_image files s f p → is_image_of f (nth blank (pages_of s files) p) ≡ false
-none_at files s f p h = held_in files s f p ∙ ap is_found (sym h)
+pub none_at : (files : ℕ) (s : List ℕ) (f p : ℕ) → None ≡ sealed_image files s f p → is_image_of f (nth blank (pages_of s files) p) ≡ false
+none_at files s f p h = held_in files s f p ∙ ap is_some (sym h)
 
 -- ---- line 7
 
 module _ (files : ℕ) (s : List ℕ) (e f p : ℕ) where
   -- what was found at a place that line 7 lets through
-  pub looked : (u : Sought) → u ≡ sealed_image files s f p → place_holds_by e p u ≡ true → Looked files s f p u
+  pub looked : (u : Option Page) → u ≡ sealed_image files s f p → place_holds_by e p u ≡ true → Looked files s f p u
   unfolding place_holds_by
-  looked (sought.Sought.Image x) h k = record { found = h; image_is = ap image_of (met_at files s f p x (sym h)).page_is }
-  looked sought.Sought.Other h k = record { found = h; image_is = go p k }
+  looked (Some x) h k = record { found = h; image_is = ap image_of (met_at files s f p x (sym h)).page_is }
+  looked None h k = record { found = h; image_is = go p k }
     where
       go : (p : ℕ) → (eqb p 0 || (leb p e && false)) ≡ true → image_of (nth blank (pages_of s files) p) ≡ none
       go zero q = refl
       go (suc j) q = let y : false ≡ true = simp (ne_eqb (suc j) 0 (λ z. omega arith), and_false (leb (suc j) e) false refl) at q in let r : ◌≡◌ {A = ℕ} 0 1 = cc in absurd (omega arith)
 
 -- what was found at the places of a row that line 7 lets through
-pub record RowHeld (files : ℕ) (s : List ℕ) (e f : ℕ) (r : Row) (u v : Sought) : Type 0 where
+pub record RowHeld (files : ℕ) (s : List ℕ) (e f : ℕ) (r : Row) (u v : Option Page) : Type 0 where
   pub current : u ≡ sealed_image files s f r.current
   pub token : v ≡ sealed_image files s f r.token
   pub holds : row_holds_by e r u v ≡ true
 
-module _ {files : ℕ} {s : List ℕ} {e f : ℕ} {r : Row} {u v : Sought} (k : RowHeld files s e f r u v) where
+module _ {files : ℕ} {s : List ℕ} {e f : ℕ} {r : Row} {u v : Option Page} (k : RowHeld files s e f r u v) where
   each : (place_holds_by e r.current u ≡ true) × (place_holds_by e r.token v ≡ true)
   unfolding row_holds_by token_holds_by
   each =

@@ -6,8 +6,7 @@ use mathlib.Core.Bool.{Bool, ◌||◌}
 use native.Mathlib.Omega.{arith}
 use lib.ListN.{length, length-take, length-drop}
 use Rattle.page.specs.declared.Page.{Page}
-use Rattle.page.specs.declared.Sought as sought
-use Rattle.page.specs.declared.Sought.{Sought}
+use Rattle.std.specs.Prelude.{Option, Some, None}
 use Rattle.page.specs.Layout.{page_size, value_size}
 use Rattle.recovery.specs.Log.{Placed}
 use Rattle.recovery.specs.Sheet.{page_bytes, image_from, decoded}
@@ -30,10 +29,10 @@ pub met_long : (files : ℕ) (s : List ℕ) (f p : ℕ) (x : Page) → Met files
 met_long files s f p x m = value_long s p x m.low m.room m.rules.size
 
 -- the place that an image links to is lower than its own, so the walk ends
-pub falls : (files : ℕ) (s : List ℕ) (f p : ℕ) (x : Page) → sealed_image files s f p ≡ sought.Sought.Image x → x.link < p
+pub falls : (files : ℕ) (s : List ℕ) (f p : ℕ) (x : Page) → sealed_image files s f p ≡ Some x → x.link < p
 falls files s f p x m = (met_at files s f p x m).rules.link
 
-module _ (files : ℕ) (s : List ℕ) (f t : ℕ) (b : Bool) (p : ℕ) (x : Page) (m : sealed_image files s f p ≡ sought.Sought.Image x) where
+module _ (files : ℕ) (s : List ℕ) (f t : ℕ) (b : Bool) (p : ℕ) (x : Page) (m : sealed_image files s f p ≡ Some x) where
   abbrev here : Placed
   here = record { place = p; image = image_from (page_bytes s p) x }
 
@@ -50,13 +49,13 @@ module _ (files : ℕ) (s : List ℕ) (f t : ℕ) (b : Bool) (p : ℕ) (x : Page
     unfolding walk_at
     walk_end e = sym (ap walk_answer (unlinked (carried_in files s) (pages_of s files) f t b here low e ∙ ap none_below flag))
 
-    module _ (z : x.link ≡ 0 → ⊥) (r : Sought) (hr : r ≡ sealed_image files s f x.link) where
-      pub walk_lost : r ≡ sought.Sought.Other → Refused LostLink p ≡ walk_at files s f t b p x
+    module _ (z : x.link ≡ 0 → ⊥) (r : Option Page) (hr : r ≡ sealed_image files s f x.link) where
+      pub walk_lost : r ≡ None → Refused LostLink p ≡ walk_at files s f t b p x
       unfolding walk_at
       walk_lost e = sym (ap walk_answer (mislinked (carried_in files s) (pages_of s files) f t b here low (falls files s f p x m) z (none_at files s f x.link (sym e ∙ hr))))
 
-      module _ (y : Page) (e : r ≡ sought.Sought.Image y) where
-        pub next_is : sealed_image files s f x.link ≡ sought.Sought.Image y
+      module _ (y : Page) (e : r ≡ Some y) where
+        pub next_is : sealed_image files s f x.link ≡ Some y
         next_is = sym hr ∙ e
 
         pub walk_on : walk_at files s f t (b || k) x.link y ≡ walk_at files s f t b p x

@@ -4,7 +4,8 @@ use mathlib.Core.Path.{◌≡◌, sym, ap, ◌∙◌}
 use mathlib.Core.Bool.{Bool, true, false}
 use mathlib.Core.List.{List}
 use native.Mathlib.Numerals.{add-one}
-use Rattle.page.specs.declared.Sought.{Sought}
+use Rattle.page.specs.declared.Page.{Page}
+use Rattle.std.specs.Prelude.{Option}
 use Rattle.recovery.specs.declared.Refusal.TheVariants.{DamagedRow, OtherToken}
 use Rattle.recovery.specs.declared.Row.{Row}
 use Rattle.recovery.specs.declared.State.{State}
@@ -15,7 +16,7 @@ use Rattle.calls.specs.Calls.{is_free_for}
 use Rattle.calls.specs.LineSteps.{Line}
 use Rattle.calls.specs.ReadSteps.{store_line, stored_at, write_answer}
 
-module _ (s : List ℕ) (files : ℕ) (st : State) (f t a : ℕ) (r : Row) (u v : Sought) (hu : u ≡ sealed_image files s f r.current) (hv : v ≡ sealed_image files s f r.token) where
+module _ (s : List ℕ) (files : ℕ) (st : State) (f t a : ℕ) (r : Row) (u v : Option Page) (hu : u ≡ sealed_image files s f r.current) (hv : v ≡ sealed_image files s f r.token) where
   pub write_7 : row_holds_by st.end r u v ≡ false → Refused DamagedRow 0 ≡ write_answer s files st f t a r
   unfolding write_answer
   write_7 h =

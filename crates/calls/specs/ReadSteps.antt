@@ -1,10 +1,8 @@
 -- What smaller functions of read and write answer. A reader of document 01 can pass this file over: the laws join it to `on`.
-use Rattle.std.specs.Prelude.{◌≡◌, List, Bool, cond, ◌&&◌, ℕ, suc, ◌+◌, ◌/◌, length, eqb, leb, ltb, Ok, Err}
+use Rattle.std.specs.Prelude.{◌≡◌, List, Bool, cond, ◌&&◌, ℕ, suc, ◌+◌, ◌/◌, length, eqb, leb, ltb, Option as Maybe, Some, None, Ok, Err}
 use Rattle.std.proofs.Math.Option.{Option, some, none}
 use Rattle.page.specs.Layout.{value_size}
 use Rattle.page.specs.declared.Page.{Page}
-use Rattle.page.specs.declared.Sought as sought
-use Rattle.page.specs.declared.Sought.{Sought}
 use Rattle.recovery.specs.Places.{nth}
 use Rattle.recovery.specs.Log.{Image, blank}
 use Rattle.recovery.specs.Sheet.{page_bytes, image_from}
@@ -41,12 +39,12 @@ may_write s fates rows state file a value =
     (Err WrongSizes)
 
 -- the image of a page's bytes, by the fields that were found
-abbrev pub image_by : List ℕ → Sought → Option Image
-image_by b (sought.Sought.Image x) = some (image_from b x)
-image_by b sought.Sought.Other = none
+abbrev pub image_by : List ℕ → Maybe Page → Option Image
+image_by b (Some x) = some (image_from b x)
+image_by b None = none
 
 -- a place of a row that line 7 lets through, and what was found there
-pub record Looked (files : ℕ) (s : List ℕ) (file place : ℕ) (u : Sought) : Type 0 where
+pub record Looked (files : ℕ) (s : List ℕ) (file place : ℕ) (u : Maybe Page) : Type 0 where
   pub found : u ≡ sealed_image files s file place
   pub image_is : image_of (nth blank (pages_of s files) place) ≡ image_by (page_bytes s place) u
 

@@ -13,5 +13,5 @@ pub fn append(sheet: &mut [u8], end: u64, files: u64, page: Page, value: &[u8; P
     }
     let a = Page::SIZE * (end as usize);
     let e = a + Page::SIZE;
-    page.pack(value, end + 1, files, &mut sheet[a..e]);
+    let _ = page.pack(value, end + 1, files, &mut sheet[a..e]);
 }

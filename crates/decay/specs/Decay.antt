@@ -1,9 +1,8 @@
 -- One spoiled byte (document 02, ask 9): a sealed page of which one of the 64 bytes becomes another is never sealed afterwards. It is bad,
 -- except where byte 63, the end mark, became 0: such a page is torn, and counts as never stored.
-use Rattle.std.specs.Prelude.{ℕ, ◌+◌, ◌*◌, ◌-◌, ◌≤◌, ◌<◌, ◌≡◌, List, Bool, true, false, cond, ◌&&◌, length, get_or, set, eqb}
+use Rattle.std.specs.Prelude.{ℕ, ◌+◌, ◌*◌, ◌-◌, ◌≤◌, ◌<◌, ◌≡◌, List, Bool, true, false, cond, ◌&&◌, length, get_or, set, eqb, Ok}
 use Rattle.page.specs.declared.Page.{Page}
 use Rattle.page.specs.declared.Unpacked.TheVariants.{Torn, Unfit}
-use Rattle.page.specs.declared.Packing.{Packing}
 use Rattle.page.specs.Layout.{mark_at, page_size, most_files, value_size}
 use Rattle.page.specs.Table.{within}
 use Rattle.page.specs.Answers.{tested, is_fit_page, packs}
@@ -78,5 +77,5 @@ pub record Decay : Type 0 where
   pub page_spoiled : (s : List ℕ) (place files files' i v : ℕ) → is_fit_page (tested s place files) ≡ true → OtherByte s i v → within files' 1 most_files ≡ true
       → tested (set s i v) place files' ≡ cond (zeroes_mark i v) Torn Unfit
   -- and so one of a page that was packed
-  pub packed_spoiled : (p : Page) (value out s : List ℕ) (place files files' i v : ℕ) → length value ≡ value_size → packs p value place files out ≡ (Packing.Packed, s)
+  pub packed_spoiled : (p : Page) (value out s : List ℕ) (place files files' i v : ℕ) → length value ≡ value_size → packs p value place files out ≡ (Ok tt, s)
       → OtherByte s i v → within files' 1 most_files ≡ true → tested (set s i v) place files' ≡ cond (zeroes_mark i v) Torn Unfit

@@ -16,7 +16,7 @@ ghost use Rattle.calls.specs.DecideSteps.{decide_line, decided_again, is_token_i
 ghost use Rattle.deciding.specs.Verdicts.{is_commit};
 
 use calls::{action_line, append, room_line};
-use page::{Page, Sought};
+use page::Page;
 use recovery::{
     Answer, Done, Refusal, Row, State, fate_at, file_count, is_lent_right, is_opening_at,
     next_named, outcome_place, refuse, row_of, seek_at, set_row,
@@ -114,7 +114,7 @@ fn is_token_at(
         return false;
     }
     let found = seek_at(sheet, place, files, file);
-    let Sought::Image(image) = found else {
+    let Some(image) = found else {
         return false;
     };
     if image.action != decision.action {

@@ -7,7 +7,8 @@ use lib.ListN.{length}
 use lib.Dec.{eqb}
 use borrow.Author.Tests.{eq-eqb, ne_eqb}
 use Rattle.page.specs.declared.Page.{Page}
-use Rattle.page.specs.declared.Packing.{Packing}
+use Rattle.page.specs.declared.PackError.{PackError}
+use Rattle.std.specs.Prelude.{Result}
 use Rattle.page.specs.declared.Unpacked.{Unpacked}
 use Rattle.page.specs.Layout.{value_size}
 use Rattle.page.specs.Answers.{packs, pack_number, tested, test_number, test_values}
@@ -43,13 +44,13 @@ pub pack_refused : (p : Page) (value : List ℕ) (place files : ℕ) (out : List
 unfolding packed_for
 pack_refused p value place files out h = rw (ne_eqb (length value) value_size h)
 
-pub pack_left : (p : Page) (value bytes zeros : List ℕ) (place files : ℕ) (out left : List ℕ) (a : Packing) (r : ℕ) → length value ≡ value_size → length zeros ≡ value_size
-    → bytes ≡ cond (eqb (length zeros) (length value)) value zeros → ◌≡◌ {A = Packing × List ℕ} (a, left) (packs p bytes place files out) → r ≡ pack_number a
+pub pack_left : (p : Page) (value bytes zeros : List ℕ) (place files : ℕ) (out left : List ℕ) (a : Result (Unit {0}) PackError) (r : ℕ) → length value ≡ value_size → length zeros ≡ value_size
+    → bytes ≡ cond (eqb (length zeros) (length value)) value zeros → ◌≡◌ {A = Result (Unit {0}) PackError × List ℕ} (a, left) (packs p bytes place files out) → r ≡ pack_number a
     → ◌≡◌ {A = ℕ × List ℕ} (r, left) (packed_for p value place files out)
 unfolding packed_for
 pack_left p value bytes zeros place files out left a r l z b h n =
     let c : bytes ≡ value = b ∙ ap (λ t. cond t value zeros) (eq-eqb (length zeros) (length value) (z ∙ sym l)) in
-    let k : ◌≡◌ {A = Packing × List ℕ} (a, left) (packs p value place files out) = h ∙ ap (λ v. packs p v place files out) c in
+    let k : ◌≡◌ {A = Result (Unit {0}) PackError × List ℕ} (a, left) (packs p value place files out) = h ∙ ap (λ v. packs p v place files out) c in
     rw (eq-eqb (length value) value_size l) (ap (λ x. (x, left)) n ∙ ap numbered k)
 
 -- ---- inspection

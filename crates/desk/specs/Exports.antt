@@ -1,7 +1,7 @@
 -- What the functions for C answer and leave: the answers of the layers below, in numbers.
-use Rattle.std.specs.Prelude.{ℕ, List, cond, length, eqb}
+use Rattle.std.specs.Prelude.{ℕ, List, cond, length, eqb, Result}
 use Rattle.page.specs.declared.Page.{Page}
-use Rattle.page.specs.declared.Packing.{Packing}
+use Rattle.page.specs.declared.PackError.{PackError}
 use Rattle.page.specs.declared.Unpacked.{Unpacked}
 use Rattle.page.specs.Layout.{value_size}
 use Rattle.page.specs.Answers.{packs, pack_number, tested, test_number, test_values}
@@ -12,7 +12,7 @@ use Rattle.weeks.specs.Answers.{week_test, converted, test_code, conversion_code
 abbrev pub field_count : ℕ
 field_count = 6
 
-abbrev pub numbered : Packing × List ℕ → ℕ × List ℕ
+abbrev pub numbered : Result (Unit {0}) PackError × List ℕ → ℕ × List ℕ
 numbered r = (pack_number r.0, r.1)
 
 -- a value of another length is refused as line 1 refuses

@@ -7,7 +7,7 @@ ghost use Rattle.weeks.specs.Answers.{refusal_day, refusal_code};
 ghost use Rattle.desk.specs.Exports.{field_count, fields_given, packed_for, tested_for, inspected_for, week_tested_for, converted_for};
 
 use inspection::Inspected;
-use page::{Packing, Page, Unpacked};
+use page::{PackError, Page, Unpacked};
 use weeks::{Conversion, Refusal, WeekTest};
 
 // The fields from kind to start.
@@ -16,13 +16,13 @@ const FIELDS: usize = 6;
 // What inspection answers for a sheet or a file count that it refuses: above every place.
 const REFUSED: u64 = 0xffff_ffff_ffff_ffff;
 
-fn pack_number(answer: Packing) -> u64
+fn pack_number(answer: Result<(), PackError>) -> u64
     ensures { result ≡ pack_number answer }
 {
     match answer {
-        Packing::Packed => 0,
-        Packing::Refused => 1,
-        Packing::Unfit => 2,
+        Ok(()) => 0,
+        Err(PackError::OutOfBounds) => 1,
+        Err(PackError::Unfit) => 2,
     }
 }
 

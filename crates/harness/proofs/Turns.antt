@@ -7,10 +7,10 @@ use mathlib.Core.Bool.{Bool, true, false, cond}
 use mathlib.Core.List.{List}
 use Rattle.page.specs.declared.Page.{Page}
 use Rattle.page.specs.declared.Unpacked.{Unpacked}
-use Rattle.page.specs.declared.Sought as sought
-use Rattle.page.specs.declared.Sought.{Sought}
-use Rattle.page.specs.declared.Packing as packing
-use Rattle.page.specs.declared.Packing.{Packing}
+use Rattle.std.specs.Prelude.{Option, Some, None}
+use Rattle.page.specs.declared.PackError as pack_error
+use Rattle.page.specs.declared.PackError.{PackError}
+use Rattle.std.specs.Prelude.{Result, Ok, Err}
 use Rattle.page.specs.Layout.{page_size}
 use Rattle.page.specs.Table.{image}
 use Rattle.page.specs.Answers.{is_fit_page, packs}
@@ -33,22 +33,22 @@ fields_le u = go (is_fit_page u)
     go true = omega arith
     go false = omega arith
 
-pub found_le : (s : Sought) → found s ≤ 1
-found_le (sought.Sought.Image p) = omega arith
-found_le sought.Sought.Other = omega arith
+pub found_le : (s : Option Page) → found s ≤ 1
+found_le (Some p) = omega arith
+found_le None = omega arith
 
-pub written_le : (p : Packing) → written p ≤ 1
-written_le packing.Packing.Packed = omega arith
-written_le packing.Packing.Refused = omega arith
-written_le packing.Packing.Unfit = omega arith
+pub written_le : (p : Result (Unit {0}) PackError) → written p ≤ 1
+written_le (Ok tt) = omega arith
+written_le (Err pack_error.PackError.OutOfBounds) = omega arith
+written_le (Err pack_error.PackError.Unfit) = omega arith
 
 -- no page packed, and one more
 pub pack_start : (size files : ℕ) (value s : List ℕ) → ◌≡◌ {A = ℕ × List ℕ} (0, s) (packed_to size value files s 0)
 unfolding packed_to
 pack_start size files value s = refl
 
-pub pack_turn : (size files i count x : ℕ) (value s sheet left : List ℕ) (p : Page) (r : Packing) → ◌≡◌ {A = ℕ × List ℕ} (count, sheet) (packed_to size value files s i)
-    → p ≡ image size 1 1 0 (i + 1) → ◌≡◌ {A = Packing × List ℕ} (r, left) (packs p value (i + 1) files (page_at sheet i)) → x ≡ written r
+pub pack_turn : (size files i count x : ℕ) (value s sheet left : List ℕ) (p : Page) (r : Result (Unit {0}) PackError) → ◌≡◌ {A = ℕ × List ℕ} (count, sheet) (packed_to size value files s i)
+    → p ≡ image size 1 1 0 (i + 1) → ◌≡◌ {A = Result (Unit {0}) PackError × List ℕ} (r, left) (packs p value (i + 1) files (page_at sheet i)) → x ≡ written r
     → ◌≡◌ {A = ℕ × List ℕ} (count + x, put_mid (page_size * i) (page_size * i + page_size - page_size * i) sheet left) (packed_to size value files s (i + 1))
 unfolding packed_to
 pack_turn size files i count x value s sheet left p r h e q k =

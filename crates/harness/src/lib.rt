@@ -12,7 +12,7 @@ ghost use Rattle.inspection.specs.Inspected.{inspected, inspect_place};
 ghost use Rattle.harness.specs.Counts.{fields, found, written, counted, fits_at, seen_at, packed_to};
 
 use inspection::Inspected;
-use page::{Packing, Page, Sought, Unpacked};
+use page::{PackError, Page, Unpacked};
 
 fn one_if_fields(u: Unpacked) -> u64
     ensures { result ≡ fields u }
@@ -28,23 +28,16 @@ fn one_if_fields(u: Unpacked) -> u64
     }
 }
 
-fn one_if_found(s: Sought) -> u64
-    ensures { result ≡ found s }
+fn one_if_found(seen: Option<Page>) -> u64
+    ensures { result ≡ found seen }
 {
-    match s {
-        Sought::Image(_) => 1,
-        Sought::Other => 0,
-    }
+    u64::from(seen.is_some())
 }
 
-fn one_if_written(p: Packing) -> u64
-    ensures { result ≡ written p }
+fn one_if_written(answer: Result<(), PackError>) -> u64
+    ensures { result ≡ written answer }
 {
-    match p {
-        Packing::Packed => 1,
-        Packing::Refused => 0,
-        Packing::Unfit => 0,
-    }
+    u64::from(answer.is_ok())
 }
 
 // The page test on every page.

@@ -15,7 +15,7 @@ use Rattle.encoding.proofs.Numbers.{zeros_are}
 use Rattle.page.specs.declared.Page.{Page}
 use Rattle.page.specs.declared.Unpacked.{Unpacked}
 use Rattle.page.specs.declared.Unpacked.TheVariants.{Refused, Blank, Torn, Opening, Image, Outcome, Unfit}
-use Rattle.page.specs.declared.Sought as sought
+use Rattle.std.specs.Prelude.{Some, None}
 use Rattle.page.specs.Layout.{page_size, value_size}
 use Rattle.page.specs.Table as table
 use Rattle.page.specs.Table.{value_of, fields_of, packed, lowest, highest, between, meets_rules, is_page_of}
@@ -40,12 +40,12 @@ padded_back n v l h z =
 -- what the page test said of an image that was found
 module _ (files : ℕ) (s : List ℕ) (f p : ℕ) (x : Page) where
   from_image : (y : Page) → Image y ≡ tested (page_bytes s p) p files → (b : Bool)
-      → cond b (sought.Sought.Image y) sought.Sought.Other ≡ sought.Sought.Image x → Image x ≡ tested (page_bytes s p) p files
+      → cond b (Some y) None ≡ Some x → Image x ≡ tested (page_bytes s p) p files
   from_image y q true k = let z : y ≡ x = cc in rw (← z) q
   from_image y q false k = let z : ◌≡◌ {A = ℕ} 0 1 = cc in absurd (omega arith)
 
   from_test : (u : Unpacked) → u ≡ tested (page_bytes s p) p files
-      → on_image u (λ (y : Page). cond (eqb y.file f && is_opening (decoded files s y.action)) (sought.Sought.Image y) sought.Sought.Other) sought.Sought.Other ≡ sought.Sought.Image x
+      → on_image u (λ (y : Page). cond (eqb y.file f && is_opening (decoded files s y.action)) (Some y) None) None ≡ Some x
       → Image x ≡ tested (page_bytes s p) p files
   from_test Refused q k = let z : ◌≡◌ {A = ℕ} 0 1 = cc in absurd (omega arith)
   from_test Blank q k = let z : ◌≡◌ {A = ℕ} 0 1 = cc in absurd (omega arith)
@@ -55,7 +55,7 @@ module _ (files : ℕ) (s : List ℕ) (f p : ℕ) (x : Page) where
   from_test Unfit q k = let z : ◌≡◌ {A = ℕ} 0 1 = cc in absurd (omega arith)
   from_test (Image y) q k = from_image y q (eqb y.file f && is_opening (decoded files s y.action)) k
 
-  found_image : sealed_image files s f p ≡ sought.Sought.Image x → Image x ≡ tested (page_bytes s p) p files
+  found_image : sealed_image files s f p ≡ Some x → Image x ≡ tested (page_bytes s p) p files
   unfolding sealed_image
   found_image e = from_test (tested (page_bytes s p) p files) refl e
 
@@ -84,7 +84,7 @@ module _ (b : List ℕ) (files p : ℕ) (x : Page) (e : Image x ≡ tested b p f
       let y = simp (ne_eqb x.kind 1 (λ q. omega arith), eq-eqb x.kind 2 i) at z in
       omega arith
 
-module _ (files : ℕ) (s : List ℕ) (file place : ℕ) (x : Page) (m : sealed_image files s file place ≡ sought.Sought.Image x) where
+module _ (files : ℕ) (s : List ℕ) (file place : ℕ) (x : Page) (m : sealed_image files s file place ≡ Some x) where
   abbrev b : List ℕ
   b = page_bytes s place
 

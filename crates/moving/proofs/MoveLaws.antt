@@ -9,8 +9,8 @@ use lib.ListN.{length, length-append, length-replicate}
 use lib.Dec.{eqb, leb}
 use borrow.Author.Tests.{ne_eqb}
 use Rattle.encoding.proofs.Logic.{and_true}
-use Rattle.page.specs.declared.Sought as sought
-use Rattle.page.specs.declared.Sought.{Sought}
+use Rattle.page.specs.declared.Page.{Page}
+use Rattle.std.specs.Prelude.{Option as Maybe, Some, None}
 use Rattle.page.specs.Layout.{value_size}
 use Rattle.page.specs.Table as table
 use Rattle.page.specs.Table.{packed}
@@ -51,19 +51,19 @@ module _ (s fs rs : List ℕ) (st : State) where
     held_image : (p : ℕ) → place_holds w f p ≡ true → (p ≡ 0 → ⊥) → is_image_of f (entry_at w p) ≡ true
     held_image p q z = (and_true (leb p w.end) _ (rw (ne_eqb p 0 z) at q)).1
 
-    by_find : (p : ℕ) → place_holds w f p ≡ true → (u : Sought) → sealed_image files s f p ≡ u → image_of (entry_at w p) ≡ image_by (page_bytes s p) u
-    by_find p q (sought.Sought.Image x) m = ap image_of (met_at files s f p x m).page_is
-    by_find zero q sought.Sought.Other m = refl
-    by_find (suc p) q sought.Sought.Other m = absurd (true≢false (sym (held_image (suc p) q (λ z. omega arith)) ∙ none_at files s f (suc p) (sym m)))
+    by_find : (p : ℕ) → place_holds w f p ≡ true → (u : Maybe Page) → sealed_image files s f p ≡ u → image_of (entry_at w p) ≡ image_by (page_bytes s p) u
+    by_find p q (Some x) m = ap image_of (met_at files s f p x m).page_is
+    by_find zero q None m = refl
+    by_find (suc p) q None m = absurd (true≢false (sym (held_image (suc p) q (λ z. omega arith)) ∙ none_at files s f (suc p) (sym m)))
 
     version_is : version_of w f ≡ image_by (page_bytes s (place f)) (sealed_image files s f (place f))
     version_is = by_find (place f) (place_held f h) (sealed_image files s f (place f)) refl
 
     -- it has one exactly if its current place is not 0
-    counted : (p : ℕ) → place_holds w f p ≡ true → (u : Sought) → sealed_image files s f p ≡ u → cond (eqb p 0) 0 1 ≡ length (carried_by (image_by (page_bytes s p) u))
-    counted p q (sought.Sought.Image x) m = let l = (met_at files s f p x m).low in rw (ne_eqb p 0 (λ z. omega arith))
-    counted zero q sought.Sought.Other m = refl
-    counted (suc p) q sought.Sought.Other m = absurd (true≢false (sym (held_image (suc p) q (λ z. omega arith)) ∙ none_at files s f (suc p) (sym m)))
+    counted : (p : ℕ) → place_holds w f p ≡ true → (u : Maybe Page) → sealed_image files s f p ≡ u → cond (eqb p 0) 0 1 ≡ length (carried_by (image_by (page_bytes s p) u))
+    counted p q (Some x) m = let l = (met_at files s f p x m).low in rw (ne_eqb p 0 (λ z. omega arith))
+    counted zero q None m = refl
+    counted (suc p) q None m = absurd (true≢false (sym (held_image (suc p) q (λ z. omega arith)) ∙ none_at files s f (suc p) (sym m)))
 
     one_place : cond (eqb (place f) 0) 0 1 ≡ length (carried_by (version_of w f))
     one_place = counted (place f) (place_held f h) (sealed_image files s f (place f)) refl ∙ ap (λ (v : Option Image). length (carried_by v)) (sym version_is)

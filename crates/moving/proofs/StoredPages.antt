@@ -10,8 +10,7 @@ use lib.Seq.{take_at, drop-append-add, drop-drop}
 use lib.Dec.{eqb}
 use borrow.Author.Tests.{eqb-true, eqb-false, ne_eqb}
 use Rattle.page.specs.declared.Page.{Page}
-use Rattle.page.specs.declared.Sought as sought
-use Rattle.page.specs.declared.Sought.{Sought}
+use Rattle.std.specs.Prelude.{Option, Some, None}
 use Rattle.page.specs.Layout.{page_size, value_size}
 use Rattle.page.specs.Table as table
 use Rattle.page.specs.Table.{packed, value_of, meets_rules}
@@ -86,7 +85,7 @@ module _ (files : ℕ) (s : List ℕ) (file place : ℕ) where
   abbrev b : List ℕ
   b = page_bytes s place
 
-  module _ (x : Page) (m : sealed_image files s file place ≡ sought.Sought.Image x) where
+  module _ (x : Page) (m : sealed_image files s file place ≡ Some x) where
     value_back : padded (take x.small (value_of b)) ≡ value_of b
     value_back =
         let k = met_at files s file place x m in
@@ -103,16 +102,16 @@ module _ (files : ℕ) (s : List ℕ) (file place : ℕ) where
     entry_size = let k = met_at files s file place x m in ap length value_back ∙ value_size_lem s place k.low k.room
 
   -- one version more, or none
-  pub stored_more : (u : Sought) → sealed_image files s file place ≡ u → (fresh : List ℕ) (gs : List Entry) → Long gs
+  pub stored_more : (u : Option Page) → sealed_image files s file place ≡ u → (fresh : List ℕ) (gs : List Entry) → Long gs
       → stored_by s file place (length gs) (onto fresh gs) u ≡ (length (gs ++ carried_by (image_by b u)), onto fresh (gs ++ carried_by (image_by b u)))
-  stored_more sought.Sought.Other m fresh gs l = rw (append-nil gs)
-  stored_more (sought.Sought.Image x) m fresh gs l =
+  stored_more None m fresh gs l = rw (append-nil gs)
+  stored_more (Some x) m fresh gs l =
       let len : length (gs ++ (image (carried (image_from b x)) ∷ [])) ≡ suc (length gs) = length-append gs (image (carried (image_from b x)) ∷ []) ∙ omega arith in
       rw (len, entry_is x m (length gs), onto_more fresh gs (image (carried (image_from b x))) l)
 
-  pub long_stored : (u : Sought) → sealed_image files s file place ≡ u → (gs : List Entry) → Long gs → Long (gs ++ carried_by (image_by b u))
-  long_stored sought.Sought.Other m gs l = rw (append-nil gs) l
-  long_stored (sought.Sought.Image x) m gs l = long_more gs (image (carried (image_from b x))) l (entry_size x m)
+  pub long_stored : (u : Option Page) → sealed_image files s file place ≡ u → (gs : List Entry) → Long gs → Long (gs ++ carried_by (image_by b u))
+  long_stored None m gs l = rw (append-nil gs) l
+  long_stored (Some x) m gs l = long_more gs (image (carried (image_from b x))) l (entry_size x m)
 
 -- the last stored place rises by at most one with each row that has a current place
 pub places_most : (s : List ℕ) (files : ℕ) (rows fresh : List ℕ) (k : ℕ) → (1 ≤ (stores_to s files rows fresh k).0) × ((stores_to s files rows fresh k).0 ≤ suc (places_to rows k))
@@ -120,11 +119,11 @@ unfolding stores_to places_to
 places_most s files rows fresh zero = (omega arith, omega arith)
 places_most s files rows fresh (suc k) = go (row_of rows (suc k)).current (sealed_image files s (suc k) (row_of rows (suc k)).current) refl (places_most s files rows fresh k)
   where
-    go : (p : ℕ) (u : Sought) → sealed_image files s (suc k) p ≡ u → (1 ≤ (stores_to s files rows fresh k).0) × ((stores_to s files rows fresh k).0 ≤ suc (places_to rows k))
+    go : (p : ℕ) (u : Option Page) → sealed_image files s (suc k) p ≡ u → (1 ≤ (stores_to s files rows fresh k).0) × ((stores_to s files rows fresh k).0 ≤ suc (places_to rows k))
         → (1 ≤ (stored_by s (suc k) p (stores_to s files rows fresh k).0 (stores_to s files rows fresh k).1 u).0)
         × ((stored_by s (suc k) p (stores_to s files rows fresh k).0 (stores_to s files rows fresh k).1 u).0 ≤ suc (places_to rows k + cond (eqb p 0) 0 1))
-    go p sought.Sought.Other m h = omega arith
-    go p (sought.Sought.Image x) m h =
+    go p None m h = omega arith
+    go p (Some x) m h =
         let q = (met_at files s (suc k) p x m).low in
         rw (ne_eqb p 0 (λ z. omega arith)) (omega arith)
 

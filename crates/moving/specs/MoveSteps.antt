@@ -1,5 +1,6 @@
 -- What smaller functions of the move answer. Whoever reads what the move is can pass this file over: the laws join it to `moved`.
-use Rattle.std.specs.Prelude.{List, Bool, not, cond, ◌&&◌, ℕ, zero, suc, max, ◌+◌, ◌*◌, ◌/◌, ◌%◌, ◌≤◌, replicate, eqb}
+use Rattle.page.specs.declared.Page.{Page}
+use Rattle.std.specs.Prelude.{List, Bool, not, cond, ◌&&◌, ℕ, zero, suc, max, ◌+◌, ◌*◌, ◌/◌, ◌%◌, ◌≤◌, replicate, eqb, Option, Some, None}
 use Rattle.page.specs.Layout.{page_size, most_places, most_files, value_size}
 use Rattle.recovery.specs.declared.Refusal.{Refusal}
 use Rattle.recovery.specs.declared.Row.{Row}
@@ -8,8 +9,6 @@ use Rattle.recovery.specs.declared.Done.{Done}
 use Rattle.recovery.specs.declared.Answer.TheVariants.{Refused}
 use Rattle.recovery.specs.Lent.{rows_of, flat, lent}
 use Rattle.recovery.specs.Steps.{line_one, sealed_image, row_of, row_holds_in}
-use Rattle.page.specs.declared.Sought as sought
-use Rattle.page.specs.declared.Sought.{Sought}
 use Rattle.page.specs.Table as table
 use Rattle.page.specs.Table.{packed, value_of}
 use Rattle.recovery.specs.Sheet.{page_bytes}
@@ -53,9 +52,9 @@ abbrev pub refusal_at : Refusal → ℕ → State → Done
 refusal_at why place state = record { answer = Refused why place; state = state }
 
 -- the last stored place and the fresh bytes, once the image that was found of a file is stored above a place
-abbrev pub stored_by : List ℕ → ℕ → ℕ → ℕ → List ℕ → Sought → ℕ × List ℕ
-stored_by s file place at fresh (sought.Sought.Image x) = (suc at, with_page fresh at (packed (table.image x.small file 1 0 x.start) (value_of (page_bytes s place)) (suc at)))
-stored_by s file place at fresh sought.Sought.Other = (at, fresh)
+abbrev pub stored_by : List ℕ → ℕ → ℕ → ℕ → List ℕ → Option Page → ℕ × List ℕ
+stored_by s file place at fresh (Some x) = (suc at, with_page fresh at (packed (table.image x.small file 1 0 x.start) (value_of (page_bytes s place)) (suc at)))
+stored_by s file place at fresh None = (at, fresh)
 
 -- the same for the rows of files 1 to k, above the opening at place 1
 unfoldable pub stores_to : List ℕ → ℕ → List ℕ → List ℕ → ℕ → ℕ × List ℕ

@@ -7,7 +7,7 @@ ghost use Rattle.recovery.specs.Steps.{sealed_image};
 ghost use Rattle.moving.specs.MoveSteps.{stored_by, stores_to, stores_all, Roomy};
 
 use calls::append;
-use page::{Page, Sought};
+use page::Page;
 use recovery::{image_at, is_blank_at, part_at, row_of};
 
 // Stores the image of a file at a place above the last stored place, and answers where it then is; nothing where there is no image.
@@ -16,7 +16,7 @@ fn store_version(sheet: &[u8], files: u64, file: u64, place: u64, fresh: &mut [u
     ensures { (result, fresh.new) ≡ stored_by sheet.now file place at fresh.old (sealed_image files sheet.now file place) }
 {
     let found = image_at(sheet, place, files, file);
-    let Sought::Image(x) = found else {
+    let Some(x) = found else {
         return at;
     };
     let value = Page::value(part_at(sheet, place));

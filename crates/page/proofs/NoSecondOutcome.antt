@@ -10,8 +10,9 @@ use lib.ListN.{get_or}
 use Rattle.page.specs.declared.Page.{Page}
 use Rattle.page.specs.declared.Unpacked.{Unpacked}
 use Rattle.page.specs.declared.Unpacked.TheVariants.{Refused, Blank, Torn, Opening, Image, Outcome, Unfit}
-use Rattle.page.specs.declared.Packing as packing
-use Rattle.page.specs.declared.Packing.{Packing}
+use Rattle.page.specs.declared.PackError as pack_error
+use Rattle.page.specs.declared.PackError.{PackError}
+use Rattle.std.specs.Prelude.{Result, Ok, Err}
 use Rattle.page.specs.Answers.{by_kind, tested, test_number, test_values, packs, pack_number}
 use Rattle.page.proofs.Found.{Found, found}
 
@@ -22,14 +23,14 @@ once e f = e ∙ sym f
 pub test_once : (s : List ℕ) (place files : ℕ) {r r' : Unpacked} → r ≡ tested s place files → r' ≡ tested s place files → r ≡ r'
 test_once s place files = once
 
-pub pack_once : (p : Page) (value : List ℕ) (place files : ℕ) (out : List ℕ) {r r' : Packing} {left left' : List ℕ}
+pub pack_once : (p : Page) (value : List ℕ) (place files : ℕ) (out : List ℕ) {r r' : Result (Unit {0}) PackError} {left left' : List ℕ}
     → (r, left) ≡ packs p value place files out → (r', left') ≡ packs p value place files out → (r ≡ r') × (left ≡ left')
-pack_once p value place files out e f = (ap (λ (x : Packing × List ℕ). x.0) (once e f), ap (λ (x : Packing × List ℕ). x.1) (once e f))
+pack_once p value place files out e f = (ap (λ (x : Result (Unit {0}) PackError × List ℕ). x.0) (once e f), ap (λ (x : Result (Unit {0}) PackError × List ℕ). x.1) (once e f))
 
 -- ---- an answer is found again from its number and values
 
-packed_as : ℕ → Packing
-packed_as n = cond (eqb n 0) packing.Packing.Packed (cond (eqb n 1) packing.Packing.Refused packing.Packing.Unfit)
+packed_as : ℕ → Result (Unit {0}) PackError
+packed_as n = cond (eqb n 0) (Ok tt) (cond (eqb n 1) (Err pack_error.PackError.OutOfBounds) (Err pack_error.PackError.Unfit))
 
 unpacked_as : ℕ → List ℕ → Unpacked
 unpacked_as n v =
@@ -39,13 +40,13 @@ unpacked_as n v =
     (cond (eqb n 4) Torn
     (by_kind (record { kind = get_or v 0 0; small = get_or v 1 0; file = get_or v 2 0; action = get_or v 3 0; link = get_or v 4 0; start = get_or v 5 0 })))))
 
-packed_again : (r : Packing) → packed_as (pack_number r) ≡ r
+packed_again : (r : Result (Unit {0}) PackError) → packed_as (pack_number r) ≡ r
 unfolding packed_as
-packed_again packing.Packing.Packed = refl
-packed_again packing.Packing.Refused = refl
-packed_again packing.Packing.Unfit = refl
+packed_again (Ok tt) = refl
+packed_again (Err pack_error.PackError.OutOfBounds) = refl
+packed_again (Err pack_error.PackError.Unfit) = refl
 
-pub pack_number_once : {r r' : Packing} → pack_number r ≡ pack_number r' → r ≡ r'
+pub pack_number_once : {r r' : Result (Unit {0}) PackError} → pack_number r ≡ pack_number r' → r ≡ r'
 pack_number_once {r} {r'} e = sym (packed_again r) ∙ ap packed_as e ∙ packed_again r'
 
 unpacked_again : (s : List ℕ) (place files : ℕ) (u : Unpacked) → Found s place files u → unpacked_as (test_number u) (test_values u) ≡ u

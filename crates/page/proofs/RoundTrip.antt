@@ -15,7 +15,8 @@ use Rattle.encoding.proofs.Logic.{and_true, and_end, and_false, by_test}
 use Rattle.encoding.proofs.Numbers.{number_bytes, number_byte, same_refl, zeros_replicate, not_zeros}
 use Rattle.page.specs.declared.Page.{Page}
 use Rattle.page.specs.declared.Unpacked.TheVariants.{Blank, Torn, Opening, Image, Outcome, Unfit}
-use Rattle.page.specs.declared.Packing.{Packing}
+use Rattle.page.specs.declared.PackError.{PackError}
+use Rattle.std.specs.Prelude.{Result, Ok}
 use Rattle.page.specs.Layout.{kind_at, place_at, check_at, mark_at, page_size, end_mark, value_size}
 use Rattle.page.specs.Table.{cell, head, front, closing, packed, fields_of, value_of, lowest, highest, within, meets_rules, is_page_of, fits, torn}
 use Rattle.page.specs.Answers.{in_bounds, by_kind, tested, is_fit_page, packs, cut}
@@ -107,22 +108,22 @@ module _ (p : Page) (value : List ℕ) (place : ℕ) (l : length value ≡ value
 
 -- ---- a refused pack writes nothing
 
-pub refused_unwritten : (p : Page) (value out : List ℕ) (place files : ℕ) → ((packs p value place files out).0 ≡ Packing.Packed → ⊥) → (packs p value place files out).1 ≡ out
+pub refused_unwritten : (p : Page) (value out : List ℕ) (place files : ℕ) → ((packs p value place files out).0 ≡ Ok tt → ⊥) → (packs p value place files out).1 ≡ out
 unfolding packs
 refused_unwritten p value out place files =
-    by_test (λ (r : Packing × List ℕ). (r.0 ≡ Packing.Packed → ⊥) → r.1 ≡ out) (in_bounds (length out) place files)
-    (λ e. by_test (λ (r : Packing × List ℕ). (r.0 ≡ Packing.Packed → ⊥) → r.1 ≡ out) (meets_rules p value place files) (λ e h. absurd (h refl)) (λ e h. refl))
+    by_test (λ (r : Result (Unit {0}) PackError × List ℕ). (r.0 ≡ Ok tt → ⊥) → r.1 ≡ out) (in_bounds (length out) place files)
+    (λ e. by_test (λ (r : Result (Unit {0}) PackError × List ℕ). (r.0 ≡ Ok tt → ⊥) → r.1 ≡ out) (meets_rules p value place files) (λ e h. absurd (h refl)) (λ e h. refl))
     (λ e h. refl)
 
 -- ---- the first round trip: fields packed and unpacked are the same fields
 
 pub packed_unpacked : (p : Page) (value out s : List ℕ) (place files : ℕ) → length value ≡ value_size
-    → packs p value place files out ≡ (Packing.Packed, s) → (tested s place files ≡ by_kind p) × (value_of s ≡ value)
+    → packs p value place files out ≡ (Ok tt, s) → (tested s place files ≡ by_kind p) × (value_of s ≡ value)
 unfolding packs
 packed_unpacked p value out s place files l e = go (in_bounds (length out) place files) (meets_rules p value place files) refl refl
   where
-    wrong : {r : Packing} → (r ≡ Packing.Packed → ⊥) → ◌≡◌ {A = Packing × List ℕ} (r, out) (Packing.Packed, s) → (tested s place files ≡ by_kind p) × (value_of s ≡ value)
-    wrong f x = absurd (f (ap (λ (y : Packing × List ℕ). y.0) x))
+    wrong : {r : Result (Unit {0}) PackError} → (r ≡ Ok tt → ⊥) → ◌≡◌ {A = Result (Unit {0}) PackError × List ℕ} (r, out) (Ok tt, s) → (tested s place files ≡ by_kind p) × (value_of s ≡ value)
+    wrong f x = absurd (f (ap (λ (y : Result (Unit {0}) PackError × List ℕ). y.0) x))
 
     go : (b m : Bool) → in_bounds (length out) place files ≡ b → meets_rules p value place files ≡ m
         → (tested s place files ≡ by_kind p) × (value_of s ≡ value)
@@ -131,11 +132,11 @@ packed_unpacked p value out s place files l e = go (in_bounds (length out) place
     go true true eb em =
         let q : InBounds (length out) place files = in_bounds_lem _ _ _ eb in
         let q64 : InBounds page_size place files = record { size_is = refl; place_is = q.place_is; files_are = q.files_are } in
-        let s-is : packed p value place ≡ s = ap (λ (y : Packing × List ℕ). y.1) (simp (eb, em) at e) in
+        let s-is : packed p value place ≡ s = ap (λ (y : Result (Unit {0}) PackError × List ℕ). y.1) (simp (eb, em) at e) in
         (rw (← s-is) (packed_tested p value place l files q64 (ruled p value place files q64 em).widths ∙ simp em), rw (← s-is) (value_back p value place l))
 
 -- what pack wrote fits
-pub packed_fits : (p : Page) (value out s : List ℕ) (place files : ℕ) → length value ≡ value_size → packs p value place files out ≡ (Packing.Packed, s)
+pub packed_fits : (p : Page) (value out s : List ℕ) (place files : ℕ) → length value ≡ value_size → packs p value place files out ≡ (Ok tt, s)
     → is_fit_page (tested s place files) ≡ true
 packed_fits p value out s place files l e = ap is_fit_page (packed_unpacked p value out s place files l e).0 ∙ go (eqb p.kind 1) (eqb p.kind 2)
   where
@@ -147,10 +148,10 @@ packed_fits p value out s place files l e = ap is_fit_page (packed_unpacked p va
 -- ---- the second: a page that fits, unpacked and packed, is the same 64 bytes
 
 pub unpacked_packed : (s out : List ℕ) (place files : ℕ) → in_bounds (length out) place files ≡ true → fits s place files ≡ true
-    → packs (fields_of s) (value_of s) place files out ≡ (Packing.Packed, s)
+    → packs (fields_of s) (value_of s) place files out ≡ (Ok tt, s)
 unfolding packs is_page_of
 unpacked_packed s out place files b h =
-    simp (b, (and_true (meets_rules (fields_of s) (value_of s) place files) _ h).0) (ap (λ (t : List ℕ). (Packing.Packed, t)) (sym (fits_packed s place files h)))
+    simp (b, (and_true (meets_rules (fields_of s) (value_of s) place files) _ h).0) (ap (λ (t : List ℕ). (Ok tt, t)) (sym (fits_packed s place files h)))
 
 -- ---- an append that is cut
 

@@ -9,7 +9,7 @@ use lib.ListN.{length}
 use Rattle.page.specs.declared.Page.{Page}
 use Rattle.page.specs.declared.Unpacked.{Unpacked}
 use Rattle.page.specs.declared.Unpacked.TheVariants.{Refused, Blank, Torn, Opening, Image, Outcome, Unfit}
-use Rattle.page.specs.declared.Sought as sought
+use Rattle.std.specs.Prelude.{Some, None}
 use Rattle.page.specs.Layout.{page_size}
 use Rattle.page.specs.Table.{fields_of}
 use Rattle.page.specs.Answers.{tested, is_fit_page, image_that, image_of_file}
@@ -20,10 +20,10 @@ use Rattle.page.proofs.Found.{found, kind_size, fits_kind, told_image}
 
 module _ (passes : Page → Bool) (s : List ℕ) (place files : ℕ) where
   -- a part that does not have its kind, or whose fields do not pass, is none
-  pub no_image : (has_kind s 2 ≡ true → passes (fields_of s) ≡ true → ⊥) → sought.Sought.Other ≡ image_that passes (tested s place files)
+  pub no_image : (has_kind s 2 ≡ true → passes (fields_of s) ≡ true → ⊥) → None ≡ image_that passes (tested s place files)
   no_image h = go (tested s place files) refl
     where
-      go : (u : Unpacked) → u ≡ tested s place files → sought.Sought.Other ≡ image_that passes u
+      go : (u : Unpacked) → u ≡ tested s place files → None ≡ image_that passes u
       go Refused e = refl
       go Blank e = refl
       go Torn e = refl
@@ -36,10 +36,10 @@ module _ (passes : Page → Bool) (s : List ℕ) (place files : ℕ) where
           rw other
 
   -- nor is one that does not fit
-  pub unfit_image : is_fit_page (tested s place files) ≡ false → sought.Sought.Other ≡ image_that passes (tested s place files)
+  pub unfit_image : is_fit_page (tested s place files) ≡ false → None ≡ image_that passes (tested s place files)
   unfit_image = go (tested s place files)
     where
-      go : (u : Unpacked) → is_fit_page u ≡ false → sought.Sought.Other ≡ image_that passes u
+      go : (u : Unpacked) → is_fit_page u ≡ false → None ≡ image_that passes u
       go Refused e = refl
       go Blank e = refl
       go Torn e = refl
@@ -49,15 +49,15 @@ module _ (passes : Page → Bool) (s : List ℕ) (place files : ℕ) where
       go Unfit e = refl
 
   -- one whose fields pass, and that the page test calls an image, is
-  pub that_image : (x : Page) → Image x ≡ tested s place files → passes (fields_of s) ≡ true → sought.Sought.Image x ≡ image_that passes (tested s place files)
+  pub that_image : (x : Page) → Image x ≡ tested s place files → passes (fields_of s) ≡ true → Some x ≡ image_that passes (tested s place files)
   that_image x e h =
       let g : passes x ≡ true = ap passes (found s place files (Image x) e).fields_are ∙ h in
       rw (← e) (rw g)
 
   -- and so one with its kind that fits, by the fields read from the part
   pub fit_image : (p : Page) → p ≡ fields_of s → has_kind s 2 ≡ true → passes (fields_of s) ≡ true → is_fit_page (tested s place files) ≡ true
-      → sought.Sought.Image p ≡ image_that passes (tested s place files)
-  fit_image p r k h e = ap sought.Sought.Image r ∙ that_image (fields_of s) (told_image s place files k e) h
+      → Some p ≡ image_that passes (tested s place files)
+  fit_image p r k h e = ap Some r ∙ that_image (fields_of s) (told_image s place files k e) h
 
 -- ---- an image of a file
 
@@ -66,7 +66,7 @@ module _ (s : List ℕ) (place files file : ℕ) where
   of_file p = eqb p.file file
 
   -- a part that is not named so is no image of the file
-  pub unnamed : named s file ≡ false → sought.Sought.Other ≡ image_of_file file (tested s place files)
+  pub unnamed : named s file ≡ false → None ≡ image_of_file file (tested s place files)
   unfolding named image_of_file
   unnamed h = no_image of_file s place files (λ k f. false≢true (sym h ∙ and_both (has_kind s 2) (of_file (fields_of s)) k f))
 
@@ -82,14 +82,14 @@ module _ (s : List ℕ) (place files file : ℕ) where
   named_file h = (and_true (has_kind s 2) (of_file (fields_of s)) h).1
 
   -- one that is, and that the page test calls an image, is the file's
-  pub named_image : (x : Page) → named s file ≡ true → Image x ≡ tested s place files → sought.Sought.Image x ≡ image_of_file file (tested s place files)
+  pub named_image : (x : Page) → named s file ≡ true → Image x ≡ tested s place files → Some x ≡ image_of_file file (tested s place files)
   unfolding image_of_file
   named_image x h e = that_image of_file s place files x e (named_file h)
 
-  pub this_image : (p : Page) → p ≡ fields_of s → named s file ≡ true → is_fit_page (tested s place files) ≡ true → sought.Sought.Image p ≡ image_of_file file (tested s place files)
+  pub this_image : (p : Page) → p ≡ fields_of s → named s file ≡ true → is_fit_page (tested s place files) ≡ true → Some p ≡ image_of_file file (tested s place files)
   unfolding named image_of_file
   this_image p r h e = let k = and_true (has_kind s 2) (of_file (fields_of s)) h in fit_image of_file s place files p r k.0 k.1 e
 
-  pub unfit_of_file : is_fit_page (tested s place files) ≡ false → sought.Sought.Other ≡ image_of_file file (tested s place files)
+  pub unfit_of_file : is_fit_page (tested s place files) ≡ false → None ≡ image_of_file file (tested s place files)
   unfolding image_of_file
   unfit_of_file e = unfit_image of_file s place files e

@@ -1,14 +1,12 @@
 -- What the page layer's functions answer and leave, on all inputs: pack (encode), the page test (decode), the quick looks for
 -- an image, and the value; the number and the values of each answer; and what a cut leaves of an append.
-use Rattle.std.specs.Prelude.{ℕ, ◌-◌, List, [], ◌∷◌, ◌++◌, Bool, true, false, ◌&&◌, cond, length, take, replicate, eqb, ltb}
+use Rattle.std.specs.Prelude.{ℕ, ◌-◌, List, [], ◌∷◌, ◌++◌, Bool, true, false, ◌&&◌, cond, length, take, replicate, eqb, ltb, Option, Some, None, Result, Ok, Err}
 use Rattle.encoding.specs.Bytes.{zeros}
 use Rattle.page.specs.declared.Page.{Page}
 use Rattle.page.specs.declared.Unpacked.{Unpacked}
 use Rattle.page.specs.declared.Unpacked.TheVariants.{Refused, Blank, Torn, Opening, Image, Outcome, Unfit}
-use Rattle.page.specs.declared.Sought as sought
-use Rattle.page.specs.declared.Sought.{Sought}
-use Rattle.page.specs.declared.Packing as packing
-use Rattle.page.specs.declared.Packing.{Packing}
+use Rattle.page.specs.declared.PackError as pack_error
+use Rattle.page.specs.declared.PackError.{PackError}
 use Rattle.page.specs.Layout.{page_size, most_places, most_files, value_size}
 use Rattle.page.specs.Table.{packed, fields_of, value_of, within, meets_rules, fits, torn}
 
@@ -100,17 +98,17 @@ test_values Unfit = []
 -- ---- pack
 
 -- its answer, and the bytes that it leaves
-unfoldable pub packs : Page → List ℕ → ℕ → ℕ → List ℕ → Packing × List ℕ
+unfoldable pub packs : Page → List ℕ → ℕ → ℕ → List ℕ → Result (Unit {0}) PackError × List ℕ
 packs p value place files out =
     cond (in_bounds (length out) place files)
-    (cond (meets_rules p value place files) (packing.Packing.Packed, packed p value place) (packing.Packing.Unfit, out))
-    (packing.Packing.Refused, out)
+    (cond (meets_rules p value place files) (Ok tt, packed p value place) (Err pack_error.PackError.Unfit, out))
+    (Err pack_error.PackError.OutOfBounds, out)
 
 -- the number of an answer: 0 the page is written, else the line of the refusal
-abbrev pub pack_number : Packing → ℕ
-pack_number packing.Packing.Packed = 0
-pack_number packing.Packing.Refused = 1
-pack_number packing.Packing.Unfit = 2
+abbrev pub pack_number : Result (Unit {0}) PackError → ℕ
+pack_number (Ok tt) = 0
+pack_number (Err pack_error.PackError.OutOfBounds) = 1
+pack_number (Err pack_error.PackError.Unfit) = 2
 
 -- ---- the quick looks, and the value
 
@@ -125,14 +123,14 @@ on_image (Outcome p) f d = d
 on_image Unfit f d = d
 
 -- an image that passes a test, of what the page test says
-abbrev pub image_that : (Page → Bool) → Unpacked → Sought
-image_that passes u = on_image u (λ (p : Page). cond (passes p) (sought.Sought.Image p) sought.Sought.Other) sought.Sought.Other
+abbrev pub image_that : (Page → Bool) → Unpacked → Option Page
+image_that passes u = on_image u (λ (p : Page). cond (passes p) (Some p) None) None
 
 -- an image of this file; one that starts above a time
-unfoldable pub image_of_file : ℕ → Unpacked → Sought
+unfoldable pub image_of_file : ℕ → Unpacked → Option Page
 image_of_file file u = image_that (λ (p : Page). eqb p.file file) u
 
-unfoldable pub image_above : ℕ → Unpacked → Sought
+unfoldable pub image_above : ℕ → Unpacked → Option Page
 image_above time u = image_that (λ (p : Page). ltb time p.start) u
 
 -- the value's 32 bytes, zeros where the part is not a page's size

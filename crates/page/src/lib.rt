@@ -36,18 +36,10 @@ pub enum Unpacked {
     Unfit,
 }
 
-// What a quick look finds: an image as it was asked for, or anything else.
+// Why pack writes no page: refusals 1 and 2.
 #[derive(Clone, Copy)]
-pub enum Sought {
-    Image(Page),
-    Other,
-}
-
-// What pack answers: the page is written, or refusal 1 or 2.
-#[derive(Clone, Copy)]
-pub enum Packing {
-    Packed,
-    Refused,
+pub enum PackError {
+    OutOfBounds,
     Unfit,
 }
 
@@ -476,32 +468,32 @@ impl Page {
     }
 
     // The quick look: the image of this file in a part, by its kind and file before anything else.
-    pub fn seek(part: &[u8], place: u64, files: u64, file: u64) -> Sought
+    pub fn seek(part: &[u8], place: u64, files: u64, file: u64) -> Option<Page>
         ensures { result ≡ image_of_file file (tested part.now place files) }
     {
         if !Page::names(part, file) {
-            return Sought::Other;
+            return None;
         }
         if !Page::is_fit_image(part, place, files) {
-            return Sought::Other;
+            return None;
         }
-        Sought::Image(Page::fields(part))
+        Some(Page::fields(part))
     }
 
     // The image in a part that starts above a time, by its kind and start before anything else.
-    pub fn seek_above(part: &[u8], place: u64, files: u64, time: u64) -> Sought
+    pub fn seek_above(part: &[u8], place: u64, files: u64, time: u64) -> Option<Page>
         ensures { result ≡ image_above time (tested part.now place files) }
     {
         if !Page::has_kind(part, 2) {
-            return Sought::Other;
+            return None;
         }
         if field(part, Page::START, Page::VALUE) <= time {
-            return Sought::Other;
+            return None;
         }
         if !Page::is_fit_image(part, place, files) {
-            return Sought::Other;
+            return None;
         }
-        Sought::Image(Page::fields(part))
+        Some(Page::fields(part))
     }
 
     // Writes the page of these fields and this value into the 64 bytes lent, or leaves them as they are.
@@ -511,17 +503,17 @@ impl Page {
         place: u64,
         files: u64,
         out: &mut [u8],
-    ) -> Packing
+    ) -> Result<(), PackError>
         ensures { (result, out.new) ≡ packs self value.now place files out.old }
     {
         if !is_in_bounds(out.len(), place, files) {
-            return Packing::Refused;
+            return Err(PackError::OutOfBounds);
         }
         if !self.is_by_rules(value, place, files) {
-            return Packing::Unfit;
+            return Err(PackError::Unfit);
         }
         self.write(value, place, out);
-        Packing::Packed
+        Ok(())
     }
 
     // The value's 32 bytes, zeros where the part is not a page's size.

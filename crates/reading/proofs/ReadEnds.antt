@@ -6,8 +6,7 @@ use mathlib.Core.List.{List}
 use lib.ListN.{length}
 use borrow.Author.Tests.{eq-eqb, ne_eqb, le-leb, lt-leb}
 use Rattle.page.specs.declared.Page.{Page}
-use Rattle.page.specs.declared.Sought as sought
-use Rattle.page.specs.declared.Sought.{Sought}
+use Rattle.std.specs.Prelude.{Option, Some, None}
 use Rattle.recovery.specs.Places.{nth, put}
 use Rattle.recovery.specs.Log.{blank, Placed}
 use Rattle.recovery.specs.Sheet.{page_bytes, image_from}
@@ -40,16 +39,16 @@ use Rattle.calls.proofs.ReadWarming.{warm_is, put_twice, put_over}
 
 -- ---- the versions
 
-module _ {files : ℕ} {s : List ℕ} {f : ℕ} {u : Sought} (t : ℕ) (r : Row) (l : Looked files s f r.current u) where
-  current_is : (o : Sought) → u ≡ o → image_of (nth blank (pages_of s files) r.current) ≡ image_by (page_bytes s r.current) o
+module _ {files : ℕ} {s : List ℕ} {f : ℕ} {u : Option Page} (t : ℕ) (r : Row) (l : Looked files s f r.current u) where
+  current_is : (o : Option Page) → u ≡ o → image_of (nth blank (pages_of s files) r.current) ≡ image_by (page_bytes s r.current) o
   current_is o i = l.image_is ∙ ap (image_by (page_bytes s r.current)) i
 
-  pub versions_none : (y : Row) → y ≡ read_current t true r → u ≡ sought.Sought.Other → Versions files s f t r (record { answer = Nothing; row = y })
+  pub versions_none : (y : Row) → y ≡ read_current t true r → u ≡ None → Versions files s f t r (record { answer = Nothing; row = y })
   versions_none y hy i = record {
-    is = λ e fs rs fl n h. rw (current_is sought.Sought.Other i) (ap (λ (z : Row). (Nothing, with_row (world files s e fs rs fl n) f z)) (sym hy));
+    is = λ e fs rs fl n h. rw (current_is None i) (ap (λ (z : Row). (Nothing, with_row (world files s e fs rs fl n) f z)) (sym hy));
   }
 
-  module _ {x : Page} (i : u ≡ sought.Sought.Image x) where
+  module _ {x : Page} (i : u ≡ Some x) where
     abbrev newest : Placed
     newest = record { place = r.current; image = image_from (page_bytes s r.current) x }
 
@@ -60,7 +59,7 @@ module _ {files : ℕ} {s : List ℕ} {f : ℕ} {u : Sought} (t : ℕ) (r : Row)
     versions_met y hy b = record {
       is = λ e fs rs fl n h.
           let k : steps ≡ met newest = reached (carried_in files s) (pages_of s files) f t false newest b in
-          rw (current_is (sought.Sought.Image x) i, le-leb x.start t b, k, met_long files s f r.current x (met_at files s f r.current x (sym l.found ∙ i)))
+          rw (current_is (Some x) i, le-leb x.start t b, k, met_long files s f r.current x (met_at files s f r.current x (sym l.found ∙ i)))
           (ap (λ (z : Row). (Value r.current x.start x.small, with_row (world files s e fs rs fl n) f z)) (sym hy));
     }
 
@@ -75,13 +74,13 @@ module _ {files : ℕ} {s : List ℕ} {f : ℕ} {u : Sought} (t : ℕ) (r : Row)
     unfolding walk_at
     versions_early q hq b = record {
       is = λ e fs rs fl n h.
-          rw (current_is (sought.Sought.Image x) i, lt-leb x.start t b) (still e fs rs fl n h steps)
+          rw (current_is (Some x) i, lt-leb x.start t b) (still e fs rs fl n h steps)
           ∙ ap (λ (y : Answer). (y, with_row (world files s e fs rs fl n) f r)) (sym hq);
     }
 
 -- ---- the token
 
-module _ (files : ℕ) (s : List ℕ) (e f t a : ℕ) (r : Row) (u v : Sought) (hu : u ≡ sealed_image files s f r.current) (hv : v ≡ sealed_image files s f r.token) where
+module _ (files : ℕ) (s : List ℕ) (e f t a : ℕ) (r : Row) (u v : Option Page) (hu : u ≡ sealed_image files s f r.current) (hv : v ≡ sealed_image files s f r.token) where
   holds_is : (b : Bool) → row_holds_by e r u v ≡ b → (fs : List ℕ) (rs : List Row) (fl n : ℕ) → row_holds (world files s e fs rs fl n) f r ≡ b
   unfolding row_holds_in row_holds
   holds_is b hb fs rs fl n = sym (row_held files s e f r u v hu hv) ∙ hb
@@ -89,29 +88,29 @@ module _ (files : ℕ) (s : List ℕ) (e f t a : ℕ) (r : Row) (u v : Sought) (
   pub reads_7 : row_holds_by e r u v ≡ false → Reads files s e f t a r (record { answer = Refused DamagedRow 0; row = r })
   reads_7 h = record { is = λ fs rs fl n k. rw (holds_is false h fs rs fl n, k) }
 
-module _ {files : ℕ} {s : List ℕ} {e f : ℕ} {r : Row} {u v : Sought} (t a : ℕ) (h : RowHeld files s e f r u v) where
-  on_held : (fs : List ℕ) (rs : List Row) (fl n : ℕ) (o : Sought) → v ≡ o
+module _ {files : ℕ} {s : List ℕ} {e f : ℕ} {r : Row} {u v : Option Page} (t a : ℕ) (h : RowHeld files s e f r u v) where
+  on_held : (fs : List ℕ) (rs : List Row) (fl n : ℕ) (o : Option Page) → v ≡ o
       → on_read (world files s e fs rs fl n) f t a r ≡ on_token (world files s e fs rs fl n) f t a r (image_by (page_bytes s r.token) o)
   on_held fs rs fl n o i =
       let k : image_of (nth blank (pages_of s files) r.token) ≡ image_by (page_bytes s r.token) o =
       (looked_token h).image_is ∙ ap (image_by (page_bytes s r.token)) i in
       rw (holds_is files s e f t a r u v h.current h.token true h.holds fs rs fl n, k)
 
-  pub reads_free : v ≡ sought.Sought.Other → (x : Reading) → Versions files s f t r x → Reads files s e f t a r x
-  reads_free i x vs = record { is = λ fs rs fl n k. on_held fs rs fl n sought.Sought.Other i ∙ vs.is e fs rs fl n k }
+  pub reads_free : v ≡ None → (x : Reading) → Versions files s f t r x → Reads files s e f t a r x
+  reads_free i x vs = record { is = λ fs rs fl n k. on_held fs rs fl n None i ∙ vs.is e fs rs fl n k }
 
-  module _ {x : Page} (i : v ≡ sought.Sought.Image x) where
+  module _ {x : Page} (i : v ≡ Some x) where
     pub reads_early : t < x.start → (y : Reading) → Versions files s f t r y → Reads files s e f t a r y
-    reads_early k y vs = record { is = λ fs rs fl n q. on_held fs rs fl n (sought.Sought.Image x) i ∙ rw (lt-leb x.start t k) (vs.is e fs rs fl n q) }
+    reads_early k y vs = record { is = λ fs rs fl n q. on_held fs rs fl n (Some x) i ∙ rw (lt-leb x.start t k) (vs.is e fs rs fl n q) }
 
     module _ (k : x.start ≤ t) where
       pub reads_9 : (x.action ≡ a → ⊥) → Reads files s e f t a r (record { answer = Refused HangingRead x.action; row = r })
-      reads_9 o = record { is = λ fs rs fl n q. on_held fs rs fl n (sought.Sought.Image x) i ∙ rw (le-leb x.start t k, ne_eqb x.action a o, q) }
+      reads_9 o = record { is = λ fs rs fl n q. on_held fs rs fl n (Some x) i ∙ rw (le-leb x.start t k, ne_eqb x.action a o, q) }
 
       pub reads_own : x.action ≡ a → (y : Row) → y ≡ read_token t r → Reads files s e f t a r (record { answer = Value r.token x.start x.small; row = y })
       reads_own o y hy = record {
         is = λ fs rs fl n q.
-            on_held fs rs fl n (sought.Sought.Image x) i
+            on_held fs rs fl n (Some x) i
             ∙ rw (le-leb x.start t k, eq-eqb x.action a o, met_long files s f r.token x (met_at files s f r.token x (sym h.token ∙ i)))
             (ap (λ (z : Row). (Value r.token x.start x.small, with_row (world files s e fs rs fl n) f z)) (sym hy));
       }

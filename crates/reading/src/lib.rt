@@ -1,8 +1,7 @@
 // Read: the value of a file at a time, for an action or for none.
 #![tactic(auto)]
 
-ghost use Rattle.std.specs.Prelude.{true, false, ◌≡◌, ◌/◌, length};
-ghost use Rattle.page.specs.declared.Sought as sought;
+ghost use Rattle.std.specs.Prelude.{true, false, ◌≡◌, ◌/◌, length, Some};
 ghost use Rattle.recovery.specs.Lent.{left_by};
 ghost use Rattle.recovery.specs.Steps.{sealed_image};
 ghost use Rattle.calls.specs.Calls.{Call, read_current, read_token};
@@ -12,7 +11,7 @@ ghost use Rattle.calls.specs.ReadSteps.{read_line, may_read, walk_answer, walk_a
 ghost use Rattle.reading.specs.WarmReads.{Versions, Reads};
 
 use calls::action_line;
-use page::{Page, Sought};
+use page::Page;
 use rebuilding::{row_holds_by, warm_row};
 use recovery::{
     Answer, Done, Refusal, Row, State, file_count, has_file, image_at, is_carried_at,
@@ -62,7 +61,7 @@ fn none_below(carried: bool) -> Answer
 
 // The first image from a place down the links whose start is not above a time. A link leads to a lower place, so this ends.
 fn walk(sheet: &[u8], from: u64, files: u64, file: u64, time: u64, first: Page) -> Answer
-    requires { sealed_image files sheet.now file from ≡ sought.Sought.Image first }
+    requires { sealed_image files sheet.now file from ≡ Some first }
     ensures { result ≡ walk_at files sheet.now file time false from first }
 {
     let mut place = from;
@@ -72,13 +71,13 @@ fn walk(sheet: &[u8], from: u64, files: u64, file: u64, time: u64, first: Page) 
         if x.start <= time {
             return Answer::Value(place, x.start, x.small);
         }
-        carried = carried | is_carried_at(sheet, x.action, files);
+        carried |= is_carried_at(sheet, x.action, files);
         let next = x.link;
         if next == 0 {
             return none_below(carried);
         }
         let found = image_at(sheet, next, files, file);
-        let Sought::Image(y) = found else {
+        let Some(y) = found else {
             return Answer::Refused(Refusal::LostLink, place);
         };
         place = next;
@@ -93,13 +92,13 @@ fn read_versions(
     file: u64,
     time: u64,
     row: Row,
-    current: Sought,
+    current: Option<Page>,
 ) -> Reading
     requires { Looked files sheet.now file row.current current }
     ensures { Versions files sheet.now file time row result }
 {
     let reached = current_read(row, time);
-    let Sought::Image(newest) = current else {
+    let Some(newest) = current else {
         return Reading {
             answer: Answer::Nothing,
             row: reached,
@@ -135,7 +134,7 @@ fn read_row(
             row,
         };
     }
-    let Sought::Image(x) = token else {
+    let Some(x) = token else {
         return read_versions(sheet, files, file, time, row, current);
     };
     if time < x.start {

@@ -6,7 +6,7 @@ ghost use Rattle.recovery.specs.Lent.{left_by, rebuild_leaves};
 ghost use Rattle.recovery.specs.Steps.{rebuilt_with, row_from_pages, place_holds_by, action_found, token_holds_by, row_holds_by, row_holds_in, Warmed};
 
 use encoding::least;
-use page::{Page, Sought, Unpacked};
+use page::{Page, Unpacked};
 use recovery::{
     Answer, Done, Refusal, Row, State, counted_fate, file_count, has_file, image_at, is_lent_right,
     refuse, row_of, set_row,
@@ -62,7 +62,7 @@ pub fn rebuilt_row(sheet: &[u8], fates: &[u8], end: u64, files: u64, file: u64) 
 }
 
 // Line 7 for a place of a row, by what was found there: it is 0, or a place up to the end with a sealed image of the file.
-fn place_holds_by(end: u64, place: u64, found: Sought) -> bool
+fn place_holds_by(end: u64, place: u64, found: Option<Page>) -> bool
     ensures { result ≡ place_holds_by end place found }
 {
     if place == 0 {
@@ -71,31 +71,25 @@ fn place_holds_by(end: u64, place: u64, found: Sought) -> bool
     if end < place {
         return false;
     }
-    match found {
-        Sought::Image(_) => true,
-        Sought::Other => false,
-    }
+    found.is_some()
 }
 
 // The action of an image that was found, 0 of none.
-fn action_found(found: Sought) -> u64
+fn action_found(found: Option<Page>) -> u64
     ensures { result ≡ action_found found }
 {
-    match found {
-        Sought::Image(image) => image.action,
-        Sought::Other => 0,
-    }
+    found.map_or(0, |image| image.action)
 }
 
 // Line 7 for the token: its place holds, and its action is that of its page.
-fn token_holds_by(end: u64, row: Row, found: Sought) -> bool
+fn token_holds_by(end: u64, row: Row, found: Option<Page>) -> bool
     ensures { result ≡ token_holds_by end row found }
 {
     place_holds_by(end, row.token, found) & (action_found(found) == row.tokenaction)
 }
 
 // Line 7, by what was found at both places of a row.
-pub fn row_holds_by(end: u64, row: Row, current: Sought, token: Sought) -> bool
+pub fn row_holds_by(end: u64, row: Row, current: Option<Page>, token: Option<Page>) -> bool
     ensures { result ≡ row_holds_by end row current token }
 {
     (row.mark <= 1) & place_holds_by(end, row.current, current) & token_holds_by(end, row, token)

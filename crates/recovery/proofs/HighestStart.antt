@@ -13,8 +13,7 @@ use Rattle.encoding.proofs.Logic.{by_test, clash}
 use Rattle.page.specs.declared.Page.{Page}
 use Rattle.page.specs.declared.Unpacked.{Unpacked}
 use Rattle.page.specs.declared.Unpacked.TheVariants.{Refused, Blank, Torn, Opening, Image, Outcome, Unfit}
-use Rattle.page.specs.declared.Sought as sought
-use Rattle.page.specs.declared.Sought.{Sought}
+use Rattle.std.specs.Prelude.{Option, Some, None}
 use Rattle.page.specs.Layout.{page_size}
 use Rattle.page.specs.Answers.{tested, image_above}
 use Rattle.recovery.specs.Places.{nth, tabulate}
@@ -38,9 +37,9 @@ module _ (files : ℕ) (s : List ℕ) where
   -- ---- a page, by the quick look
 
   -- what was found counts if its opening is there
-  abbrev or_found : ℕ → Sought → ℕ
-  or_found start (sought.Sought.Image x) = cond (is_opening (decoded files s x.action)) x.start start
-  or_found start sought.Sought.Other = start
+  abbrev or_found : ℕ → Option Page → ℕ
+  or_found start (Some x) = cond (is_opening (decoded files s x.action)) x.start start
+  or_found start None = start
 
   looked : (b : List ℕ) (start : ℕ) (u : Unpacked) → or_found start (image_above start u) ≡ start_step (seal (decoded files s) (entry_of b u)) start
   unfolding image_above
@@ -53,27 +52,27 @@ module _ (files : ℕ) (s : List ℕ) where
   looked b start (Image p) = go (ltb start p.start) (is_opening (decoded files s p.action)) refl refl
     where
       go : (z d : Bool) → ltb start p.start ≡ z → is_opening (decoded files s p.action) ≡ d
-          → or_found start (cond z (sought.Sought.Image p) sought.Sought.Other) ≡ start_step (cond d (image (image_from b p)) bad) start
+          → or_found start (cond z (Some p) None) ≡ start_step (cond d (image (image_from b p)) bad) start
       go true true h e = let l : start < p.start = ltb-true start p.start h in rw e (omega arith)
       go true false h e = rw e
       go false true h e = let l : p.start ≤ start = ltb-false start p.start h in omega arith
       go false false h e = refl
 
   module _ (start place : ℕ) (part : List ℕ) (q : part ≡ part_at s place) where
-    by_look : (v : Sought) → v ≡ image_above start (tested part place files) → or_found start v ≡ start_step (sealed files s place) start
+    by_look : (v : Option Page) → v ≡ image_above start (tested part place files) → or_found start v ≡ start_step (sealed files s place) start
     by_look v e =
         ap (or_found start) (e ∙ ap (λ (b : List ℕ). image_above start (tested b place files)) q ∙ ap (image_above start) (part_tested s place files))
         ∙ looked (page_bytes s place) start (tested (page_bytes s place) place files) ∙ ap (λ (g : Entry). start_step g start) (sealed_is s place files (tested (page_bytes s place) place files) refl)
 
-    pub look_none : sought.Sought.Other ≡ image_above start (tested part place files) → start ≡ start_step (sealed files s place) start
-    look_none e = by_look sought.Sought.Other e
+    pub look_none : None ≡ image_above start (tested part place files) → start ≡ start_step (sealed files s place) start
+    look_none e = by_look None e
 
-    module _ (x : Page) (e : sought.Sought.Image x ≡ image_above start (tested part place files)) where
+    module _ (x : Page) (e : Some x ≡ image_above start (tested part place files)) where
       pub look_unsealed : is_opening (decoded files s x.action) ≡ false → start ≡ start_step (sealed files s place) start
-      look_unsealed h = rw h at (by_look (sought.Sought.Image x) e)
+      look_unsealed h = rw h at (by_look (Some x) e)
 
       pub look_sealed : is_opening (decoded files s x.action) ≡ true → x.start ≡ start_step (sealed files s place) start
-      look_sealed h = rw h at (by_look (sought.Sought.Image x) e)
+      look_sealed h = rw h at (by_look (Some x) e)
 
   -- ---- the walk: the highest start above a place
 

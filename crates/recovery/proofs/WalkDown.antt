@@ -11,8 +11,7 @@ use Rattle.encoding.proofs.Logic.{by_test, clash}
 use Rattle.page.specs.declared.Page.{Page}
 use Rattle.page.specs.declared.Unpacked.{Unpacked}
 use Rattle.page.specs.declared.Unpacked.TheVariants.{Refused, Blank, Torn, Opening, Image, Outcome, Unfit}
-use Rattle.page.specs.declared.Sought as sought
-use Rattle.page.specs.declared.Sought.{Sought}
+use Rattle.std.specs.Prelude.{Option, Some, None}
 use Rattle.page.specs.Layout.{page_size}
 use Rattle.page.specs.Answers.{tested, image_of_file}
 use Rattle.recovery.specs.Places.{nth}
@@ -75,10 +74,10 @@ overlay t v a r = cond (eqb t 0) r (record { mark = r.mark; current = r.current;
 
 -- ---- what the quick look tells
 
-pub apart : {A : Type 0} {x : Page} → sought.Sought.Image x ≡ sought.Sought.Other → A
+pub apart : {A : Type 0} {x : Page} → Some x ≡ None → A
 apart e = clash cc
 
-pub found_same : {x y : Page} → sought.Sought.Image x ≡ sought.Sought.Image y → x ≡ y
+pub found_same : {x y : Page} → Some x ≡ Some y → x ≡ y
 found_same e = cc
 
 -- only the fates undecided and committed move a row
@@ -115,7 +114,7 @@ module _ (files : ℕ) (s fs : List ℕ) (file : ℕ) where
   row_mark p = refl
 
   -- what the quick look found moves the row as its fate says
-  pub of_file_lem : (b : List ℕ) (p : ℕ) (u : Unpacked) (x : Page) (r : Row) (w : ℕ) → sought.Sought.Image x ≡ image_of_file file u → w ≡ counted_fate files s fs x.action
+  pub of_file_lem : (b : List ℕ) (p : ℕ) (u : Unpacked) (x : Page) (r : Row) (w : ℕ) → Some x ≡ image_of_file file u → w ≡ counted_fate files s fs x.action
       → add_page (fate_in fs) file p (seal (decoded files s) (entry_of b u)) r ≡ add_image (fate_from w) p x.start x.action r
   unfolding image_of_file counted_fate
   of_file_lem b p Refused x r w e h = apart e
@@ -131,7 +130,7 @@ module _ (files : ℕ) (s fs : List ℕ) (file : ℕ) where
       to_image true y k = rw k
       to_image false y k = refl
 
-      go : (c : Bool) → eqb y.file file ≡ c → (eqb y.file file ≡ c → sought.Sought.Image x ≡ cond c (sought.Sought.Image y) sought.Sought.Other)
+      go : (c : Bool) → eqb y.file file ≡ c → (eqb y.file file ≡ c → Some x ≡ cond c (Some y) None)
           → add_page (fate_in fs) file p (seal (decoded files s) (entry_of b (Image y))) r ≡ add_image (fate_from w) p x.start x.action r
       go true k f =
           let z : x ≡ y = found_same (f k) in
@@ -139,7 +138,7 @@ module _ (files : ℕ) (s fs : List ℕ) (file : ℕ) where
       go false k f = apart (f k)
 
   -- and any other page leaves it
-  pub other_page : (b : List ℕ) (p : ℕ) (u : Unpacked) (r : Row) → sought.Sought.Other ≡ image_of_file file u
+  pub other_page : (b : List ℕ) (p : ℕ) (u : Unpacked) (r : Row) → None ≡ image_of_file file u
       → add_page (fate_in fs) file p (seal (decoded files s) (entry_of b u)) r ≡ r
   unfolding image_of_file
   other_page b p Refused r e = refl
@@ -150,7 +149,7 @@ module _ (files : ℕ) (s fs : List ℕ) (file : ℕ) where
   other_page b p Unfit r e = refl
   other_page b p (Image y) r e = go (eqb y.file file) refl (λ k. rw k at e)
     where
-      go : (c : Bool) → eqb y.file file ≡ c → (eqb y.file file ≡ c → sought.Sought.Other ≡ cond c (sought.Sought.Image y) sought.Sought.Other)
+      go : (c : Bool) → eqb y.file file ≡ c → (eqb y.file file ≡ c → None ≡ cond c (Some y) None)
           → add_page (fate_in fs) file p (seal (decoded files s) (entry_of b (Image y))) r ≡ r
       go true k f = apart (sym (f k))
       go false k f = by_test (λ (g : Entry). add_page (fate_in fs) file p g r ≡ r) (is_opening (decoded files s y.action)) (λ q. rw k) (λ q. refl)
@@ -158,18 +157,18 @@ module _ (files : ℕ) (s fs : List ℕ) (file : ℕ) where
   -- ---- a turn of the walk down, by what the quick look found at p
 
   module _ (p : ℕ) (some : 0 < p) (in-sheet : page_size * p ≤ length s) where
-    abbrev seen : Sought
+    abbrev seen : Option Page
     seen = image_of_file file (tested (page_bytes s p) p files)
 
     page_is : (r : Row) → add_page (fate_in fs) file p (sealed files s p) r ≡ add_page (fate_in fs) file p (seal (decoded files s) (entry_of (page_bytes s p) (tested (page_bytes s p) p files))) r
     page_is r = ap (λ (g : Entry). add_page (fate_in fs) file p g r) (sym (sealed_is s p files (tested (page_bytes s p) p files) refl))
 
     -- any other page: what is known from above stays
-    pub pass : (known : Row → Row) {x : Row} → sought.Sought.Other ≡ seen → known (row_to p) ≡ x → known (row_to (p - 1)) ≡ x
+    pub pass : (known : Row → Row) {x : Row} → None ≡ seen → known (row_to p) ≡ x → known (row_to (p - 1)) ≡ x
     pass known e i =
         ap known (sym (row_down p some in-sheet ∙ page_is (row_to (p - 1)) ∙ other_page (page_bytes s p) p _ (row_to (p - 1)) e)) ∙ i
 
-    module _ (y : Page) (w : ℕ) (found : sought.Sought.Image y ≡ seen) (counted : w ≡ counted_fate files s fs y.action) where
+    module _ (y : Page) (w : ℕ) (found : Some y ≡ seen) (counted : w ≡ counted_fate files s fs y.action) where
       moved : row_to p ≡ add_image (fate_from w) p y.start y.action (row_to (p - 1))
       moved = row_down p some in-sheet ∙ page_is (row_to (p - 1)) ∙ of_file_lem (page_bytes s p) p _ y (row_to (p - 1)) w found counted
 

@@ -1,9 +1,7 @@
 -- What smaller functions of the code answer. A reader of document 01 can pass this file over: the laws join it to `rebuilt`, and those of
 -- `calls` to commit and abort.
-use Rattle.std.specs.Prelude.{◌≡◌, List, [], ◌∷◌, Bool, true, false, cond, ◌&&◌, ◌||◌, ℕ, suc, pred, ◌+◌, ◌/◌, length, drop, eqb, leb}
+use Rattle.std.specs.Prelude.{◌≡◌, List, [], ◌∷◌, Bool, cond, ◌&&◌, ◌||◌, ℕ, suc, pred, ◌+◌, ◌/◌, length, drop, eqb, leb, Option, is_some, Some, None}
 use Rattle.page.specs.declared.Page.{Page}
-use Rattle.page.specs.declared.Sought as sought
-use Rattle.page.specs.declared.Sought.{Sought}
 use Rattle.page.specs.Layout.{page_size}
 use Rattle.page.specs.Answers.{tested, on_image}
 use Rattle.recovery.specs.Places.{nth}
@@ -33,11 +31,11 @@ unfoldable pub counted_fate : ℕ → List ℕ → List ℕ → ℕ → ℕ
 counted_fate files s fates a = cond (eqb (nth 0 fates a) 1 || eqb (nth 0 fates a) 2) (cond (is_opening (decoded files s a)) (nth 0 fates a) 0) 0
 
 -- the fields of a sealed image of a file at a place
-unfoldable pub sealed_image : ℕ → List ℕ → ℕ → ℕ → Sought
+unfoldable pub sealed_image : ℕ → List ℕ → ℕ → ℕ → Option Page
 sealed_image files s file place =
     on_image (tested (page_bytes s place) place files)
-    (λ (p : Page). cond (eqb p.file file && is_opening (decoded files s p.action)) (sought.Sought.Image p) sought.Sought.Other)
-    sought.Sought.Other
+    (λ (p : Page). cond (eqb p.file file && is_opening (decoded files s p.action)) (Some p) None)
+    None
 
 -- the row of a file in the lent run, cold for no file; and the run with it replaced
 unfoldable pub row_of : List ℕ → ℕ → Row
@@ -85,21 +83,17 @@ unfoldable pub row_holds_in : List ℕ → ℕ → ℕ → ℕ → Row → Bool
 row_holds_in s files end file r = row_holds (sheet_world s files end) file r
 
 -- line 7, by what was found at the places of a row
-abbrev pub is_found : Sought → Bool
-is_found (sought.Sought.Image x) = true
-is_found sought.Sought.Other = false
+unfoldable pub place_holds_by : ℕ → ℕ → Option Page → Bool
+place_holds_by end place u = eqb place 0 || (leb place end && is_some u)
 
-unfoldable pub place_holds_by : ℕ → ℕ → Sought → Bool
-place_holds_by end place u = eqb place 0 || (leb place end && is_found u)
+abbrev pub action_found : Option Page → ℕ
+action_found (Some x) = x.action
+action_found None = 0
 
-abbrev pub action_found : Sought → ℕ
-action_found (sought.Sought.Image x) = x.action
-action_found sought.Sought.Other = 0
-
-unfoldable pub token_holds_by : ℕ → Row → Sought → Bool
+unfoldable pub token_holds_by : ℕ → Row → Option Page → Bool
 token_holds_by end r u = place_holds_by end r.token u && eqb (action_found u) r.tokenaction
 
-unfoldable pub row_holds_by : ℕ → Row → Sought → Sought → Bool
+unfoldable pub row_holds_by : ℕ → Row → Option Page → Option Page → Bool
 row_holds_by end r u v = leb r.mark 1 && place_holds_by end r.current u && token_holds_by end r v
 
 -- a file's row, rebuilt where it is cold, and the run that then holds it

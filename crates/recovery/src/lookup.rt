@@ -8,7 +8,7 @@ ghost use Rattle.recovery.specs.World.{is_carried};
 ghost use Rattle.recovery.specs.Steps.{has_place, part_at, counted_fate, outcome_in, sealed_image};
 
 use encoding::least;
-use page::{Page, Sought, Unpacked};
+use page::{Page, Unpacked};
 
 // Whether the sheet has such a place.
 fn has_place(sheet: &[u8], place: u64) -> bool
@@ -36,13 +36,13 @@ pub fn page_at(sheet: &[u8], place: u64, files: u64) -> Unpacked
     Page::test(part_at(sheet, place), place, files)
 }
 
-// The quick look at a place; Other where the sheet has no such place.
-pub fn seek_at(sheet: &[u8], place: u64, files: u64, file: u64) -> Sought
+// The quick look at a place; none where the sheet has no such place.
+pub fn seek_at(sheet: &[u8], place: u64, files: u64, file: u64) -> Option<Page>
     ensures { result ≡ image_of_file file (tested (page_bytes sheet.now place) place files) }
 {
     // Asked here too, so that the machine need not choose between the part and an empty one.
     if !has_place(sheet, place) {
-        return Sought::Other;
+        return None;
     }
     Page::seek(part_at(sheet, place), place, files, file)
 }
@@ -98,17 +98,14 @@ pub fn outcome_place(sheet: &[u8], end: u64, files: u64, action: u64) -> u64
 }
 
 // The fields of a sealed image of a file at a place.
-pub fn image_at(sheet: &[u8], place: u64, files: u64, file: u64) -> Sought
+pub fn image_at(sheet: &[u8], place: u64, files: u64, file: u64) -> Option<Page>
     ensures { result ≡ sealed_image files sheet.now file place }
 {
-    let found = seek_at(sheet, place, files, file);
-    let Sought::Image(image) = found else {
-        return Sought::Other;
-    };
+    let image = seek_at(sheet, place, files, file)?;
     if !is_opening_at(sheet, image.action, files) {
-        return Sought::Other;
+        return None;
     }
-    found
+    Some(image)
 }
 
 // The lent fate of an action, 0 for no place.

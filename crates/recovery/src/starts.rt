@@ -5,14 +5,14 @@ ghost use Rattle.recovery.specs.Sheet.{sealed};
 ghost use Rattle.recovery.specs.Lent.{highest_start_of};
 
 use crate::lookup::{is_opening_at, part_at};
-use page::{Page, Sought};
+use page::Page;
 
 // A start, or that of the sealed image at a place if it is higher.
 fn or_higher(sheet: &[u8], place: u64, files: u64, start: u64) -> u64
     ensures { result ≡ start_step (sealed files sheet.now place) start }
 {
     let found = Page::seek_above(part_at(sheet, place), place, files, start);
-    let Sought::Image(image) = found else {
+    let Some(image) = found else {
         return start;
     };
     if !is_opening_at(sheet, image.action, files) {

@@ -10,7 +10,7 @@ pub returns-in_default : goal.returns-in_default
 returns-in_default c = token_none _ _ _ _ _ _ c.if-end-place.false (sym c.in_default.is ∙ c.seek_at-found.ensures)
 
 pub returns-then-image-decision : goal.returns-then-image-decision
-returns-then-image-decision c = token_other _ _ _ _ _ _ c.if-end-place.false _ (sym c.in-Image.is ∙ c.seek_at-found.ensures) c.if-image-decision.true
+returns-then-image-decision c = token_other _ _ _ _ _ _ c.if-end-place.false _ (sym c.in-Some.is ∙ c.seek_at-found.ensures) c.if-image-decision.true
 
 pub returns : goal.returns
-returns c = token_own _ _ _ _ _ _ c.if-end-place.false _ (sym c.in-Image.is ∙ c.seek_at-found.ensures) _ c.if-image-decision.false c.requires
+returns c = token_own _ _ _ _ _ _ c.if-end-place.false _ (sym c.in-Some.is ∙ c.seek_at-found.ensures) _ c.if-image-decision.false c.requires

@@ -3,7 +3,8 @@ use Prim.Native.Nat.{ℕ}
 use mathlib.Core.List.{List}
 use mathlib.Core.Bool.{Bool, true}
 use mathlib.Core.Path.{◌≡◌}
-use Rattle.page.specs.declared.Sought.{Sought}
+use Rattle.page.specs.declared.Page.{Page}
+use Rattle.std.specs.Prelude.{Option}
 use Rattle.recovery.specs.declared.Row.{Row}
 use Rattle.recovery.specs.Steps.{sealed_image, row_holds_by}
 use Rattle.encoding.proofs.Logic.{refused, passed}
@@ -12,7 +13,7 @@ use Rattle.reading.proofs.ReadEnds.{reads_7, reads_free, reads_early, reads_9, r
 use Rattle.reading.proofs.read_row.Goals as goal
 
 -- what line 7 let through
-held : {files : ℕ} {s : List ℕ} {e f : ℕ} {u v : Sought} {b : Bool} (r : Row) → u ≡ sealed_image files s f r.current → v ≡ sealed_image files s f r.token
+held : {files : ℕ} {s : List ℕ} {e f : ℕ} {u v : Option Page} {b : Bool} (r : Row) → u ≡ sealed_image files s f r.current → v ≡ sealed_image files s f r.token
     → b ≡ row_holds_by e r u v → b ≡ true → RowHeld files s e f r u v
 held r u v h t = record { current = u; token = v; holds = passed h t }
 
@@ -37,14 +38,14 @@ read_versions-requires-then-time-x c =
 pub returns-then-time-x : goal.returns-then-time-x
 returns-then-time-x c =
     let k = held c.args.row c.image_at-current.ensures c.image_at-token.ensures c.row_holds_by.ensures c.if-not-row_holds_by.false in
-    reads_early _ _ k c.in-Image.is c.if-time-x.true _ c.read_versions-then-time-x.ensures
+    reads_early _ _ k c.in-Some.is c.if-time-x.true _ c.read_versions-then-time-x.ensures
 
 pub returns-then-x-action : goal.returns-then-x-action
 returns-then-x-action c =
     let k = held c.args.row c.image_at-current.ensures c.image_at-token.ensures c.row_holds_by.ensures c.if-not-row_holds_by.false in
-    reads_9 _ _ k c.in-Image.is c.if-time-x.false c.if-x-action.true
+    reads_9 _ _ k c.in-Some.is c.if-time-x.false c.if-x-action.true
 
 pub returns : goal.returns
 returns c =
     let k = held c.args.row c.image_at-current.ensures c.image_at-token.ensures c.row_holds_by.ensures c.if-not-row_holds_by.false in
-    reads_own _ _ k c.in-Image.is c.if-time-x.false c.if-x-action.false _ c.token_read.ensures
+    reads_own _ _ k c.in-Some.is c.if-time-x.false c.if-x-action.false _ c.token_read.ensures

@@ -7,10 +7,10 @@ pub returns-in_default : goal.returns-in_default
 returns-in_default c = versions_none _ _ c.requires _ c.current_read-reached.ensures c.in_default.is
 
 pub returns-then-newest-time : goal.returns-then-newest-time
-returns-then-newest-time c = versions_met _ _ c.requires c.in-Image.is _ c.current_read-reached.ensures c.if-newest-time.true
+returns-then-newest-time c = versions_met _ _ c.requires c.in-Some.is _ c.current_read-reached.ensures c.if-newest-time.true
 
 pub walk-answer-requires : goal.walk-answer-requires
-walk-answer-requires c = sym c.requires.found ∙ c.in-Image.is
+walk-answer-requires c = sym c.requires.found ∙ c.in-Some.is
 
 pub returns : goal.returns
-returns c = versions_early _ _ c.requires c.in-Image.is _ c.walk-answer.ensures c.if-newest-time.false
+returns c = versions_early _ _ c.requires c.in-Some.is _ c.walk-answer.ensures c.if-newest-time.false

@@ -34,6 +34,6 @@ loop-x-preserved c =
     let carried = c.is_carried_at-carried.ensures in
     let some = c.if-next-eq0.false in
     let found = c.image_at-found.ensures in (
-      next_is _ _ _ _ l.carried _ _ l.invariant.0 early _ carried some _ found _ c.in-Image.is,
-      walk_on _ _ _ _ _ _ _ l.invariant.0 early _ carried some _ found _ c.in-Image.is ∙ l.invariant.1,
+      next_is _ _ _ _ l.carried _ _ l.invariant.0 early _ carried some _ found _ c.in-Some.is,
+      walk_on _ _ _ _ _ _ _ l.invariant.0 early _ carried some _ found _ c.in-Some.is ∙ l.invariant.1,
     )

@@ -5,7 +5,7 @@ use Rattle.recovery.specs.Sheet.{page_bytes}
 use Rattle.page.specs.declared.Page.{Page}
 use Rattle.page.specs.declared.Unpacked.{Unpacked}
 use Rattle.page.specs.declared.Unpacked.TheVariants.{Image}
-use Rattle.page.specs.declared.Sought as sought
+use Rattle.std.specs.Prelude.{Some, None}
 use Rattle.page.specs.Answers.{tested, image_of_file}
 use Rattle.page.specs.Steps.{named}
 use Rattle.page.proofs.Found.{off_image}
@@ -29,7 +29,7 @@ tested_at : {part : List ℕ} {u : Unpacked} (s : List ℕ) (place files : ℕ) 
 tested_at s place files e p = e ∙ ap (λ l. tested l place files) p
 
 image_at : {part : List ℕ} {b : Bool} {u : Unpacked} {x : Page} (s : List ℕ) (place files file : ℕ) → b ≡ named part file → b ≡ true
-    → u ≡ tested part place files → u ≡ Image x → part ≡ page_bytes s place → sought.Sought.Image x ≡ image_of_file file (tested (page_bytes s place) place files)
+    → u ≡ tested part place files → u ≡ Image x → part ≡ page_bytes s place → Some x ≡ image_of_file file (tested (page_bytes s place) place files)
 image_at {x = x} s place files file n t e i p =
     named_image (page_bytes s place) place files file x (passed (named_at s place file n p) t) (sym i ∙ tested_at s place files e p)
 
@@ -51,7 +51,7 @@ loop-place-preserved-in_default c =
     let a = c.args in
     let l = c.loop-place in
     let e = tested_at a.sheet.now l.place a.files c.test.ensures (part_is _ _ _ l.place c.loop-place-test.true refl refl) in
-    (omega arith, pass a.files a.sheet.now a.fates.now a.file l.place c.loop-place-test.true (omega arith) (overlay l.token l.tokenend l.tokenaction) (off_image c.test.result (λ (p : Page). cond (eqb p.file a.file) (sought.Sought.Image p) sought.Sought.Other) sought.Sought.Other c.in_default.not-Image ∙ ap (image_of_file a.file) e) l.invariant.1, l.invariant.2)
+    (omega arith, pass a.files a.sheet.now a.fates.now a.file l.place c.loop-place-test.true (omega arith) (overlay l.token l.tokenend l.tokenaction) (off_image c.test.result (λ (p : Page). cond (eqb p.file a.file) (Some p) None) None c.in_default.not-Image ∙ ap (image_of_file a.file) e) l.invariant.1, l.invariant.2)
 
 pub returns-then-fate-eq2 : goal.returns-then-fate-eq2
 returns-then-fate-eq2 c =

@@ -20,7 +20,7 @@ overflow_add-result c =
 pub returns : goal.returns
 returns c =
     let a = c.args in
-    let m = sym c.image_at-found.ensures ∙ c.in-Image.is in
+    let m = sym c.image_at-found.ensures ∙ c.in-Some.is in
     let k = met_at a.files a.sheet.now a.file a.place _ m in
     stored_is a.files a.sheet.now a.file a.place _ m a.at a.fresh.now _ _ _ c.requires c.image-page.ensures
     (value_part a.sheet.now a.place _ _ k.low k.room c.part_at.ensures c.value-value.ensures) c.append.ensures

@@ -1,7 +1,7 @@
 -- `page::Page::pack`: what line 1 refuses, what the rules refuse, and the page. Assumes nothing.
 use Rattle.page.proofs.Rules.{let_through, are_in_bounds}
 use Rattle.page.specs.Answers.{packs}
-use Rattle.page.specs.declared.Packing.{Packing}
+use Rattle.std.specs.Prelude.{Ok}
 use Rattle.encoding.proofs.Logic.{refused, passed}
 use Prim.Native.Nat.{ℕ}
 use mathlib.Core.List.{List}
@@ -33,4 +33,4 @@ pub returns : goal.returns
 unfolding packs
 returns c =
     let bounds = let_through c.is_in_bounds.ensures c.if-not-is_in_bounds.false in
-    simp (are_in_bounds bounds, passed c.is_by_rules.ensures c.if-not-is_by_rules.false) (ap (λ (s : List ℕ). (Packing.Packed, s)) c.write.ensures)
+    simp (are_in_bounds bounds, passed c.is_by_rules.ensures c.if-not-is_by_rules.false) (ap (λ (s : List ℕ). (Ok tt, s)) c.write.ensures)

@@ -12,9 +12,9 @@ returns-in_default c =
 pub returns-then-not-is_opening_at : goal.returns-then-not-is_opening_at
 returns-then-not-is_opening_at c =
     let a = c.args in
-    look_unsealed a.files a.sheet.now a.start a.place _ c.part_at.ensures _ (sym c.in-Image.is ∙ c.seek_above-found.ensures) (refused c.is_opening_at.ensures c.if-not-is_opening_at.true)
+    look_unsealed a.files a.sheet.now a.start a.place _ c.part_at.ensures _ (sym c.in-Some.is ∙ c.seek_above-found.ensures) (refused c.is_opening_at.ensures c.if-not-is_opening_at.true)
 
 pub returns : goal.returns
 returns c =
     let a = c.args in
-    look_sealed a.files a.sheet.now a.start a.place _ c.part_at.ensures _ (sym c.in-Image.is ∙ c.seek_above-found.ensures) (passed c.is_opening_at.ensures c.if-not-is_opening_at.false)
+    look_sealed a.files a.sheet.now a.start a.place _ c.part_at.ensures _ (sym c.in-Some.is ∙ c.seek_above-found.ensures) (passed c.is_opening_at.ensures c.if-not-is_opening_at.false)
