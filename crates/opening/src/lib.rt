@@ -112,11 +112,7 @@ fn refuse(why: Refusal, place: u64) -> Done
 {
     Done {
         answer: Answer::Refused(why, place),
-        state: State {
-            end: 0,
-            floor: 0,
-            undecided: 0,
-        },
+        state: State::CLOSED,
     }
 }
 

@@ -55,6 +55,15 @@ pub struct State {
     pub undecided: u64,
 }
 
+impl State {
+    // Of no sheet that is open.
+    pub const CLOSED: State = State {
+        end: 0,
+        floor: 0,
+        undecided: 0,
+    };
+}
+
 // Why a call says no, in the order of docs/STORE.md. `specs/Numbers.antt` has the number of each; 14 is not used.
 #[derive(Clone, Copy)]
 pub enum Refusal {
@@ -92,8 +101,9 @@ pub enum Refusal {
     OnOlderSheet,
 }
 
-// What a call answers: why it is refused, and the place that is named, 0 if none; open's end and open count; the numbers of a row after its mark; the place of
-// the call's page; place, start and length of a value; none; a fate, and the place of the newest outcome; the floor for a fresh sheet.
+// What a call answers: why it is refused, and the place that is named, 0 if none; open's end and open count; the numbers of a row after
+// its mark; the place of the call's page; place, start and length of a value; none; a fate, and the place of the newest outcome; the
+// floor for a fresh sheet.
 #[derive(Clone, Copy)]
 pub enum Answer {
     Refused(Refusal, u64),
@@ -112,7 +122,8 @@ pub struct Done {
     pub state: State,
 }
 
-// What the pass of open has found so far: the end, and the highest bad place up to it, 0 if there is none.
+// What the pass of open has found so far: the end, and the highest bad place up to it, 0 if there is none, as in the definition
+// `highest_bad` and in a refusal's place: an Option would be turned back into it at once.
 #[derive(Clone, Copy)]
 pub struct Scan {
     pub end: u64,
