@@ -1,6 +1,6 @@
 -- Decimal digits: one division by ten at a time, and how many there are. Assumes nothing.
 use Prim.Native.Nat.{ℕ, zero, suc, ◌+◌, ◌*◌, ◌/◌, ◌%◌, ◌^◌, ◌≤◌, ◌<◌}
-use mathlib.Core.Path.{◌≡◌, refl, ap}
+use mathlib.Core.Path.{◌≡◌, refl, ap, ◌∙◌}
 use mathlib.Core.Bool.{cond}
 use mathlib.Core.List.{List, [], ◌∷◌, ◌++◌}
 use native.Mathlib.Omega.{arith}
@@ -46,3 +46,7 @@ at_most (suc n) x =
 pub twenty : (x : ℕ) → length (decimal x) ≤ 20
 unfolding decimal
 twenty x = at_most 19 x
+
+-- a run and what was put behind it
+pub grown : {s : List ℕ} (a b : List ℕ) → s ≡ a ++ b → length s ≡ length a + length b
+grown {s} a b e = ap length e ∙ length-append a b

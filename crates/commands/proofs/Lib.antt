@@ -2,7 +2,6 @@ pub mod Numerals
 pub mod Lines
 pub mod Counted
 pub mod Decimal
-pub mod Putting
 pub mod EveryLine
 pub mod Samples
 pub mod ReadBack

@@ -2,4 +2,3 @@ pub mod Names
 pub mod Commands
 pub mod ParseSteps
 pub mod Replies
-pub mod PrintSteps

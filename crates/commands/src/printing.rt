@@ -1,12 +1,11 @@
 // A reply to its line, as `specs/Replies.antt` says it.
-ghost use Rattle.std.specs.Prelude.{◌≡◌, ◌+◌, ◌≤◌, ◌<◌, [], ◌∷◌, ◌++◌, length};
+ghost use Rattle.std.specs.Prelude.{◌≡◌, ◌+◌, ◌≤◌, ◌<◌, List, ℕ, [], ◌∷◌, ◌++◌, length, take};
 ghost use Rattle.page.specs.Layout.{value_size};
-ghost use Rattle.commands.specs.Replies.{decimal, spaced, newline, printed, room, prints};
+ghost use Rattle.commands.specs.Replies.{decimal, spaced, newline, printed, room, laid, prints};
 ghost use Rattle.commands.specs.Names.{read_name};
-ghost use Rattle.commands.specs.PrintSteps.{Put};
 
-use encoding::copy;
 use page::Page;
+use std::marker::Model;
 
 // What the program answers to a line: the bytes of a cut; the end and the open count; the place of the call's page; place, start
 // and size of what a read shows, whose value is lent beside it; a fate and the place of its outcome; a refusal's number and place.
@@ -27,128 +26,165 @@ pub enum Reply {
     No(u64, u64),
 }
 
-// Each of these puts bytes at an index, and answers the index behind them.
-fn put_byte(out: &mut [u8], at: usize, b: u8) -> usize
-    requires { at < length out.old }
-    ensures { Put at (b ∷ []) out.old out.new result }
-{
-    out[at] = b;
-    at + 1
-}
-
-fn put_run(out: &mut [u8], at: usize, s: &[u8]) -> usize
-    requires { at + length s.now ≤ length out.old }
-    ensures { Put at s.now out.old out.new result }
-{
-    let end = at + s.len();
-    copy(&mut out[at..end], s);
-    end
-}
-
-fn put_digit(out: &mut [u8], at: usize, d: u64) -> usize
-    requires { (at < length out.old) × (d < 10) }
-    ensures { Put at ((48 + d) ∷ []) out.old out.new result }
-{
-    put_byte(out, at, (48 + d) as u8)
-}
-
-// The digits before the last, and the last.
-fn put_decimal(out: &mut [u8], at: usize, x: u64) -> usize
-    requires { at + length (decimal x) ≤ length out.old }
-    ensures { Put at (decimal x) out.old out.new result }
-{
-    if x < 10 {
-        return put_digit(out, at, x);
-    }
-    let next = put_decimal(out, at, x / 10);
-    put_digit(out, next, x % 10)
-}
-
-// A space and a number.
-fn put_spaced(out: &mut [u8], at: usize, x: u64) -> usize
-    requires { at + 21 ≤ length out.old }
-    ensures put { Put at (spaced x) out.old out.new result }
-    ensures within { result ≤ at + 21 }
-{
-    let next = put_byte(out, at, b' ');
-    put_decimal(out, next, x)
-}
-
-// A line that is a word, and one that is a word and a number, or two.
-fn put_word(out: &mut [u8], word: &[u8]) -> usize
-    requires { (room ≤ length out.old) × (length word.now ≤ 6) }
-    ensures { Put 0 (word.now ++ newline) out.old out.new result }
-{
-    let a = put_run(out, 0, word);
-    put_byte(out, a, b'\n')
-}
-
-fn put_one(out: &mut [u8], word: &[u8], x: u64) -> usize
-    requires { (room ≤ length out.old) × (length word.now ≤ 6) }
-    ensures { Put 0 (word.now ++ spaced x ++ newline) out.old out.new result }
-{
-    let a = put_run(out, 0, word);
-    let b = put_spaced(out, a, x);
-    put_byte(out, b, b'\n')
-}
-
-fn put_two(out: &mut [u8], word: &[u8], x: u64, y: u64) -> usize
-    requires { (room ≤ length out.old) × (length word.now ≤ 6) }
-    ensures { Put 0 (word.now ++ spaced x ++ spaced y ++ newline) out.old out.new result }
-{
-    let a = put_run(out, 0, word);
-    let b = put_spaced(out, a, x);
-    let c = put_spaced(out, b, y);
-    put_byte(out, c, b'\n')
-}
-
-// The line of a read that shows a value.
-fn put_shown(out: &mut [u8], place: u64, start: u64, value: &[u8]) -> usize
-    requires { (room ≤ length out.old) × (length value.now ≤ value_size) }
-    ensures { Put 0 (read_name ++ spaced place ++ spaced start ++ (32 ∷ value.now) ++ newline) out.old out.new result }
-{
-    let a = put_run(out, 0, b"read");
-    let b = put_spaced(out, a, place);
-    let c = put_spaced(out, b, start);
-    let d = put_byte(out, c, b' ');
-    let e = put_run(out, d, value);
-    put_byte(out, e, b'\n')
-}
-
-// The line of a reply, where there is room for it.
-fn put_reply(reply: Reply, value: &[u8], out: &mut [u8]) -> usize
-    requires { (room ≤ length out.old) × (length value.now ≤ value_size) }
-    ensures { Put 0 (printed reply value.now) out.old out.new result }
-{
-    match reply {
-        Reply::What => put_word(out, b"what"),
-        Reply::Closed => put_word(out, b"closed"),
-        Reply::Lost => put_word(out, b"lost"),
-        Reply::Cut(n) => put_one(out, b"cut", n),
-        Reply::Opened(end, count) => put_two(out, b"open", end, count),
-        Reply::Begun(place) => put_one(out, b"begin", place),
-        Reply::Written(place) => put_one(out, b"write", place),
-        Reply::Shown(place, start, _) => put_shown(out, place, start, value),
-        Reply::Nothing => put_word(out, b"none"),
-        Reply::Told(fate, place) => put_two(out, b"test", fate, place),
-        Reply::Committed(place) => put_one(out, b"commit", place),
-        Reply::Aborted(place) => put_one(out, b"abort", place),
-        Reply::No(number, place) => put_two(out, b"no", number, place),
-    }
-}
-
 // Room for the longest line.
 pub const ROOM: usize = 128;
 
+// A line as it grows. It is no String: there is no heap, and a value may have any bytes.
+#[derive(Drop)]
+struct Line {
+    bytes: [u8; ROOM],
+    len: usize,
+}
+
+impl Model for Line {
+    ghost Value = { List ℕ };
+
+    ghost view = { λ l. take l.len l.bytes };
+
+    ghost invariant = { λ l. l.len ≤ 128 };
+}
+
+impl Line {
+    fn new() -> Line
+        ensures { result ≡ [] }
+    {
+        Line {
+            bytes: [0; ROOM],
+            len: 0,
+        }
+    }
+
+    fn push(&mut self, b: u8)
+        requires { length self.old < room }
+        ensures { self.new ≡ self.old ++ b ∷ [] }
+    {
+        self.bytes[self.len] = b;
+        self.len += 1;
+    }
+
+    fn push_run(&mut self, s: &[u8])
+        requires { length self.old + length s.now ≤ room }
+        ensures { self.new ≡ self.old ++ s.now }
+    {
+        for &b in s {
+            self.push(b);
+        }
+    }
+
+    // The digits before the last, and the last.
+    fn push_decimal(&mut self, x: u64)
+        requires { length self.old + length (decimal x) ≤ room }
+        ensures { self.new ≡ self.old ++ decimal x }
+    {
+        if x < 10 {
+            self.push(b'0' + x as u8);
+            return;
+        }
+        self.push_decimal(x / 10);
+        self.push(b'0' + (x % 10) as u8);
+    }
+
+    // A space and a number.
+    #[tactic(auto, unfolding(crate::specs::Replies::spaced))]
+    fn push_spaced(&mut self, x: u64)
+        requires { length self.old + 21 ≤ room }
+        ensures pushed { self.new ≡ self.old ++ spaced x }
+        ensures within { length self.new ≤ length self.old + 21 }
+    {
+        self.push(b' ');
+        self.push_decimal(x);
+    }
+
+    // Lays the line over the beginning of a run, and answers its length.
+    fn lay(&self, out: &mut [u8]) -> usize
+        requires { room ≤ length out.old }
+        ensures { (result, out.new) ≡ laid self.now out.old }
+    {
+        out[..self.len].copy_from_slice(&self.bytes[..self.len]);
+        self.len
+    }
+}
+
+// A line that is a word, and one that is a word and a number, or two.
+fn word_line(word: &[u8]) -> Line
+    requires { length word.now ≤ 6 }
+    ensures { result ≡ word.now ++ newline }
+{
+    let mut line = Line::new();
+    line.push_run(word);
+    line.push(b'\n');
+    line
+}
+
+fn one_line(word: &[u8], x: u64) -> Line
+    requires { length word.now ≤ 6 }
+    ensures { result ≡ word.now ++ spaced x ++ newline }
+{
+    let mut line = Line::new();
+    line.push_run(word);
+    line.push_spaced(x);
+    line.push(b'\n');
+    line
+}
+
+fn two_line(word: &[u8], x: u64, y: u64) -> Line
+    requires { length word.now ≤ 6 }
+    ensures { result ≡ word.now ++ spaced x ++ spaced y ++ newline }
+{
+    let mut line = Line::new();
+    line.push_run(word);
+    line.push_spaced(x);
+    line.push_spaced(y);
+    line.push(b'\n');
+    line
+}
+
+// The line of a read that shows a value.
+#[tactic(auto, unfolding(crate::specs::Names::read_name))]
+fn shown_line(place: u64, start: u64, value: &[u8]) -> Line
+    requires { length value.now ≤ value_size }
+    ensures { result ≡ read_name ++ spaced place ++ spaced start ++ (32 ∷ value.now) ++ newline }
+{
+    let mut line = Line::new();
+    line.push_run(b"read");
+    line.push_spaced(place);
+    line.push_spaced(start);
+    line.push(b' ');
+    line.push_run(value);
+    line.push(b'\n');
+    line
+}
+
+// The line of a reply.
+#[tactic(auto, unfolding(crate::specs::Replies::printed, crate::specs::Names::open_name, crate::specs::Names::begin_name, crate::specs::Names::write_name, crate::specs::Names::test_name, crate::specs::Names::commit_name, crate::specs::Names::abort_name, crate::specs::Names::cut_name, crate::specs::Names::what_name, crate::specs::Names::closed_name, crate::specs::Names::lost_name, crate::specs::Names::none_name, crate::specs::Names::no_name))]
+fn reply_line(reply: Reply, value: &[u8]) -> Line
+    requires { length value.now ≤ value_size }
+    ensures { result ≡ printed reply value.now }
+{
+    match reply {
+        Reply::What => word_line(b"what"),
+        Reply::Closed => word_line(b"closed"),
+        Reply::Lost => word_line(b"lost"),
+        Reply::Cut(n) => one_line(b"cut", n),
+        Reply::Opened(end, count) => two_line(b"open", end, count),
+        Reply::Begun(place) => one_line(b"begin", place),
+        Reply::Written(place) => one_line(b"write", place),
+        Reply::Shown(place, start, _) => shown_line(place, start, value),
+        Reply::Nothing => word_line(b"none"),
+        Reply::Told(fate, place) => two_line(b"test", fate, place),
+        Reply::Committed(place) => one_line(b"commit", place),
+        Reply::Aborted(place) => one_line(b"abort", place),
+        Reply::No(number, place) => two_line(b"no", number, place),
+    }
+}
+
 // Puts the line of a reply, with its newline, at the beginning of a run, and answers its length.
+#[tactic(auto, unfolding(crate::specs::Replies::prints))]
 pub fn print(reply: Reply, value: &[u8], out: &mut [u8]) -> usize
     ensures { (result, out.new) ≡ prints reply value.now out.old }
 {
-    if out.len() < ROOM {
+    if (out.len() < ROOM) | (Page::VALUE_SIZE < value.len()) {
         return 0;
     }
-    if Page::VALUE_SIZE < value.len() {
-        return 0;
-    }
-    put_reply(reply, value, out)
+    reply_line(reply, value).lay(out)
 }
