@@ -9,7 +9,7 @@ ghost use Rattle.desk.specs.Wording.{stored_by, call_reply, open_reply, shown};
 use calls::Call;
 use commands::{Reply, print};
 use page::Page;
-use recovery::{Answer, numbers_of, part_at};
+use recovery::{ANSWER_LENGTH, Answer, part_at};
 
 // The place of a call's page, in the call's own word.
 fn stored_by(call: Call, place: u64) -> Reply
@@ -31,14 +31,14 @@ pub(crate) fn call_reply(call: Call, answer: Answer) -> Reply
     ensures { result ≡ call_reply call (numbers_of answer) }
 {
     match answer {
-        Answer::Refused(number, place) => Reply::No(number, place),
+        Answer::Refused(why, place) => Reply::No(u64::from(why), place),
         Answer::Stored(place) => stored_by(call, place),
         Answer::Value(place, start, size) => Reply::Shown(place, start, size),
         Answer::Nothing => Reply::Nothing,
-        _ => {
-            let numbers = numbers_of(answer);
-            Reply::Told(numbers[1], numbers[2])
-        }
+        Answer::Told(fate, place) => Reply::Told(fate, place),
+        // These are no call's answers.
+        Answer::Opened(x, y) | Answer::Rebuilt(x, y, _, _, _) => Reply::Told(x, y),
+        Answer::Moved(x) => Reply::Told(x, 0),
     }
 }
 
@@ -47,11 +47,11 @@ pub(crate) fn call_reply(call: Call, answer: Answer) -> Reply
 pub(crate) fn open_reply(answer: Answer) -> Reply
     ensures { result ≡ open_reply (numbers_of answer) }
 {
-    if let Answer::Refused(number, place) = answer {
-        return Reply::No(number, place);
+    if let Answer::Refused(why, place) = answer {
+        return Reply::No(u64::from(why), place);
     }
-    let numbers = numbers_of(answer);
-    Reply::Opened(numbers[1], numbers[2])
+    let [_, end, undecided, ..] = <[u64; ANSWER_LENGTH]>::from(answer);
+    Reply::Opened(end, undecided)
 }
 
 // The value's 32 bytes of the page at a place, zeros where the sheet has no such place.

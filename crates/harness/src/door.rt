@@ -7,7 +7,7 @@ ghost use Rattle.harness.specs.Door.{number_count, told_numbers, call_of, made, 
 
 use calls::Call;
 use making::make;
-use recovery::{ANSWER_LENGTH, Done, Refusal, State, numbers_of, refuse};
+use recovery::{ANSWER_LENGTH, Done, Refusal, State, refuse};
 
 // Where the state's numbers lie, after the answer's, and how many are given.
 const END: usize = ANSWER_LENGTH;
@@ -24,7 +24,7 @@ fn tell(out: &mut [u64], done: Done)
 {
     let answer = done.answer;
     let state = done.state;
-    let numbers = numbers_of(answer);
+    let numbers = <[u64; ANSWER_LENGTH]>::from(answer);
     out[..ANSWER_LENGTH].copy_from_slice(&numbers);
     out[END] = state.end;
     out[FLOOR] = state.floor;

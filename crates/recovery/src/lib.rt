@@ -17,7 +17,6 @@ pub use lookup::{
     counted_fate, fate_at, image_at, is_blank_at, is_carried_at, is_opening_at, outcome_place,
     page_at, part_at, seek_at,
 };
-pub use numbering::numbers_of;
 use page::Page;
 pub use rolling::raised_row;
 pub use rows::{file_count, has_file, is_file, next_named, row_of, set_row};

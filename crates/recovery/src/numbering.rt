@@ -49,10 +49,3 @@ impl From<Answer> for [u64; ANSWER_LENGTH] {
         }
     }
 }
-
-// The same under the name that the documents give it.
-pub fn numbers_of(answer: Answer) -> [u64; ANSWER_LENGTH]
-    ensures { result ≡ numbers_of answer }
-{
-    answer.into()
-}

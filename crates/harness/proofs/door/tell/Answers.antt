@@ -6,5 +6,5 @@ use Rattle.harness.proofs.door.tell.Goals as goal
 pub returns : goal.returns
 returns c =
     let a = c.args in
-    let copied : c.copy_from_slice.new.self ≡ c.numbers_of-numbers.result = c.copy_from_slice.ensures.after in
-    rw copied (told_are a.out.now c.numbers_of-numbers.result a.done.answer a.done.state c.requires c.numbers_of-numbers.ensures)
+    let copied : c.copy_from_slice.new.self ≡ c.from-numbers.result = c.copy_from_slice.ensures.after in
+    rw copied (told_are a.out.now c.from-numbers.result a.done.answer a.done.state c.requires c.from-numbers.ensures)
