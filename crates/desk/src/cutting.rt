@@ -10,7 +10,6 @@ use crate::showing::call_reply;
 use crate::talking::{Desk, NO_CUT, Turn, no_state};
 use calls::Call;
 use commands::Reply;
-use encoding::least;
 use making::make;
 use page::Page;
 use recovery::{Done, State, numbers_of, part_at};
@@ -89,7 +88,7 @@ pub(crate) fn act(
     let state = desk.state;
     // With an end past the sheet no call appends, and there is no page to keep.
     let pages = (sheet.len() / Page::SIZE) as u64;
-    encoding::copy(&mut old, part_at(&sheet[..], least(state.end, pages) + 1));
+    encoding::copy(&mut old, part_at(&sheet[..], state.end.min(pages) + 1));
     let done = make(sheet, fates, rows, state, call, value);
     let left = done.state;
     if !is_struck(desk, left) {

@@ -10,7 +10,6 @@ use crate::cutting::act;
 use crate::showing::{open_reply, tell};
 use calls::Call;
 use commands::{Command, Reply, parse};
-use encoding::least;
 use page::Page;
 use recovery::{ROW_LENGTH, State, highest_start, numbers_of};
 
@@ -179,7 +178,7 @@ fn rest(line: &[u8], from: usize) -> &[u8]
     ensures { result.now ≡ drop from line.now }
 {
     let n = line.len();
-    let at = least(from as u64, n as u64) as usize;
+    let at = from.min(n);
     &line[at..n]
 }
 

@@ -5,7 +5,6 @@ ghost use Rattle.std.specs.Prelude.{◌≡◌};
 ghost use Rattle.recovery.specs.Lent.{left_by, rebuild_leaves};
 ghost use Rattle.recovery.specs.Steps.{rebuilt_with, row_from_pages, place_holds_by, action_found, token_holds_by, row_holds_by, row_holds_in, Warmed};
 
-use encoding::least;
 use page::{Page, Unpacked};
 use recovery::{
     Answer, Done, Row, State, counted_fate, file_count, has_file, image_at, is_lent_right, refuse,
@@ -31,7 +30,7 @@ fn rebuilt(current: u64, currentend: u64, token: u64, tokenend: u64, tokenaction
 pub fn rebuilt_row(sheet: &[u8], fates: &[u8], end: u64, files: u64, file: u64) -> Row
     ensures { result ≡ row_from_pages sheet.now fates.now files file end }
 {
-    let mut place = least(end, (sheet.len() / Page::SIZE) as u64) as usize;
+    let mut place = end.min((sheet.len() / Page::SIZE) as u64) as usize;
     let mut token: u64 = 0;
     let mut tokenend: u64 = 0;
     let mut tokenaction: u64 = 0;

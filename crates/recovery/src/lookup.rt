@@ -7,7 +7,6 @@ ghost use Rattle.recovery.specs.Sheet.{page_bytes, is_opening, decoded};
 ghost use Rattle.recovery.specs.World.{is_carried};
 ghost use Rattle.recovery.specs.Steps.{has_place, part_at, counted_fate, outcome_in, sealed_image};
 
-use encoding::least;
 use page::{Page, Unpacked};
 
 // Whether the sheet has such a place.
@@ -87,7 +86,7 @@ pub fn outcome_place(sheet: &[u8], end: u64, files: u64, action: u64) -> u64
     if !is_opening_at(sheet, action, files) {
         return 0;
     }
-    let mut place = least(end, (sheet.len() / Page::SIZE) as u64);
+    let mut place = end.min((sheet.len() / Page::SIZE) as u64);
     while action < place {
         if is_outcome_at(sheet, place, files, action) {
             return place;
@@ -101,11 +100,12 @@ pub fn outcome_place(sheet: &[u8], end: u64, files: u64, action: u64) -> u64
 pub fn image_at(sheet: &[u8], place: u64, files: u64, file: u64) -> Option<Page>
     ensures { result ≡ sealed_image files sheet.now file place }
 {
-    let image = seek_at(sheet, place, files, file)?;
-    if !is_opening_at(sheet, image.action, files) {
+    // Handed on as it was found: a copy would wait for its stores (docs/DECISIONS.md, Speed).
+    let found = seek_at(sheet, place, files, file);
+    if !is_opening_at(sheet, found?.action, files) {
         return None;
     }
-    Some(image)
+    found
 }
 
 // The lent fate of an action, 0 for no place.

@@ -36,7 +36,7 @@ image_at {x = x} s place files file n t e i p =
 pub loop-place-init : goal.loop-place-init
 loop-place-init c =
     let a = c.args in
-    (omega (arith, c.least-place.ensures), over_none _ ∙ ap (row_to a.files a.sheet.now a.fates.now a.file) c.least-place.ensures ∙ row_from_lem a.files a.sheet.now a.fates.now a.file a.end, λ z. (refl, refl))
+    (omega (arith, c.min-place.ensures), over_none _ ∙ ap (row_to a.files a.sheet.now a.fates.now a.file) c.min-place.ensures ∙ row_from_lem a.files a.sheet.now a.fates.now a.file a.end, λ z. (refl, refl))
 
 pub loop-place-preserved-then-not-names : goal.loop-place-preserved-then-not-names
 loop-place-preserved-then-not-names c =

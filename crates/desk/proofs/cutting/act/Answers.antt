@@ -20,4 +20,4 @@ cut_page-requires c =
 pub returns : goal.returns
 returns c =
     let a = c.args in
-    lost_as a.desk a.sheet.now a.fates.now a.rows.now a.call a.value.now _ _ _ _ c.make-done.ensures (passed c.is_struck.ensures c.if-not-is_struck.false) _ _ (replicate 64 0) c.copy.new.out _ _ (ap (λ n. n + 1) c.least.ensures) c.part_at.ensures refl c.copy.ensures c.lost.ensures c.cut_page.ensures
+    lost_as a.desk a.sheet.now a.fates.now a.rows.now a.call a.value.now _ _ _ _ c.make-done.ensures (passed c.is_struck.ensures c.if-not-is_struck.false) _ _ (replicate 64 0) c.copy.new.out _ _ (ap (λ n. n + 1) c.min.ensures) c.part_at.ensures refl c.copy.ensures c.lost.ensures c.cut_page.ensures

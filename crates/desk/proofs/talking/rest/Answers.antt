@@ -4,4 +4,4 @@ use mathlib.Core.Path.{refl}
 use Rattle.desk.proofs.talking.rest.Goals as goal
 
 pub returns : goal.returns
-returns c = rest_is c.args.line.now c.args.from _ _ refl c.least-at.ensures
+returns c = rest_is c.args.line.now c.args.from _ _ refl c.min-at.ensures

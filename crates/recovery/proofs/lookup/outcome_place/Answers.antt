@@ -11,7 +11,7 @@ returns-then-not-is_opening_at c = place_unopened _ _ _ _ (refused c.is_opening_
 pub loop-place-init : goal.loop-place-init
 loop-place-init c =
     let a = c.args in
-    (omega (arith, c.least-place.ensures), ap (place_to a.files a.sheet.now a.action) c.least-place.ensures ∙ place_from a.files a.sheet.now a.action a.end)
+    (omega (arith, c.min-place.ensures), ap (place_to a.files a.sheet.now a.action) c.min-place.ensures ∙ place_from a.files a.sheet.now a.action a.end)
 
 pub returns-then-is_outcome_at : goal.returns-then-is_outcome_at
 returns-then-is_outcome_at c =
