@@ -1,5 +1,5 @@
 -- The check word of 60 bytes in which one number stands twice. Assumes nothing.
-use Prim.Native.Nat.{ℕ, zero, suc, ◌+◌, ◌*◌, ◌/◌, ◌%◌, ◌≤◌, ◌<◌}
+use Prim.Native.Nat.{ℕ, zero, suc, ◌+◌, ◌*◌, ◌/◌, ◌%◌}
 use mathlib.Core.Path.{◌≡◌, refl, sym, ap, ◌∙◌}
 use mathlib.Core.Bool.{Bool, true, false, cond}
 use native.Mathlib.Omega.{arith}
@@ -63,27 +63,3 @@ few_end carried x a b c d w t f r ea eb ec ed ew et ef er =
 
     e : w + t ≡ 20618 * (x % 256) + 38577 * (x / 256 % 256) + 14682 * (x / 256 / 256 % 256) + 61499 * (x / 256 / 256 / 256 % 256) + (97034 + 15231 * (cond carried 1 0 % 256))
     e = rw (ew, t_is, ea, eb, ec, ed, third, fourth)
-
-pub few_small : (a b c d w : ℕ) → (a < 256) × (b < 256) × (c < 256) × (d < 256) → w ≡ 20618 * a + 38577 * b + 14682 * c + 61499 * d → w < 35000000
-few_small a b c d w h e = omega arith
-
-pub two_small : (carried : Bool) (t : ℕ) → t ≡ 97034 + 15231 * cond carried 1 0 → t ≤ 112265
-two_small true t e = omega arith
-two_small false t e = omega arith
-
-pub few_fits : (w t f : ℕ) → w < 35000000 → t ≤ 112265 → f ≡ folded (w + t) → f < 131042
-few_fits w t f h k e = omega arith
-
--- the third turn of `weigh_few`
-third_is : (a b c d w v u : ℕ) → w ≡ 16 * 0 + 8 * (b + d) + 4 * (a + d) + 2 * (c + d) + (a + b + (c + d)) → v ≡ 16 * w + 8 * c + 4 * b + 2 * b + c
-    → u ≡ 16 * v + 8 * (a + b) + 4 * c + 2 * (b + d) + (b + (c + d)) → u ≡ 1288 * a + 2411 * b + 917 * c + 3843 * d
-third_is a b c d w v u ew ev eu = omega arith
-
-bytes_small : (a b c d u : ℕ) → (a < 256) × (b < 256) × (c < 256) × (d < 256) → u ≡ 1288 * a + 2411 * b + 917 * c + 3843 * d
-    → (u < 1073741824) × (a + (c + d) < 1073741824) × (0 < 1073741824) × (a + (c + d) < 1073741824) × (b + d < 1073741824)
-bytes_small a b c d u h e = (omega arith, omega arith, omega arith, omega arith, omega arith)
-
-pub third_small : (a b c d w v u : ℕ) → (a < 256) × (b < 256) × (c < 256) × (d < 256) → w ≡ 16 * 0 + 8 * (b + d) + 4 * (a + d) + 2 * (c + d) + (a + b + (c + d))
-    → v ≡ 16 * w + 8 * c + 4 * b + 2 * b + c → u ≡ 16 * v + 8 * (a + b) + 4 * c + 2 * (b + d) + (b + (c + d))
-    → (u < 1073741824) × (a + (c + d) < 1073741824) × (0 < 1073741824) × (a + (c + d) < 1073741824) × (b + d < 1073741824)
-third_small a b c d w v u h ew ev eu = bytes_small a b c d u h (third_is a b c d w v u ew ev eu)

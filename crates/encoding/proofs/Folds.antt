@@ -4,7 +4,7 @@ use mathlib.Core.Path.{◌≡◌, refl, sym, ap, ◌∙◌}
 use mathlib.Core.List.{List}
 use native.Mathlib.Omega.{arith}
 use native.Mathlib.Numerals.{add-one}
-use native.Mathlib.Nat.{add-mul, mul_assoc, div-add-mod, div-div-eq-div-mul, mod-eq_of_lt, mod-lt, mul-add-mod_self_left}
+use native.Mathlib.Nat.{add-mul, mul_assoc, div-add-mod, div-div-eq-div-mul, mod-eq_of_lt, mod-lt, pow-le-pow_right, one-mul, mul-add-mod_self_left}
 use lib.Bits.{bit_and, and_mask, and_block, and_high}
 use lib.ListN.{length, drop, get_or}
 use lib.Seq.{drop-cons}
@@ -31,11 +31,17 @@ pub shl_eq : (x k : ℕ) → x * k < 18446744073709551616 → x * k % 1844674407
 shl_eq x k h = mod-eq_of_lt h
 
 -- the fold by a shift and a difference
-pub fold_fits : (x l h : ℕ) → x < 549755813888 → l ≡ x % 65536 → h ≡ x / 65536 → h ≤ l + h * 16 % 18446744073709551616
-fold_fits x l h k el eh = rw (shl_eq h 16 (omega arith)) (omega arith)
+fold_is : (x : ℕ) → x < 281474976710656 → x % 65536 + x / 65536 * 16 % 18446744073709551616 - x / 65536 ≡ folded x
+fold_is x h = rw (shl_eq (x / 65536) 16 (omega arith)) (omega arith)
 
-pub fold_is : (x l h : ℕ) → x < 549755813888 → l ≡ x % 65536 → h ≡ x / 65536 → l + h * 16 % 18446744073709551616 - h ≡ folded x
-fold_is x l h k el eh = rw (shl_eq h 16 (omega arith)) (omega arith)
+-- the same with a mask of all the bits that what lies above 16 bits may have
+pub fold_masked : (n x : ℕ) → n ≤ 32 → x < 65536 * 2 ^ n
+    → bit_and x 65535 + bit_and (x / 65536) (1 * 2 ^ n % 18446744073709551616 - 1) * 16 % 18446744073709551616 - bit_and (x / 65536) (1 * 2 ^ n % 18446744073709551616 - 1) ≡ folded x
+fold_masked n x k h =
+    let p : 2 ^ n ≤ 4294967296 = pow-le-pow_right {n = 2} (omega arith) k in
+    let m : 1 * 2 ^ n % 18446744073709551616 ≡ 2 ^ n = mod-eq_of_lt (omega arith) ∙ one-mul (2 ^ n) in
+    let a : bit_and (x / 65536) (2 ^ n - 1) ≡ x / 65536 = mask_all n (x / 65536) (omega arith) in
+    rw (m, a, and_mask x 16) (fold_is x (omega arith))
 
 -- a byte more, with the word folded
 pub fold_turn : (w b x v : ℕ) (s : List ℕ) (i : ℕ) → i < length s → b ≡ get_or s i 0 → x ≡ 257 * w + b → v ≡ folded x
@@ -91,12 +97,6 @@ by_limbs a b c d l h el eh = omega arith
 -- two halves folded at once: by the low 16 bits of each, and the 16 bits above them
 module _ (x l h : ℕ) (k : x < 18446744073709551616) (el : l ≡ x % 65536 + 4294967296 * (x / 4294967296 % 65536))
     (eh : h ≡ x / 65536 % 65536 + 4294967296 * (x / 65536 / 4294967296 % 65536)) where
-  pub halves_small : (l ≤ 281470681808895) × (h ≤ 281470681808895)
-  halves_small = (omega arith, omega arith)
-
-  pub halves_fit : h ≤ l + h * 16 % 18446744073709551616
-  halves_fit = rw (shl_eq h 16 (omega arith)) (omega arith)
-
   pub halves_are : l + h * 16 % 18446744073709551616 - h ≡ folded (x % 4294967296) + 4294967296 * folded (x / 4294967296)
   halves_are =
       let a : x % 4294967296 % 65536 ≡ x % 65536 = omega arith in

@@ -5,7 +5,7 @@ use mathlib.Core.List.{List}
 use lib.ListN.{get_or, take, drop}
 use lib.Seq.{take-take, drop-drop}
 use native.Mathlib.Omega.{arith}
-use native.Mathlib.Nat.{lt_of_le_of_lt, mod-lt, mul_comm, div-div-eq-div-mul, mul-add-mod_self_left}
+use native.Mathlib.Nat.{lt_of_le_of_lt, mod-lt, mul_comm, div-div-eq-div-mul}
 use Rattle.encoding.specs.Bytes.{AreBytes, part, number}
 use Rattle.encoding.specs.WordSteps.{folded, four, four_of, joined}
 use Rattle.encoding.proofs.Numbers.{number_four, number_join}
@@ -38,12 +38,6 @@ high_fourth h k = omega arith
 
 four_of_bytes : (y : ℕ) → y < 4294967296 → (y % 256 < 256) × (y / 256 % 256 < 256) × (y / 65536 % 256 < 256) × (y / 16777216 < 256)
 four_of_bytes y k = (omega arith, omega arith, omega arith, omega arith)
-
-four_of_from : (a b c d : ℕ) → (a < 256) × (b < 256) × (c < 256) × (d < 256) → 135696 * a + 528 * b + 257 * c + d ≤ 34802910
-four_of_from a b c d h = omega arith
-
-pub four_of_small : (y : ℕ) → y < 4294967296 → four_of y ≤ 34802910
-four_of_small y k = four_of_from (y % 256) (y / 256 % 256) (y / 65536 % 256) (y / 16777216) (four_of_bytes y k)
 
 -- a number shifted up by four bits, and down
 shifted_up : (x y : ℕ) → y ≡ x * 16 % 18446744073709551616 → (y / 16 % 256 ≡ x % 256) × (y / 4294967296 / 16 % 256 ≡ x / 4294967296 % 256)
@@ -120,21 +114,8 @@ fours_read s at end x b ee ex =
     whole : x ≡ number (take 4 (drop at s)) + 4294967296 * number (take 4 (drop (at + 4) s))
     whole = ex ∙ rw (eight, take-take 8 8 (drop at s) (omega arith)) (number_join 4 4 (drop at s) ∙ rw (drop-drop 4 at s))
 
--- a sum and its parts
-pub sum_fits : (p c d l h : ℕ) → p + c + d ≡ l + 4294967296 * h → l ≤ 34802910 → h ≤ 34802910 → (p + c < 18446744073709551616) × (p + c + d < 18446744073709551616)
-sum_fits p c d l h e kl kh = (omega arith, omega arith)
-
 pub folded_small : (x : ℕ) → x < 4294967296 → folded x ≤ 1048560
 folded_small x h = omega arith
-
-module _ (f q fl fh ql qh : ℕ) (ef : f ≡ fl + 4294967296 * fh) (eq : q ≡ ql + 4294967296 * qh)
-    (kl : fl ≤ 1048560) (kh : fh ≤ 1048560) (ll : ql ≤ 34802910) (lh : qh ≤ 34802910) where
-  pub ahead_fits : f * 32 % 18446744073709551616 + q ≤ (f * 32 % 18446744073709551616 + q) * 16 % 18446744073709551616
-  ahead_fits = rw (shl_eq f 32 (omega arith), shl_eq (f * 32 + q) 16 (omega arith)) (omega arith)
-
-  pub ahead_is : (f * 32 % 18446744073709551616 + q) * 16 % 18446744073709551616 - (f * 32 % 18446744073709551616 + q)
-      ≡ 15 * (32 * fl + ql) + 4294967296 * (15 * (32 * fh + qh))
-  ahead_is = rw (shl_eq f 32 (omega arith), shl_eq (f * 32 + q) 16 (omega arith)) (omega arith)
 
 -- a number in front of what has been gathered, by the remainders of both
 joined_mod : (a q x : ℕ) → a % 65521 ≡ x % 65521 → joined a q % 65521 ≡ (480 * x + 15 * q) % 65521
@@ -161,70 +142,6 @@ ahead_mod a q r ql qh x y eq k er f =
     let p = halves_of r _ _ (joined_small (a % 4294967296) ql (mod-lt a (omega arith)) k.0) e in
     (ap (λ (n : ℕ). n % 65521) p.0 ∙ joined_mod (a % 4294967296) ql x f.0, ap (λ (n : ℕ). n % 65521) p.1 ∙ joined_mod (a / 4294967296) qh y f.1)
 
--- ---- four numbers by their weights, bit by bit
-
-abbrev Small : ℕ → ℕ → ℕ → ℕ → Type 0
-Small a b c d = (a ≤ 1048560) × (b ≤ 1048560) × (c ≤ 1048560) × (d ≤ 1048560)
-
-pub pair_small : (a b c d : ℕ) → Small a b c d → (a + b < 1099511627776) × (a + c < 1099511627776)
-pair_small a b c d h = (omega arith, omega arith)
-
-below : (a b c d t : ℕ) → Small a b c d → t ≤ 256 * (a + b + c + d) → t < 1099511627776
-below a b c d t h k = omega arith
-
-module _ (a b c d p q r s t : ℕ) (e1 : p ≡ 2 * (a + b + d) + (a + c)) (e2 : q ≡ 2 * p + (a + d)) (e3 : r ≡ 2 * q + b) (e4 : s ≡ 2 * r + b) (e5 : t ≡ 2 * s + d) where
-  high_five : t ≡ 56 * a + 38 * b + 16 * c + 41 * d
-  high_five = omega arith
-
-  high_six : (u : ℕ) → u ≡ 2 * t + (a + c) → u ≡ 113 * a + 76 * b + 33 * c + 82 * d
-  high_six u e = omega arith
-
-  pub fifth_small : Small a b c d → t < 1099511627776
-  fifth_small h = below a b c d t h (le t high_five)
-    where
-      le : (t : ℕ) → t ≡ 56 * a + 38 * b + 16 * c + 41 * d → t ≤ 256 * (a + b + c + d)
-      le t e = omega arith
-
-  pub sixth_small : (u : ℕ) → u ≡ 2 * t + (a + c) → Small a b c d → u < 1099511627776
-  sixth_small u e h = below a b c d u h (le u (high_six u e))
-    where
-      le : (u : ℕ) → u ≡ 113 * a + 76 * b + 33 * c + 82 * d → u ≤ 256 * (a + b + c + d)
-      le u e = omega arith
-
-  pub high_is : (u v : ℕ) → u ≡ 2 * t + (a + c) → v ≡ 2 * u + (a + b) → v ≡ 227 * a + 153 * b + 66 * c + 164 * d
-  high_is u v e f = omega arith
-
-module _ (a b c d p q r s : ℕ) (e1 : p ≡ 2 * b + (b + c)) (e2 : q ≡ 2 * p + (a + (c + d))) (e3 : r ≡ 2 * q + (c + d)) (e4 : s ≡ 2 * r + (a + b)) where
-  low_four : s ≡ 5 * a + 25 * b + 14 * c + 6 * d
-  low_four = omega arith
-
-  pub fourth_small : Small a b c d → s < 1099511627776
-  fourth_small h = below a b c d s h (le s low_four)
-    where
-      le : (s : ℕ) → s ≡ 5 * a + 25 * b + 14 * c + 6 * d → s ≤ 256 * (a + b + c + d)
-      le s e = omega arith
-
-  pub low_is : s < 1099511627776 → s * 4 % 18446744073709551616 + b + (c + d) ≡ 20 * a + 101 * b + 57 * c + 25 * d
-  low_is h = rw (shl_eq s 4 (omega arith)) (low low_four)
-    where
-      low : s ≡ 5 * a + 25 * b + 14 * c + 6 * d → s * 4 + b + (c + d) ≡ 20 * a + 101 * b + 57 * c + 25 * d
-      low e = omega arith
-
-pub low_fits : (a b c d s : ℕ) → Small a b c d → s < 1099511627776
-    → (s * 4 % 18446744073709551616 + b < 18446744073709551616) × (s * 4 % 18446744073709551616 + b + (c + d) < 18446744073709551616)
-low_fits a b c d s h k = rw (shl_eq s 4 (omega arith)) (omega arith, omega arith)
-
-pub weigh_is : (a b c d h l : ℕ) → Small a b c d → h ≡ 227 * a + 153 * b + 66 * c + 164 * d → l ≡ 20 * a + 101 * b + 57 * c + 25 * d
-    → h * 256 % 18446744073709551616 + l ≡ 58132 * a + 39269 * b + 16953 * c + 42009 * d
-weigh_is a b c d h l k eh el = rw (shl_eq h 256 (omega arith)) (omega arith)
-
--- ---- the last four bytes
-
-pub last_mod : (a b c d r : ℕ) → r ≡ 257 * (257 * (257 * a + b) + c) + d → r % 65521 ≡ (135696 * a + 528 * b + 257 * c + d) % 65521
-last_mod a b c d r e =
-    let k : r ≡ 65521 * (257 * a + b) + (135696 * a + 528 * b + 257 * c + d) = omega arith in
-    ap (λ (n : ℕ). n % 65521) k ∙ mul-add-mod_self_left 65521 (257 * a + b) (135696 * a + 528 * b + 257 * c + d)
-
 -- ---- three groups of four bytes
 
 three_mod : (x y z r : ℕ) → r % 65521 ≡ (480 * (480 * (480 * 0 + 15 * z) + 15 * y) + 15 * x) % 65521 → r % 65521 ≡ (15 * (x + 480 * (y + 480 * z))) % 65521
@@ -249,18 +166,12 @@ three_ahead q1 q2 q3 r1 r2 r3 x1 y1 x2 y2 x3 y3 f1 e1 f2 e2 f3 e3 =
 
 -- ---- a number whose halves are taken apart
 
-pub fours_small : (q l h : ℕ) → q ≡ l + 4294967296 * h → (l ≤ 34802910) × (h ≤ 34802910) → (q % 4294967296 ≤ 34802910) × (q / 4294967296 ≤ 34802910)
-fours_small q l h e k = (omega arith, omega arith)
-
 module _ (x a : ℕ) (k : x < 18446744073709551616) (e : a ≡ folded (x % 4294967296) + 4294967296 * folded (x / 4294967296)) where
   small : (folded (x % 4294967296) ≤ 1048560) × (folded (x / 4294967296) ≤ 1048560)
   small = (folded_small (x % 4294967296) (omega arith), folded_small (x / 4294967296) (omega arith))
 
   halves : (a % 4294967296 ≡ folded (x % 4294967296)) × (a / 4294967296 ≡ folded (x / 4294967296))
   halves = let s = small in halves_of a _ _ (lt_of_le_of_lt s.0 (omega arith)) e
-
-  pub half_small : (a % 4294967296 ≤ 1048560) × (a / 4294967296 ≤ 1048560)
-  half_small = rw (halves.0, halves.1) small
 
   pub half_mod : (a % 4294967296 % 65521 ≡ x % 4294967296 % 65521) × (a / 4294967296 % 65521 ≡ x / 4294967296 % 65521)
   half_mod = rw (halves.0, halves.1) (folded_mod (x % 4294967296), folded_mod (x / 4294967296))

@@ -1,5 +1,5 @@
 -- One turn of a loop that writes, copies or looks for zeros, and the loop's end; a run that is filled by stores. Assumes nothing.
-use Prim.Native.Nat.{ℕ, suc, ◌+◌, ◌-◌, ◌/◌, ◌%◌, ◌≤◌, ◌<◌}
+use Prim.Native.Nat.{ℕ, suc, ◌+◌, ◌-◌, ◌/◌, ◌%◌, ◌<◌}
 use mathlib.Core.Path.{◌≡◌, refl, sym, ap, ◌∙◌}
 use mathlib.Core.Bool.{Bool, true, false, ◌&&◌}
 use mathlib.Core.List.{List, [], ◌++◌, append-nil}
@@ -9,9 +9,9 @@ use borrow.Author.Tests.{ne_eqb, eqb-true, eqb-false}
 use lib.Dec.{eqb}
 use lib.Bits.{bit_or, or_zero_l, or_add_and, and_le_r}
 use lib.ListN.{length, take, drop, get_or, set, drop_of_length-le}
-use lib.Seq.{sets, sets-eq, drop-cons, take-suc, take-suc-set, take_all, append_snoc}
+use lib.Seq.{sets, sets-eq, drop-cons, take-suc, take-suc-set, append_snoc}
 use Rattle.encoding.specs.Bytes.{bytes, zeros}
-use Rattle.encoding.proofs.Logic.{and_assoc, and_end}
+use Rattle.encoding.proofs.Logic.{and_assoc}
 
 pub write_turn : (out t : List ℕ) (n i y : ℕ) → i < length out → length out ≡ n → take i out ++ bytes (n - i) y ≡ t
     → take (i + 1) (set out i (y % 256)) ++ bytes (n - (i + 1)) (y / 256) ≡ t
@@ -21,20 +21,9 @@ write_turn out t n i y h l e = rw (add-one, take-suc-set out i (y % 256) h, appe
     step : n - i ≡ suc (n - suc i)
     step = omega arith
 
-pub write_end : (out t : List ℕ) (n i y : ℕ) → n ≤ i → length out ≡ n → take i out ++ bytes (n - i) y ≡ t → out ≡ t
-write_end out t n i y h l e =
-    sym (append-nil out) ∙ ap (λ (r : List ℕ). r ++ []) (sym (take_all i out (omega arith)))
-    ∙ ap (λ (k : ℕ). take i out ++ bytes k y) zero_left ∙ e
-  where
-    zero_left : 0 ≡ n - i
-    zero_left = omega arith
-
 pub copy_turn : (out s : List ℕ) (i : ℕ) → i < length out → i < length s → take i out ≡ take i s
     → take (i + 1) (set out i (get_or s i 0)) ≡ take (i + 1) s
 copy_turn out s i h k e = rw (add-one, take-suc-set out i (get_or s i 0) h, take-suc s i 0 k, e)
-
-pub copy_end : (out s : List ℕ) (i : ℕ) → length out ≤ i → length s ≤ i → take i out ≡ take i s → out ≡ s
-copy_end out s i h k e = sym (take_all i out h) ∙ e ∙ take_all i s k
 
 -- two numbers are 0 exactly if their bits together are
 pub or_zero : (x b : ℕ) → eqb (bit_or x b) 0 ≡ (eqb x 0 && eqb b 0)
@@ -46,9 +35,6 @@ or_zero x b = go (eqb x 0) refl
 
 pub zero_turn : (s : List ℕ) (i x : ℕ) → i < length s → (eqb x 0 && zeros (drop i s)) ≡ (eqb (bit_or x (get_or s i 0)) 0 && zeros (drop (i + 1) s))
 zero_turn s i x h = rw (add-one, drop-cons s i 0, or_zero x (get_or s i 0)) (and_assoc (eqb x 0) (eqb (get_or s i 0) 0) (zeros (drop (suc i) s)))
-
-pub zero_end : (s : List ℕ) (i x : ℕ) → length s ≤ i → zeros s ≡ (eqb x 0 && zeros (drop i s)) → eqb x 0 ≡ zeros s
-zero_end s i x h e = sym (e ∙ rw (drop_of_length-le s {i = i} h) (and_end (eqb x 0)))
 
 -- stores from the first number on fill a run that has as many
 pub filled : (vs l : List ℕ) → length l ≡ length vs → sets l 0 vs ≡ vs

@@ -1,5 +1,5 @@
 -- The check word of 60 bytes by shifts is the check word. Assumes nothing.
-use Prim.Native.Nat.{ℕ, ◌+◌, ◌*◌, ◌%◌, ◌≤◌, ◌<◌}
+use Prim.Native.Nat.{ℕ, ◌+◌, ◌*◌, ◌%◌}
 use mathlib.Core.Path.{◌≡◌, refl, sym, ap, ◌∙◌}
 use mathlib.Core.List.{List, [], ◌∷◌}
 use native.Mathlib.Omega.{arith}
@@ -79,10 +79,6 @@ weighed_alike a b c d x y z w ea eb ec ed =
     ∙ ap (λ (n : ℕ). n % 65521) e4 ∙ swap d w 42009 _ ed
     ∙ ap (λ (n : ℕ). n % 65521) e5
 
-pub weighed_small : (a b c d r : ℕ) → (a ≤ 1048560) × (b ≤ 1048560) × (c ≤ 1048560) × (d ≤ 1048560)
-    → r ≡ 58132 * a + 39269 * b + 16953 * c + 42009 * d → r < 164000000000
-weighed_small a b c d r h e = omega arith
-
 -- the whole: two folds and a difference leave the check word
 pub page_end : (s : List ℕ) (g t x y r : ℕ) → length s ≡ 60 → g % 65521 ≡ gathered s % 65521 → t % 65521 ≡ four s 56 % 65521
     → x ≡ folded (g + t + 48406) → y ≡ folded x → r ≡ y % 65521 → r ≡ check s
@@ -97,8 +93,3 @@ page_end s g t x y r l eg et ex ey er =
     ∙ ap (λ (k : ℕ). k % 65521) e1 ∙ swap g G 1 (t + 48406) eg
     ∙ ap (λ (k : ℕ). k % 65521) e2 ∙ swap t F 1 (G + 48406) et
     ∙ ap (λ (k : ℕ). k % 65521) e3 ∙ page_sum s l
-
-pub end_small : (g t x y : ℕ) → g < 164000000000 → t < 4400000000 → x ≡ folded (g + t + 48406) → y ≡ folded x → (x < 134217728) × (y < 131042)
-end_small g t x y hg ht ex ey =
-    let k : x < 40000000 = omega arith in
-    (omega arith, omega arith)

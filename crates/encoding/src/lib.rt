@@ -9,18 +9,12 @@ ghost use Rattle.encoding.specs.Bytes.{part, number, bytes, zeros};
 
 pub use words::{check_few, check_word};
 
-fn wide(b: u8) -> u64
-    ensures { result ≡ b }
-{
-    b as u64
-}
-
 // The byte at an index, 0 past the end.
 pub fn byte_at(s: &[u8], at: usize) -> u64
     ensures value { result ≡ get_or s.now at 0 }
     ensures fits { result < 256 }
 {
-    if at < s.len() { wide(s[at]) } else { 0 }
+    s.get(at).map_or(0, |b| u64::from(*b))
 }
 
 // The number in the four bytes from an index on; those past the end count as 0.
@@ -35,34 +29,23 @@ fn read_four(s: &[u8], at: usize) -> u64
         + (byte_at(s, at + 3) << 24)
 }
 
-// The number in the first eight bytes, or in all of a shorter run. It compiles to one load where the length is known.
+// The number in the first eight bytes, or in all of a shorter run, which from_le_bytes does not take. It compiles to one load where the
+// length is known.
 pub fn read_number(s: &[u8]) -> u64
     ensures { result ≡ number (take 8 s.now) }
 {
     read_four(s, 0) + (read_four(s, 4) << 32)
 }
 
-// Fills the run with a number's lowest bytes, lowest first.
+// Fills the run with a number's lowest bytes, lowest first, one by one: a page is stored in that order (tests/order.c), as a copy of
+// to_le_bytes need not be.
 pub fn write_number(out: &mut [u8], x: u64)
     ensures { out.new ≡ bytes (length out.old) x }
 {
     let mut y = x;
-    let mut i = 0;
-    while i < out.len() {
-        out[i] = (y % 256) as u8;
-        y = y / 256;
-        i += 1;
-    }
-}
-
-fn copy_all(out: &mut [u8], s: &[u8])
-    requires { length out.old ≡ length s.now }
-    ensures { out.new ≡ s.now }
-{
-    let mut i = 0;
-    while i < out.len() {
-        out[i] = s[i];
-        i += 1;
+    for b in out.iter_mut() {
+        *b = (y % 256) as u8;
+        y /= 256;
     }
 }
 
@@ -97,7 +80,7 @@ pub fn copy(out: &mut [u8], s: &[u8])
         copy_value(out, s);
         return;
     }
-    copy_all(out, s);
+    out.copy_from_slice(s);
 }
 
 // Every byte is 0. One pass without an early end, so that many bytes are looked at in one step.
@@ -105,32 +88,10 @@ pub fn is_zero(s: &[u8]) -> bool
     ensures { result ≡ zeros s.now }
 {
     let mut x: u8 = 0;
-    let mut i = 0;
-    while i < s.len() {
-        x = x | s[i];
-        i += 1;
+    for b in s {
+        x |= *b;
     }
     x == 0
-}
-
-// The smaller of two.
-pub fn least(a: u64, b: u64) -> u64
-    ensures { result ≡ min a b }
-{
-    if a <= b {
-        return a;
-    }
-    b
-}
-
-// n - k, and 0 where n is the smaller.
-fn less(n: u64, k: u64) -> u64
-    ensures { result ≡ n - k }
-{
-    if n < k {
-        return 0;
-    }
-    n - k
 }
 
 // The number in the bytes from `from` on of the first eight.
@@ -149,9 +110,9 @@ fn is_zero_in_value(s: &[u8], from: u64) -> bool
     ensures { result ≡ zeros (drop from s.now) }
 {
     let a = past(&s[0..8], from);
-    let b = past(&s[8..16], less(from, 8));
-    let c = past(&s[16..24], less(from, 16));
-    let d = past(&s[24..32], less(from, 24));
+    let b = past(&s[8..16], from.saturating_sub(8));
+    let c = past(&s[16..24], from.saturating_sub(16));
+    let d = past(&s[24..32], from.saturating_sub(24));
     a | b | c | d == 0
 }
 

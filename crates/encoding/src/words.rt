@@ -5,27 +5,19 @@
 // in halves of 32 bits, and are worked on at once.
 //
 // A compiler makes products of sums of shifts. Which forms it leaves alone: docs/DECISIONS.md, Speed. tests/products.sh looks.
-ghost use Rattle.std.specs.Prelude.{cond, ◌≡◌, ◌+◌, ◌*◌, ◌/◌, ◌%◌, ◌≤◌, ◌<◌, length};
+ghost use Rattle.std.specs.Prelude.{cond, ◌≡◌, ◌+◌, ◌*◌, ◌/◌, ◌%◌, ◌≤◌, ◌<◌, ◌^◌, length};
 ghost use Rattle.encoding.specs.Bytes.{check};
 ghost use Rattle.encoding.specs.WordSteps.{folded, four, four_of, joined, three, gathered, few};
 
 use crate::{byte_at, read_number};
 
-// What lies above 16 bits comes back 15 times. The mask of h takes nothing away, but without it h would be made part of a product.
-fn fold(x: u64) -> u64
-    requires { x < 134217728 }
+// What lies above 16 bits, HIGH bits at most, comes back 15 times. The mask of h takes nothing away, but without it h would be made part of
+// a product.
+fn fold<const HIGH: u32>(x: u64) -> u64
+    requires { (HIGH ≤ 32) × (x < 65536 * 2 ^ HIGH) }
     ensures { result ≡ folded x }
 {
-    let h = (x >> 16) & 0x7ff;
-    (x & 0xffff) + (h << 4) - h
-}
-
-// The same of more bits.
-fn fold_long(x: u64) -> u64
-    requires { x < 549755813888 }
-    ensures { result ≡ folded x }
-{
-    let h = (x >> 16) & 0x7fffff;
+    let h = (x >> 16) & ((1 << HIGH) - 1);
     (x & 0xffff) + (h << 4) - h
 }
 
@@ -53,10 +45,8 @@ fn check_any(s: &[u8]) -> u64
     ensures { result ≡ check s.now }
 {
     let mut w: u64 = 1;
-    let mut i = 0;
-    while i < s.len() {
-        w = fold(turned(w, byte_at(s, i)));
-        i += 1;
+    for b in s {
+        w = fold::<11>(turned(w, u64::from(*b)));
     }
     reduced(w)
 }
@@ -114,28 +104,24 @@ fn ahead(a: u64, q: u64) -> u64
     (x << 4) - x
 }
 
-// Bytes 32 to 55: three groups of four, eight bytes apart, and the three between them. Each of these two functions is called
-// once, so that the compiler puts it in place and knows its indices.
-fn late(s: &[u8]) -> u64
-    requires { length s.now ≡ 60 }
-    ensures result_value { result % 4294967296 % 65521 ≡ three s.now 32 % 65521 }
-    ensures high { result / 4294967296 % 65521 ≡ three s.now 36 % 65521 }
+// Three groups of four bytes, eight bytes apart, and the three between them. AT is a parameter so that each of the two is a function of its
+// own, called once: the compiler then puts it in place and knows its indices.
+fn three<const AT: usize>(s: &[u8; 60]) -> u64
+    requires { AT + 24 ≤ 60 }
+    ensures result_value { result % 4294967296 % 65521 ≡ three s.now AT % 65521 }
+    ensures high { result / 4294967296 % 65521 ≡ three s.now (AT + 4) % 65521 }
 {
-    let a = ahead(0, fours(s, 48, 56));
-    let b = ahead(a, fours(s, 40, 48));
-    ahead(b, fours(s, 32, 40))
+    let a = ahead(0, fours(s, AT + 16, AT + 24));
+    let b = ahead(a, fours(s, AT + 8, AT + 16));
+    ahead(b, fours(s, AT, AT + 8))
 }
 
 // Bytes 0 to 31, in the same way.
-fn early(s: &[u8]) -> u64
-    requires { length s.now ≡ 60 }
+fn early(s: &[u8; 60]) -> u64
     ensures result_value { result % 4294967296 % 65521 ≡ (480 * three s.now 8 + 15 * four s.now 0) % 65521 }
     ensures high { result / 4294967296 % 65521 ≡ (480 * three s.now 12 + 15 * four s.now 4) % 65521 }
 {
-    let a = ahead(0, fours(s, 24, 32));
-    let b = ahead(a, fours(s, 16, 24));
-    let c = ahead(b, fours(s, 8, 16));
-    ahead(c, fours(s, 0, 8))
+    ahead(three::<8>(s), fours(s, 0, 8))
 }
 
 // Doubled, and one more number.
@@ -195,32 +181,30 @@ fn last(s: &[u8], at: usize) -> u64
 }
 
 // The first 56 of 60 bytes: the halves of two numbers, each by its weight.
-fn gather(s: &[u8]) -> u64
-    requires { length s.now ≡ 60 }
+fn gather(s: &[u8; 60]) -> u64
     ensures result_value { result % 65521 ≡ gathered s.now % 65521 }
     ensures fits { result < 164000000000 }
 {
-    let a = fold_halves(late(s));
+    let a = fold_halves(three::<32>(s));
     let b = fold_halves(early(s));
     weigh(low_half(a), a >> 32, low_half(b), b >> 32)
 }
 
 // The check word of 60 bytes, a page's. 48,406 is what the beginning, 1, comes to.
-fn check_page(s: &[u8]) -> u64
-    requires { length s.now ≡ 60 }
+fn check_page(s: &[u8; 60]) -> u64
     ensures { result ≡ check s.now }
 {
-    reduced(fold(fold_long(gather(s) + last(s, 56) + 48406)))
+    reduced(fold::<11>(fold::<23>(gather(s) + last(s, 56) + 48406)))
 }
 
 // The check word of a run.
 pub fn check_word(s: &[u8]) -> u64
     ensures { result ≡ check s.now }
 {
-    if s.len() == 60 {
-        return check_page(s);
-    }
-    check_any(s)
+    let Some(page) = s.as_array::<60>() else {
+        return check_any(s);
+    };
+    check_page(page)
 }
 
 // The lowest byte.
@@ -276,5 +260,5 @@ pub fn check_few(carried: bool, x: u64) -> u64
         low_byte(x >> 16),
         low_byte(x >> 24),
     );
-    reduced(fold(w + first_two(carried)))
+    reduced(fold::<11>(w + first_two(carried)))
 }

@@ -210,3 +210,21 @@ zeros_blank s place files a = simp a (go (zeros s))
     go : (z : Bool) → z ≡ is_blank_page (cond z Blank (cond (torn s) Torn (cond (fits s place files) (by_kind (fields_of s)) Unfit)))
     go true = refl
     go false = other
+
+-- ---- the same of the bytes of a part that line 1 let through
+
+module _ {s t : List ℕ} (place files : ℕ) (e : t ≡ s) (a : in_bounds (length s) place files ≡ true) where
+  pub unmarked_as : {u : Unpacked} → AreBytes s → get_or t mark_at 0 ≡ 0 → u ≡ cond (torn t) Torn (cond (zeros t) Blank Unfit) → u ≡ tested s place files
+  unmarked_as b m u = u ∙ ap (λ (l : List ℕ). cond (torn l) Torn (cond (zeros l) Blank Unfit)) e ∙ sym (unmarked_tested s place files a b (ap (λ (l : List ℕ). get_or l mark_at 0) (sym e) ∙ m))
+
+  module _ {p : Page} {r : Bool} (f : p ≡ fields_of t) (h : r ≡ is_page_of p t place files) where
+    fits_as : r ≡ fits s place files
+    fits_as = h ∙ ap₂ (λ (x : Page) (l : List ℕ). is_page_of x l place files) (f ∙ ap fields_of e) e
+
+    pub marked_as : (get_or t mark_at 0 ≡ 0 → ⊥) → cond r (by_kind p) Unfit ≡ tested s place files
+    marked_as m =
+        ap₂ (λ (b : Bool) (x : Page). cond b (by_kind x) Unfit) fits_as (f ∙ ap fields_of e)
+        ∙ sym (marked_tested s place files a (λ z. m (ap (λ (l : List ℕ). get_or l mark_at 0) e ∙ z)))
+
+    pub told_as : AreBytes s → r ≡ is_fit_page (tested s place files)
+    told_as b = fits_as ∙ fits_told s place files a b

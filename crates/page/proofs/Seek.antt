@@ -5,16 +5,14 @@ use mathlib.Core.Bool.{Bool, true, false, true≢false, false≢true}
 use mathlib.Core.List.{List}
 use Rattle.encoding.proofs.Logic.{and_true, and_both, is_false}
 use lib.Dec.{eqb}
-use lib.ListN.{length}
 use Rattle.page.specs.declared.Page.{Page}
 use Rattle.page.specs.declared.Unpacked.{Unpacked}
 use Rattle.page.specs.declared.Unpacked.TheVariants.{Refused, Blank, Torn, Opening, Image, Outcome, Unfit}
-use Rattle.std.specs.Prelude.{Some, None}
-use Rattle.page.specs.Layout.{page_size}
+use Rattle.std.specs.Prelude.{Option, Some, None, MatchOption}
 use Rattle.page.specs.Table.{fields_of}
 use Rattle.page.specs.Answers.{tested, is_fit_page, image_that, image_of_file}
 use Rattle.page.specs.Steps.{has_kind, named}
-use Rattle.page.proofs.Found.{found, kind_size, fits_kind, told_image}
+use Rattle.page.proofs.Found.{found, fits_kind, told_image}
 
 -- ---- an image that passes a test
 
@@ -59,6 +57,13 @@ module _ (passes : Page → Bool) (s : List ℕ) (place files : ℕ) where
       → Some p ≡ image_that passes (tested s place files)
   fit_image p r k h e = ap Some r ∙ that_image (fields_of s) (told_image s place files k e) h
 
+  -- what is found of a part with its kind, whose fields pass
+  pub looked_image : (r : Option Page) → has_kind s 2 ≡ true → passes (fields_of s) ≡ true
+      → MatchOption r (is_fit_page (tested s place files) ≡ false) (λ p. (p ≡ fields_of s) × (is_fit_page (tested s place files) ≡ true))
+      → r ≡ image_that passes (tested s place files)
+  looked_image None k h m = unfit_image m
+  looked_image (Some p) k h m = fit_image p m.0 k h m.1
+
 -- ---- an image of a file
 
 module _ (s : List ℕ) (place files file : ℕ) where
@@ -74,9 +79,6 @@ module _ (s : List ℕ) (place files file : ℕ) where
   unfolding named
   named_kind h = (and_true (has_kind s 2) (of_file (fields_of s)) h).0
 
-  pub named_size : named s file ≡ true → length s ≡ page_size
-  named_size h = kind_size s 2 (named_kind h)
-
   named_file : named s file ≡ true → of_file (fields_of s) ≡ true
   unfolding named
   named_file h = (and_true (has_kind s 2) (of_file (fields_of s)) h).1
@@ -86,10 +88,8 @@ module _ (s : List ℕ) (place files file : ℕ) where
   unfolding image_of_file
   named_image x h e = that_image of_file s place files x e (named_file h)
 
-  pub this_image : (p : Page) → p ≡ fields_of s → named s file ≡ true → is_fit_page (tested s place files) ≡ true → Some p ≡ image_of_file file (tested s place files)
-  unfolding named image_of_file
-  this_image p r h e = let k = and_true (has_kind s 2) (of_file (fields_of s)) h in fit_image of_file s place files p r k.0 k.1 e
-
-  pub unfit_of_file : is_fit_page (tested s place files) ≡ false → None ≡ image_of_file file (tested s place files)
+  pub looked_of_file : (r : Option Page) → named s file ≡ true
+      → MatchOption r (is_fit_page (tested s place files) ≡ false) (λ p. (p ≡ fields_of s) × (is_fit_page (tested s place files) ≡ true))
+      → r ≡ image_of_file file (tested s place files)
   unfolding image_of_file
-  unfit_of_file e = unfit_image of_file s place files e
+  looked_of_file r h m = looked_image of_file s place files r (named_kind h) (named_file h) m

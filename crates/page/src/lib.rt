@@ -2,7 +2,7 @@
 // The layers above know pages only through what these functions promise and the laws of `proofs/`.
 #![tactic(auto)]
 
-ghost use Rattle.std.specs.Prelude.{true, cond, ◌++◌, ◌≡◌, ◌+◌, ◌≤◌, ◌<◌, ◌-◌, length, take, replicate};
+ghost use Rattle.std.specs.Prelude.{true, false, cond, ◌++◌, ◌≡◌, ◌+◌, ◌≤◌, ◌<◌, ◌-◌, length, take, replicate, MatchOption};
 ghost use Rattle.encoding.specs.Bytes.{bytes, zeros, same, check};
 ghost use Rattle.page.specs.Layout.{value_at, page_size, most_places, value_size};
 ghost use Rattle.page.specs.Table.{head, front, packed, field, fields_of, opening_as, opening, image, outcome, lowest, highest, within, between, used, meets_rules, is_page_of, torn};
@@ -16,6 +16,7 @@ use encoding::{
 // The fields of a page (a log record), kind to start. The 32 bytes of the value stay beside it.
 #[derive(Clone, Copy)]
 pub struct Page {
+    // A number and no enum: desk_pack (C) lends any, and `packs` says what is answered to every kind.
     pub kind: u64,
     pub small: u64,
     pub file: u64,
@@ -44,10 +45,11 @@ pub enum PackError {
 }
 
 // x lies between two numbers.
+#[tactic(auto, unfolding(crate::specs::Table::within))]
 fn is_within(x: u64, low: u64, high: u64) -> bool
     ensures { result ≡ within x low high }
 {
-    (low <= x) & (x <= high)
+    (low..=high).contains(&x)
 }
 
 // Each field lies between those of two pages.
@@ -62,13 +64,22 @@ fn is_between(p: Page, low: Page, high: Page) -> bool
         & is_within(p.start, low.start, high.start)
 }
 
-// Line 1 of the refusals.
-fn is_in_bounds(size: usize, place: u64, files: u64) -> bool
-    ensures { result ≡ in_bounds size place files }
+// Line 1 of the refusals, for the bytes of a page.
+fn is_in_bounds(place: u64, files: u64) -> bool
+    ensures { result ≡ in_bounds page_size place files }
 {
-    (size == Page::SIZE)
-        & is_within(place, 1, Page::MOST_PLACES)
-        & is_within(files, 1, Page::MOST_FILES)
+    is_within(place, 1, Page::MOST_PLACES) & is_within(files, 1, Page::MOST_FILES)
+}
+
+// The bytes of a page, if line 1 refuses neither their count nor the place nor the file count.
+fn in_bounds(part: &[u8], place: u64, files: u64) -> Option<&[u8; Page::SIZE]>
+    ensures { MatchOption result (in_bounds (length part.now) place files ≡ false) (λ s. (s.now ≡ part.now) × (in_bounds (length part.now) place files ≡ true)) }
+{
+    let bytes = part.as_array()?;
+    if !is_in_bounds(place, files) {
+        return None;
+    }
+    Some(bytes)
 }
 
 // The number from `at` up to `end`.
@@ -178,73 +189,56 @@ impl Page {
     }
 
     // The least that each field may be.
+    #[tactic(auto, unfolding(crate::specs::Table::lowest))]
     fn lowest(kind: u64, place: u64) -> Page
         ensures { result ≡ lowest kind place }
     {
-        if kind == 1 {
-            return Page::opening(place);
+        match kind {
+            1 => Page::opening(place),
+            2 => Page::image(0, 1, 1, 0, 1),
+            _ => Page::outcome(1, 1),
         }
-        if kind == 2 {
-            return Page::image(0, 1, 1, 0, 1);
-        }
-        Page::outcome(1, 1)
     }
 
     // The greatest that each field may be.
+    #[tactic(auto, unfolding(crate::specs::Table::highest))]
     fn highest(kind: u64, place: u64, files: u64) -> Page
         requires { 1 ≤ place }
         ensures { result ≡ highest kind place files }
     {
-        if kind == 1 {
-            return Page::opening_as(1, place);
-        }
+        let size = Page::VALUE_SIZE as u64;
         let below = place - 1;
-        if kind == 2 {
-            let size = Page::VALUE_SIZE as u64;
-            return Page::image(size, files, below, below, 0xffff_ffff_ffff_ffff);
+        match kind {
+            1 => Page::opening_as(1, place),
+            2 => Page::image(size, files, below, below, u64::MAX),
+            _ => Page::outcome(below, 2),
         }
-        Page::outcome(below, 2)
     }
 
     // How many of the value's bytes are used.
-    fn used_bytes(self) -> u64
+    fn used_bytes(self, kind: u64) -> u64
+        requires { self.kind ≡ kind }
         ensures { result ≡ used self }
     {
-        if self.kind == 2 {
-            return self.small;
-        }
-        0
+        if kind == 2 { self.small } else { 0 }
     }
 
     // The fields and the value obey the rules of their kind.
-    fn is_by_rules(self, value: &[u8], place: u64, files: u64) -> bool
-        requires { 1 ≤ place }
+    #[inline(always)]
+    fn is_by_rules(self, kind: u64, value: &[u8], place: u64, files: u64) -> bool
+        requires { (1 ≤ place) × (self.kind ≡ kind) }
         ensures { result ≡ meets_rules self value.now place files }
     {
-        let low = Page::lowest(self.kind, place);
-        let high = Page::highest(self.kind, place, files);
+        let low = Page::lowest(kind, place);
+        let high = Page::highest(kind, place, files);
         if !is_between(self, low, high) {
             return false;
         }
-        is_zero_from(value, self.used_bytes())
+        is_zero_from(value, self.used_bytes(kind))
     }
 
-    // The rules of an image, for who knows the kind: those of the others need not be told apart.
-    fn is_image_by_rules(self, value: &[u8], place: u64, files: u64) -> bool
-        requires { (1 ≤ place) × (self.kind ≡ 2) }
-        ensures { result ≡ meets_rules self value.now place files }
-    {
-        let low = Page::lowest(2, place);
-        let high = Page::highest(2, place, files);
-        if !is_between(self, low, high) {
-            return false;
-        }
-        is_zero_from(value, self.small)
-    }
-
-    // The fields of a part of 64 bytes.
-    fn fields(part: &[u8]) -> Page
-        requires { length part.now ≡ page_size }
+    // The fields in the bytes of a page.
+    fn fields(part: &[u8; Page::SIZE]) -> Page
         ensures { result ≡ fields_of part.now }
     {
         Page {
@@ -258,8 +252,7 @@ impl Page {
     }
 
     // Writes bytes 0 to 23.
-    fn write_head(self, out: &mut [u8])
-        requires { length out.old ≡ page_size }
+    fn write_head(self, out: &mut [u8; Page::SIZE])
         ensures { take value_at out.new ≡ head self }
     {
         put_number(out, Page::KIND, Page::SMALL, self.kind);
@@ -272,8 +265,7 @@ impl Page {
     }
 
     // Writes the page that the table gives, from byte 0 to byte 63.
-    fn write(self, value: &[u8], place: u64, out: &mut [u8])
-        requires { (length value.now ≡ value_size) × (length out.old ≡ page_size) }
+    fn write(self, value: &[u8; Page::VALUE_SIZE], place: u64, out: &mut [u8; Page::SIZE])
         ensures { out.new ≡ packed self value.now place }
     {
         self.write_head(out);
@@ -286,8 +278,7 @@ impl Page {
     }
 
     // What every kind has alike: the place, the spare bytes and the end mark.
-    fn is_framed(part: &[u8], place: u64) -> bool
-        requires { length part.now ≡ page_size }
+    fn is_framed(part: &[u8; Page::SIZE], place: u64) -> bool
         ensures { result ≡ framed part.now place }
     {
         (byte_at(part, Page::MARK) == Page::END_MARK)
@@ -296,15 +287,17 @@ impl Page {
             & (byte_at(part, Page::SPARE_END) == 0)
     }
 
-    // The bytes are the page of these fields, which were read from them: what is cheap comes first, the check word last.
-    fn is_fit(self, part: &[u8], place: u64, files: u64) -> bool
-        requires { (length part.now ≡ page_size) × (1 ≤ place) × (place ≤ most_places) × (self ≡ fields_of part.now) }
+    // The bytes are the page of these fields, which were read from them: what is cheap comes first, the check word last. Who knows the kind
+    // gives it as a number: put in place there, this chooses no other kind's bounds.
+    #[inline(always)]
+    fn is_fit(self, kind: u64, part: &[u8; Page::SIZE], place: u64, files: u64) -> bool
+        requires { (1 ≤ place) × (place ≤ most_places) × (self.kind ≡ kind) × (self ≡ fields_of part.now) }
         ensures { result ≡ is_page_of self part.now place files }
     {
         if !Page::is_framed(part, place) {
             return false;
         }
-        if !self.is_by_rules(&part[Page::VALUE..Page::PLACE], place, files) {
+        if !self.is_by_rules(kind, &part[Page::VALUE..Page::PLACE], place, files) {
             return false;
         }
         field(part, Page::CHECK, Page::SPARE_END) == check_word(&part[Page::KIND..Page::CHECK])
@@ -314,13 +307,11 @@ impl Page {
     fn by_kind(self) -> Unpacked
         ensures { result ≡ by_kind self }
     {
-        if self.kind == 1 {
-            return Unpacked::Opening(self);
+        match self.kind {
+            1 => Unpacked::Opening(self),
+            2 => Unpacked::Image(self),
+            _ => Unpacked::Outcome(self),
         }
-        if self.kind == 2 {
-            return Unpacked::Image(self);
-        }
-        Unpacked::Outcome(self)
     }
 
     // Torn, of a part of 64 bytes.
@@ -347,52 +338,48 @@ impl Page {
     pub fn test(part: &[u8], place: u64, files: u64) -> Unpacked
         ensures { result ≡ tested part.now place files }
     {
-        if !is_in_bounds(part.len(), place, files) {
+        let Some(part) = in_bounds(part, place, files) else {
             return Unpacked::Refused;
-        }
+        };
         if byte_at(part, Page::MARK) == 0 {
             return Page::unmarked(part);
         }
         let p = Page::fields(part);
-        if !p.is_fit(part, place, files) {
+        if !p.is_fit(p.kind, part, place, files) {
             return Unpacked::Unfit;
         }
         p.by_kind()
     }
 
-    // Whether the page test finds a page that fits, of a part with the kind of an image. For the quick looks, which need no fields of its
-    // answer: none are stored on the way, and no other kind's rules are asked.
-    fn is_fit_image(part: &[u8], place: u64, files: u64) -> bool
+    // The page that the page test finds, of a part with the kind of an image. Put in place in the quick looks: no fields are stored on the
+    // way, and no other kind's rules are asked.
+    #[inline(always)]
+    fn fit_image(part: &[u8], place: u64, files: u64) -> Option<Page>
         requires { has_kind part.now 2 ≡ true }
-        ensures { result ≡ is_fit_page (tested part.now place files) }
+        ensures { MatchOption result (is_fit_page (tested part.now place files) ≡ false) (λ p. (p ≡ fields_of part.now) × (is_fit_page (tested part.now place files) ≡ true)) }
     {
-        if !is_in_bounds(part.len(), place, files) {
-            return false;
-        }
-        if !Page::is_framed(part, place) {
-            return false;
-        }
+        let part = in_bounds(part, place, files)?;
         let p = Page::fields(part);
-        if !p.is_image_by_rules(&part[Page::VALUE..Page::PLACE], place, files) {
-            return false;
+        if !p.is_fit(2, part, place, files) {
+            return None;
         }
-        field(part, Page::CHECK, Page::SPARE_END) == check_word(&part[Page::KIND..Page::CHECK])
+        Some(p)
     }
 
     // Whether the page test finds a blank page.
     pub fn is_blank(part: &[u8], place: u64, files: u64) -> bool
         ensures { result ≡ is_blank_page (tested part.now place files) }
     {
-        if !is_in_bounds(part.len(), place, files) {
+        let Some(part) = in_bounds(part, place, files) else {
             return false;
-        }
+        };
         is_zero(part)
     }
 
     // Whether 64 bytes are the opening at a place with this small byte, eight bytes at a time. But for its kind, its small byte and its
     // place, which stands there twice, the bytes below the check word are 0.
-    fn is_packed_opening(part: &[u8], small: u64, place: u64) -> bool
-        requires { (length part.now ≡ page_size) × (small ≤ 1) × (place ≤ most_places) }
+    fn is_packed_opening(part: &[u8; Page::SIZE], small: u64, place: u64) -> bool
+        requires { (small ≤ 1) × (place ≤ most_places) }
         ensures { result ≡ same part.now (packed (opening_as small place) (replicate value_size 0) place) }
     {
         let first = 1 + (small << 8);
@@ -408,9 +395,9 @@ impl Page {
     pub fn is_opening(part: &[u8], place: u64, files: u64) -> bool
         ensures { result ≡ is_opening_page (tested part.now place files) }
     {
-        if !is_in_bounds(part.len(), place, files) {
+        let Some(part) = in_bounds(part, place, files) else {
             return false;
-        }
+        };
         let small = byte_at(part, Page::SMALL);
         if 1 < small {
             return false;
@@ -474,10 +461,7 @@ impl Page {
         if !Page::names(part, file) {
             return None;
         }
-        if !Page::is_fit_image(part, place, files) {
-            return None;
-        }
-        Some(Page::fields(part))
+        Page::fit_image(part, place, files)
     }
 
     // The image in a part that starts above a time, by its kind and start before anything else.
@@ -490,10 +474,7 @@ impl Page {
         if field(part, Page::START, Page::VALUE) <= time {
             return None;
         }
-        if !Page::is_fit_image(part, place, files) {
-            return None;
-        }
-        Some(Page::fields(part))
+        Page::fit_image(part, place, files)
     }
 
     // Writes the page of these fields and this value into the 64 bytes lent, or leaves them as they are.
@@ -506,10 +487,13 @@ impl Page {
     ) -> Result<(), PackError>
         ensures { (result, out.new) ≡ packs self value.now place files out.old }
     {
-        if !is_in_bounds(out.len(), place, files) {
+        let Some(out) = out.as_mut_array() else {
+            return Err(PackError::OutOfBounds);
+        };
+        if !is_in_bounds(place, files) {
             return Err(PackError::OutOfBounds);
         }
-        if !self.is_by_rules(value, place, files) {
+        if !self.is_by_rules(self.kind, value, place, files) {
             return Err(PackError::Unfit);
         }
         self.write(value, place, out);

@@ -107,11 +107,12 @@ pub fn outcome_place(sheet: &[u8], end: u64, files: u64, action: u64) -> u64
 pub fn image_at(sheet: &[u8], place: u64, files: u64, file: u64) -> Option<Page>
     ensures { result ≡ sealed_image files sheet.now file place }
 {
-    let image = seek_at(sheet, place, files, file)?;
-    if !is_opening_at(sheet, image.action, files) {
+    // Handed on as it was found: a copy would wait for its stores (docs/DECISIONS.md, Speed).
+    let found = seek_at(sheet, place, files, file);
+    if !is_opening_at(sheet, found?.action, files) {
         return None;
     }
-    Some(image)
+    found
 }
 
 // The lent fate of an action, 0 for no place. A number and no enum: a lent byte may hold any, document 01 gives each a meaning, and

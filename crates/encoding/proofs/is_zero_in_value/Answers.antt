@@ -5,5 +5,5 @@ use Rattle.encoding.proofs.is_zero_in_value.Goals as goal
 pub returns : goal.returns
 returns c =
     value_zeros c.args.s.now c.args.from _ _ _ _ _ _ _ c.requires
-    c.less.ensures c.less-2.ensures c.less-3.ensures
+    c.saturating_sub.ensures c.saturating_sub-2.ensures c.saturating_sub-3.ensures
     c.past-a.ensures c.past-b.ensures c.past-c.ensures c.past-d.ensures

@@ -1,12 +1,9 @@
 -- `encoding::words::check_any`. The invariant: the word so far, turned by the bytes that are left, is the check word. Assumes nothing.
 use Rattle.encoding.specs.Bytes.{check_from}
-use lib.ListN.{length, drop}
+use lib.ListN.{drop}
 use mathlib.Core.Path.{◌≡◌}
-use Prim.Native.Nat.{◌≤◌, ◌<◌, ◌-◌, ◌%◌}
+use Prim.Native.Nat.{◌<◌, ◌%◌}
 use Rattle.encoding.proofs.words.check_any.Given as goal
 
-abbrev pub invariant-loop-i : goal.invariant-loop-i
-invariant-loop-i l = (check_from 1 l.s ≡ check_from (l.w % 65521) (drop l.i l.s)) × (l.w < 80000) × (l.i ≤ length l.s)
-
-abbrev pub decreases-loop-i : goal.decreases-loop-i
-decreases-loop-i l = length l.s - l.i
+abbrev pub invariant-loop-b : goal.invariant-loop-b
+invariant-loop-b l = (check_from 1 l.s ≡ check_from (l.w % 65521) (drop l.b-index l.s)) × (l.w < 80000)

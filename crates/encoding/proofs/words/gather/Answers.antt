@@ -11,9 +11,9 @@ pub returns-clause-result_value : goal.returns-clause-result_value
 unfolding gathered
 returns-clause-result_value c =
     let s = c.args.s.now in
-    let t = c.late.ensures in
+    let t = c.three.ensures in
     let u = c.early.ensures in
-    let m = half_mod c.late.result c.fold_halves-a.result (search rules) c.fold_halves-a.ensures in
+    let m = half_mod c.three.result c.fold_halves-a.result (search rules) c.fold_halves-a.ensures in
     let n = half_mod c.early.result c.fold_halves-b.result (search rules) c.fold_halves-b.ensures in
     ap (λ (k : ℕ). k % 65521) c.weigh.ensures
     ∙ weighed_alike c.low_half.result (c.fold_halves-a.result / 4294967296) c.low_half-2.result (c.fold_halves-b.result / 4294967296)

@@ -3,7 +3,7 @@ use Rattle.page.specs.Table.{fields_of}
 use Rattle.page.specs.Answers.{image_above}
 use Rattle.page.specs.declared.Page.{Page}
 use Rattle.page.proofs.Found.{kind_size}
-use Rattle.page.proofs.Seek.{no_image, unfit_image, fit_image}
+use Rattle.page.proofs.Seek.{no_image, looked_image}
 use Rattle.encoding.proofs.Logic.{refused, passed}
 use Prim.Native.Nat.{ℕ}
 use native.Mathlib.Omega.{arith}
@@ -29,16 +29,9 @@ returns-then-field-time c =
     let a = c.args in
     no_image (later a.time) a.part.now _ _ (λ kind start. omega (arith, c.field.ensures, ltb-true a.time (fields_of a.part.now).start start))
 
-pub returns-then-not-is_fit_image : goal.returns-then-not-is_fit_image
-unfolding image_above
-returns-then-not-is_fit_image c = unfit_image (later _) _ _ _ (refused c.is_fit_image.ensures c.if-not-is_fit_image.true)
-
-pub fields-requires : goal.fields-requires
-fields-requires c = kind_size _ 2 (passed c.has_kind.ensures c.if-not-has_kind.false)
-
 pub returns : goal.returns
 unfolding image_above fields_of
 returns c =
     let a = c.args in
-    fit_image (later a.time) a.part.now _ _ _ c.fields.ensures (passed c.has_kind.ensures c.if-not-has_kind.false)
-    (lt-ltb a.time (fields_of a.part.now).start (omega (arith, c.field.ensures))) (passed c.is_fit_image.ensures c.if-not-is_fit_image.false)
+    looked_image (later a.time) a.part.now _ _ _ (passed c.has_kind.ensures c.if-not-has_kind.false)
+    (lt-ltb a.time (fields_of a.part.now).start (omega (arith, c.field.ensures))) c.fit_image.ensures
