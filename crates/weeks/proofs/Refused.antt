@@ -15,7 +15,7 @@ use Rattle.weeks.specs.declared.Refusal.{Refusal}
 use Rattle.weeks.specs.declared.Refusal.TheVariants.{Length, Times, Minutes, Keyholders, StepDown}
 use Rattle.weeks.specs.Editions.{days_a_week, named, on_known, mask_size}
 use Rattle.weeks.specs.Weeks.{wrong_day, uneven_day, lowest_day, keyholders, enough_keyholders}
-use Rattle.weeks.specs.Answers.{tested_by, week_test, refused, converted_by, converted, refusal_day}
+use Rattle.weeks.specs.Answers.{tested_by, week_test, refused, converted_by, converted}
 use Rattle.weeks.specs.Facts.{NamesDay}
 use Rattle.weeks.proofs.Editions.{by_lengths}
 
@@ -69,18 +69,3 @@ tester_refuses s = from (named (length s))
         (λ _. by_test TestRefuses (enough_keyholders e (keyholders e s)) (λ _. λ r h. clash cc) (λ _. test_refuses Keyholders tt))
         (λ t. test_refuses (Times (lowest_day (wrong_day e s))) (is_day (wrong_day e s) t))
     from None = test_refuses Length tt
-
--- ---- the day as a number
-
-day_within : (r : Refusal) → NamesDay r → refusal_day r ≤ days_a_week
-day_within Length h = omega arith
-day_within (Times d) h = h.1
-day_within (Minutes d) h = h.1
-day_within Keyholders h = omega arith
-day_within StepDown h = omega arith
-
-pub tested_within : (s : List ℕ) (r : Refusal) → week_test s ≡ Err r → refusal_day r ≤ days_a_week
-tested_within s r h = day_within r (tester_refuses s r h)
-
-pub converted_within : (s : List ℕ) (m : ℕ) (out : List ℕ) (r : Refusal) → (converted s m out).0 ≡ Err r → refusal_day r ≤ days_a_week
-converted_within s m out r h = day_within r (converter_refuses s m out r h).1

@@ -6,19 +6,14 @@ ghost use Rattle.weeks.specs.Weeks.{time, uneven};
 
 use crate::Edition;
 
-fn wide(b: u8) -> u64
-    ensures { result ≡ b }
-{
-    b as u64
-}
-
-// A byte of a week.
+// A byte of a week. It is `encoding::byte_at` for an index that lies within, and kept for speed: with that one a conversion took 29 to 34 ns
+// in place of 17 to 25.
 fn byte(week: &[u8], at: usize) -> u64
     requires { at < length week.now }
     ensures value { result ≡ get_or week.now at 0 }
     ensures fits { result < 256 }
 {
-    wide(week[at])
+    u64::from(week[at])
 }
 
 // Two bytes of a week, the low one first.
