@@ -47,6 +47,8 @@ struct Kept<const N: usize> {
     below: [Slot; SLOTS],
 }
 
+// That a page's file has a slot is asked for by three methods, and is no invariant of `Page`: a page out of range must be a value too,
+// since `Page::pack` refuses it.
 impl<const N: usize> Kept<N> {
     // The fate kept of an action, 0 for a number that is no place.
     fn fate_of(&self, action: u64) -> u8
