@@ -1,6 +1,6 @@
 -- What the functions for C leave, in the shape of their contracts.
 use Prim.Native.Nat.{ℕ}
-use mathlib.Core.Path.{◌≡◌, sym, ap, ap₂, ◌∙◌}
+use mathlib.Core.Path.{◌≡◌, sym, ap, ap₂, ◌∙◌, refl}
 use mathlib.Core.List.{List}
 use mathlib.Core.Bool.{cond}
 use Rattle.std.proofs.Common.{Result}
@@ -9,12 +9,12 @@ use lib.Dec.{eqb}
 use borrow.Author.Tests.{eq-eqb, ne_eqb}
 use Rattle.page.specs.declared.Page.{Page}
 use Rattle.page.specs.declared.PackError.{PackError}
-use Rattle.std.specs.Prelude.{Result}
 use Rattle.page.specs.declared.Unpacked.{Unpacked}
 use Rattle.page.specs.Layout.{value_size}
 use Rattle.page.specs.Answers.{packs, pack_number, tested, test_number, test_values}
 use Rattle.inspection.specs.declared.InspectError.{InspectError}
-use Rattle.std.specs.Prelude.{Result}
+use Rattle.std.specs.Prelude.{Result, Ok, Err}
+use Rattle.std.specs.Result.{result_unwrap_or}
 use Rattle.inspection.specs.Inspected.{inspected, inspect_number, inspect_place}
 use Rattle.weeks.specs.declared.Refusal.{Refusal}
 use Rattle.weeks.specs.Answers.{week_test, converted, test_code, conversion_code}
@@ -55,12 +55,13 @@ pack_left p value bytes zeros place files out left a r l z b h n =
 -- ---- inspection
 
 -- the answer in one number
-abbrev told : Result ℕ InspectError → ℕ
-told x = cond (eqb (inspect_number x) 0) (inspect_place x) refusal_number
+told_is : (a : Result ℕ InspectError) → cond (eqb (inspect_number a) 0) (inspect_place a) refusal_number ≡ result_unwrap_or a refusal_number
+told_is (Ok p) = refl
+told_is (Err e) = refl
 
-pub inspect_told : (s : List ℕ) (files : ℕ) (a v : Result ℕ InspectError) → a ≡ inspected s files → a ≡ v → told v ≡ inspected_for s files
+pub inspect_told : (s : List ℕ) (files n : ℕ) (a : Result ℕ InspectError) → a ≡ inspected s files → n ≡ result_unwrap_or a refusal_number → n ≡ inspected_for s files
 unfolding inspected_for
-inspect_told s files a v e h = ap told (sym h ∙ e)
+inspect_told s files n a e h = h ∙ sym (told_is a) ∙ ap (λ (x : Result ℕ InspectError). cond (eqb (inspect_number x) 0) (inspect_place x) refusal_number) e
 
 -- ---- weeks
 

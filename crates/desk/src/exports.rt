@@ -108,11 +108,7 @@ pub fn desk_test(part: &[u8], place: u64, files: u64, fields: &mut [u64]) -> u64
 pub fn desk_inspect(sheet: &[u8], files: u64) -> u64
     ensures { result ≡ inspected_for sheet.now files }
 {
-    let answer = inspection::inspect(sheet, files);
-    match answer {
-        Err(_) => REFUSED,
-        Ok(place) => place,
-    }
+    inspection::inspect(sheet, files).unwrap_or(REFUSED)
 }
 
 // Tests a week: its edition, or a refusal.

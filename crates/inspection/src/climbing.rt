@@ -47,6 +47,8 @@ struct Kept<const N: usize> {
     below: [Slot; SLOTS],
 }
 
+// That a page's file has a slot is asked for by three methods, and is no invariant of `Page`: a page out of range must be a value too,
+// since `Page::pack` refuses it.
 impl<const N: usize> Kept<N> {
     // The fate kept of an action, 0 for a number that is no place.
     fn fate_of(&self, action: u64) -> u8
@@ -129,11 +131,19 @@ impl<const N: usize> Kept<N> {
     }
 }
 
-// The lowest place up to a number of pages that is bad or does not fit the pages below it.
-fn climb<const N: usize>(sheet: &[u8], files: u64, pages: u64) -> Option<u64>
-    requires { (pages < N) × (N ≤ suc most_places) × (pages ≡ length sheet.now / page_size) }
-    ensures { result ≡ some_place (lowest_unlawful (down (pages_of sheet.now files) pages)) }
+// How many pages a sheet has.
+fn page_count(sheet: &[u8]) -> u64
+    ensures { result ≡ length sheet.now / page_size }
 {
+    (sheet.len() / Page::SIZE) as u64
+}
+
+// The lowest place that is bad or does not fit the pages below it.
+fn climb<const N: usize>(sheet: &[u8], files: u64) -> Option<u64>
+    requires { (length sheet.now / page_size < N) × (N ≤ suc most_places) }
+    ensures { result ≡ some_place (lowest_unlawful (down (pages_of sheet.now files) (length sheet.now / page_size))) }
+{
+    let pages = page_count(sheet);
     let mut kept: Kept<N> = Kept {
         fates: [0; N],
         newest: [Slot::NONE; SLOTS],
@@ -150,22 +160,22 @@ fn climb<const N: usize>(sheet: &[u8], files: u64, pages: u64) -> Option<u64>
 }
 
 // The climb, with arrays by the sheet's size.
-fn climb_sheet(sheet: &[u8], files: u64, pages: u64) -> Option<u64>
-    requires { (pages ≤ most_places) × (pages ≡ length sheet.now / page_size) }
-    ensures { result ≡ some_place (lowest_unlawful (down (pages_of sheet.now files) pages)) }
+fn climb_sheet(sheet: &[u8], files: u64) -> Option<u64>
+    requires { length sheet.now / page_size ≤ most_places }
+    ensures { result ≡ some_place (lowest_unlawful (down (pages_of sheet.now files) (length sheet.now / page_size))) }
 {
-    if pages <= FEW_PAGES as u64 {
-        return climb::<FEW_FATES>(sheet, files, pages);
+    if page_count(sheet) <= FEW_PAGES as u64 {
+        return climb::<FEW_FATES>(sheet, files);
     }
-    climb::<MOST_FATES>(sheet, files, pages)
+    climb::<MOST_FATES>(sheet, files)
 }
 
-// Whether a page from a place up to a number of pages is not blank.
-fn is_used_from(sheet: &[u8], files: u64, from: u64, pages: u64) -> bool
-    requires { (1 ≤ from) × (pages ≤ most_places) × (pages ≡ length sheet.now / page_size) }
-    ensures { result ≡ leb from (end_of (pages_of sheet.now files) pages) }
+// Whether a page from a place up is not blank.
+fn is_used_from(sheet: &[u8], files: u64, from: u64) -> bool
+    requires { 1 ≤ from }
+    ensures { result ≡ leb from (end_of (pages_of sheet.now files) (length sheet.now / page_size)) }
 {
-    for place in from..=pages {
+    for place in from..=page_count(sheet) {
         if !is_blank_at(sheet, place, files) {
             return true;
         }
@@ -178,9 +188,8 @@ fn lowest(sheet: &[u8], files: u64) -> u64
     requires { length sheet.now / page_size ≤ most_places }
     ensures { result ≡ lowest_unlawful (down (pages_of sheet.now files) (end_of (pages_of sheet.now files) (length sheet.now / page_size))) }
 {
-    let pages = (sheet.len() / Page::SIZE) as u64;
-    match climb_sheet(sheet, files, pages) {
-        Some(place) if is_used_from(sheet, files, place, pages) => place,
+    match climb_sheet(sheet, files) {
+        Some(place) if is_used_from(sheet, files, place) => place,
         _ => 0,
     }
 }

@@ -1,7 +1,9 @@
 -- `inspection::climbing::climb`: what is kept is what the log below says (`Knows`), so a page fits it exactly if it fits the log.
 -- Assumes nothing.
-use Prim.Native.Nat.{suc, pred}
+use Prim.Native.Nat.{suc, pred, ◌/◌}
 use mathlib.Core.Path.{◌≡◌, refl, sym, subst}
+use lib.ListN.{length}
+use Rattle.page.specs.Layout.{page_size}
 use native.Mathlib.Omega.{arith}
 use Rattle.inspection.proofs.ArraysKnow.{Long, long_none, long_kept}
 use Rattle.inspection.proofs.ClimbPass.{in_range, range_file, climb_start, climb_again, climb_stop, climb_last, climb_end}
@@ -17,7 +19,7 @@ pub returns-then-not-page_fits : goal.returns-then-not-page_fits
 returns-then-not-page_fits g c =
     let p = c.loop-place.place in
     let at : suc (pred p) ≡ p = omega arith in
-    climb_stop c.args.sheet.now c.args.files c.args.pages (pred p) c.loop-place.kept c.requires.2 (c.loop-place.invariant.2 (pred p) at) p at c.loop-place-test.true
+    climb_stop c.args.sheet.now c.args.files (length c.args.sheet.now / page_size) (pred p) c.loop-place.kept refl (c.loop-place.invariant.2 (pred p) at) p at (omega (arith, c.page_count-pages.ensures))
     _
     c.page_at-found.ensures
     _
@@ -33,7 +35,7 @@ loop-place-preserved g c =
     let at : suc (pred p) ≡ p = omega arith in (
       omega arith,
       subst Long (sym c.keep_page.ensures) (long_kept c.loop-place.kept c.page_at-found.result p c.loop-place.invariant.1),
-      climb_again c.args.sheet.now c.args.files c.args.pages (pred p) c.loop-place.kept c.requires.2 (c.loop-place.invariant.2 (pred p) at) p at c.loop-place-test.true
+      climb_again c.args.sheet.now c.args.files (length c.args.sheet.now / page_size) (pred p) c.loop-place.kept refl (c.loop-place.invariant.2 (pred p) at) p at (omega (arith, c.page_count-pages.ensures))
           _
           c.page_at-found.ensures
           _
@@ -49,14 +51,14 @@ pub returns-else-not-page_fits : goal.returns-else-not-page_fits
 returns-else-not-page_fits g c =
     let p = c.loop-place.place in
     let at : suc (pred p) ≡ p = omega arith in
-    climb_last c.args.sheet.now c.args.files c.args.pages (pred p) c.loop-place.kept c.requires.2 (c.loop-place.invariant.2 (pred p) at) p at c.loop-place-test.true
+    climb_last c.args.sheet.now c.args.files (length c.args.sheet.now / page_size) (pred p) c.loop-place.kept refl (c.loop-place.invariant.2 (pred p) at) p at (omega (arith, c.page_count-pages.ensures))
     _
     c.page_at-found.ensures
     _
     c.page_fits.ensures
     c.if-not-page_fits.false
-    (omega arith)
+    (omega (arith, c.page_count-pages.ensures))
 
 pub returns : goal.returns
 returns g c =
-    climb_end c.args.sheet.now c.args.files c.args.pages c.args.pages c.loop-place.kept c.requires.2 (c.loop-place.invariant.2 c.args.pages (omega arith)) refl
+    climb_end c.args.sheet.now c.args.files (length c.args.sheet.now / page_size) (length c.args.sheet.now / page_size) c.loop-place.kept refl (c.loop-place.invariant.2 _ (omega (arith, c.page_count-pages.ensures))) refl
