@@ -13,10 +13,7 @@ ghost use Rattle.std.specs.Prelude.{◌≡◌};
 ghost use Rattle.recovery.specs.Lent.{sizes_right};
 ghost use Rattle.recovery.specs.Steps.{line_one, refusal};
 
-pub use lookup::{
-    counted_fate, fate_at, image_at, is_blank_at, is_carried_at, is_opening_at, outcome_place,
-    page_at, part_at, seek_at,
-};
+pub use lookup::{View, fate_at, part_at};
 pub use numbering::numbers_of;
 use page::Page;
 pub use rolling::{later, raised_row};

@@ -8,4 +8,4 @@ use Rattle.inspection.proofs.ArraysKnow.{Knows, Long}
 use Rattle.inspection.proofs.climbing.climb.Given as goal
 
 abbrev pub invariant-loop-place : goal.invariant-loop-place
-invariant-loop-place g l = (l.place ≤ suc l.pages) × Long l.kept × ((n : ℕ) → suc n ≡ l.place → Knows (down (pages_of l.sheet l.files) n) l.kept)
+invariant-loop-place g l = (l.place ≤ suc l.pages) × Long l.kept × ((n : ℕ) → suc n ≡ l.place → Knows (down (pages_of l.view.sheet.now l.view.files) n) l.kept)

@@ -6,4 +6,4 @@ use Rattle.recovery.specs.World.{end_of}
 use Rattle.inspection.proofs.climbing.is_used_from.Given as goal
 
 abbrev pub invariant-loop-place : goal.invariant-loop-place
-invariant-loop-place l = leb l.place (end_of (pages_of l.sheet l.files) l.pages) ≡ leb l.from (end_of (pages_of l.sheet l.files) l.pages)
+invariant-loop-place l = leb l.place (end_of (pages_of l.view.sheet.now l.view.files) l.pages) ≡ leb l.from (end_of (pages_of l.view.sheet.now l.view.files) l.pages)
