@@ -8,7 +8,7 @@ use Rattle.inspection.proofs.ClimbPass.{in_range, range_file, climb_start, climb
 use Rattle.inspection.proofs.climbing.climb.Goals as goal
 
 pub loop-place-init : goal.loop-place-init
-loop-place-init g c = (omega arith, long_none g.row.N, climb_start c.args.view.sheet.now c.args.view.files g.row.N)
+loop-place-init g c = (omega (arith, c.pages-place-end.ensures), long_none g.row.N, climb_start c.args.view.sheet.now c.args.view.files g.row.N)
 
 pub page_fits-requires : goal.page_fits-requires
 page_fits-requires g c = (omega arith, range_file c.loop-place.place _ (in_range c.args.view.sheet.now c.args.view.files _ _ c.page_at-found.ensures))
@@ -17,7 +17,7 @@ pub returns-then-not-page_fits : goal.returns-then-not-page_fits
 returns-then-not-page_fits g c =
     let p = c.loop-place.place in
     let at : suc (pred p) ≡ p = omega arith in
-    climb_stop c.args.view.sheet.now c.args.view.files c.args.pages (pred p) c.loop-place.kept c.requires.2 (c.loop-place.invariant.2 (pred p) at) p at c.loop-place-test.true
+    climb_stop c.args.view.sheet.now c.args.view.files (pred p) c.loop-place.kept (c.loop-place.invariant.2 (pred p) at) p at (rw c.pages-place-end.ensures at c.loop-place-test.true)
     _
     c.page_at-found.ensures
     _
@@ -33,7 +33,7 @@ loop-place-preserved g c =
     let at : suc (pred p) ≡ p = omega arith in (
       omega arith,
       subst Long (sym c.keep_page.ensures) (long_kept c.loop-place.kept c.page_at-found.result p c.loop-place.invariant.1),
-      climb_again c.args.view.sheet.now c.args.view.files c.args.pages (pred p) c.loop-place.kept c.requires.2 (c.loop-place.invariant.2 (pred p) at) p at c.loop-place-test.true
+      climb_again c.args.view.sheet.now c.args.view.files (pred p) c.loop-place.kept (c.loop-place.invariant.2 (pred p) at) p at (rw c.pages-place-end.ensures at c.loop-place-test.true)
           _
           c.page_at-found.ensures
           _
@@ -49,7 +49,7 @@ pub returns-else-not-page_fits : goal.returns-else-not-page_fits
 returns-else-not-page_fits g c =
     let p = c.loop-place.place in
     let at : suc (pred p) ≡ p = omega arith in
-    climb_last c.args.view.sheet.now c.args.view.files c.args.pages (pred p) c.loop-place.kept c.requires.2 (c.loop-place.invariant.2 (pred p) at) p at c.loop-place-test.true
+    climb_last c.args.view.sheet.now c.args.view.files (pred p) c.loop-place.kept (c.loop-place.invariant.2 (pred p) at) p at (rw c.pages-place-end.ensures at c.loop-place-test.true)
     _
     c.page_at-found.ensures
     _
@@ -59,4 +59,4 @@ returns-else-not-page_fits g c =
 
 pub returns : goal.returns
 returns g c =
-    climb_end c.args.view.sheet.now c.args.view.files c.args.pages c.args.pages c.loop-place.kept c.requires.2 (c.loop-place.invariant.2 c.args.pages (omega arith)) refl
+    climb_end c.args.view.sheet.now c.args.view.files _ c.loop-place.kept (c.loop-place.invariant.2 _ (omega (arith, c.pages-place-end.ensures))) refl
