@@ -6,7 +6,7 @@ use mathlib.Core.Bool.{Bool, true, false, cond, ◌&&◌, false≢true}
 use mathlib.Core.List.{List}
 use native.Mathlib.Omega.{arith}
 use lib.Dec.{eqb, leb}
-use borrow.Author.Tests.{eq-eqb, ne_eqb, eqb-true, leb-true}
+use borrow.Author.Tests.{ne_eqb, eqb-true, leb-true}
 use Rattle.encoding.proofs.Logic.{and_true, by_test, clash}
 use Rattle.std.specs.Prelude.{Ok, Err}
 use Rattle.std.specs.Prelude as std
@@ -88,14 +88,6 @@ module _ (fates : List ℕ) (end a : ℕ) where
       go : (f : std.Result ℕ Refusal) → f ≡ known_fate fates end a → Err AlreadyDecided ≡ and_then f (λ fate. cond (eqb fate 1) free (Err AlreadyDecided)) → acts ≡ true
       go (Err why) e q = let k : why ≡ NoAction = (fate_none why e).why_is in clash cc
       go (Ok x) e q = (fate_some x e).acts_is
-
-  pub any_line : a ≡ 0 → free ≡ read_line fates end a
-  unfolding read_line
-  any_line h = rw (eq-eqb a 0 h)
-
-  pub own_line : (a ≡ 0 → ⊥) → action_line fates end a ≡ read_line fates end a
-  unfolding read_line
-  own_line h = rw (ne_eqb a 0 h)
 
 -- ---- the definitions by those lines
 

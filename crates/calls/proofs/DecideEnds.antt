@@ -8,7 +8,7 @@ use native.Mathlib.Omega.{arith}
 use native.Mathlib.Numerals.{add-one, sub-one}
 use lib.ListN.{length, set, replicate}
 use lib.Dec.{eqb}
-use borrow.Author.Tests.{eq-eqb, ne_eqb, eqb-true}
+use borrow.Author.Tests.{ne_eqb, eqb-true}
 use Rattle.encoding.proofs.Logic.{by_test, and_true, clash}
 use Rattle.std.specs.Prelude.{Ok, Err}
 use Rattle.page.specs.declared.Page.{Page}
@@ -36,13 +36,7 @@ use Rattle.calls.proofs.AskedAgain.{again_unchanged}
 use Rattle.calls.proofs.ActionLines.{acts, Known, acting, past_5, by_line, undecided_by}
 use Rattle.calls.proofs.RoomLines.{room_not_6, room_is, room_by, append_fits}
 
--- ---- an outcome's page and its fate
-
-pub commit_page : (a : ℕ) (c : Bool) → c ≡ true → table.outcome a 1 ≡ table.outcome a (cond c 1 2)
-commit_page a c h = rw h
-
-pub abort_page : (a : ℕ) (c : Bool) → c ≡ false → table.outcome a 2 ≡ table.outcome a (cond c 1 2)
-abort_page a c h = rw h
+-- ---- an outcome's fate
 
 put_index : (l : List ℕ) (a v : ℕ) → 1 ≤ a → set l (a - 1) v ≡ put l a v
 put_index l zero v h = absurd (omega arith)
@@ -65,30 +59,12 @@ decided_as_lem true (suc (suc (suc zero))) = refl
 decided_as_lem false (suc (suc (suc zero))) = refl
 decided_as_lem c (suc (suc (suc (suc x)))) = other_fate c (suc (suc (suc (suc x)))) (omega arith)
 
-module _ (s fs : List ℕ) (files : ℕ) (st : State) (a : ℕ) (c : Bool) (x q : ℕ) (hx : x ≡ nth 0 fs a) (hq : q ≡ fate_number (verdict c)) where
-  pub other_decision : (x ≡ q → ⊥) → refusal AlreadyDecided st ≡ decided_again s fs files st a c
-  unfolding decided_again
-  other_decision n = rw (← hx, ← hq, ne_eqb x q n)
-
-  pub same_decision : x ≡ q → (p : ℕ) → p ≡ outcome_in s files st.end a → record { answer = Stored p; state = st } ≡ decided_again s fs files st a c
-  unfolding decided_again
-  same_decision e p hp = rw (← hx, ← hq, eq-eqb x q e, ← hp)
-
 -- ---- the line that refuses
 
 module _ (s fs rs : List ℕ) (st : State) (a : ℕ) where
   pub line_1 : line_one (length s) (length fs) (length rs) st.end st.undecided ≡ false → Err WrongSizes ≡ decide_line s fs rs st a
   unfolding decide_line
   line_1 h = rw h
-
-  module _ (h : line_one (length s) (length fs) (length rs) st.end st.undecided ≡ true) where
-    pub line_action : (n : Refusal) → Err n ≡ action_line fs st.end a → Err n ≡ decide_line s fs rs st a
-    unfolding decide_line
-    line_action n hn = rw (h, ← hn)
-
-    pub line_room : free ≡ action_line fs st.end a → (l : Line) → l ≡ room_line s st.end (length rs / row_length) 1 → l ≡ decide_line s fs rs st a
-    unfolding decide_line
-    line_room z l hl = rw (h, ← z) hl
 
   -- what is known where line 6 refuses
   pub record Decided : Type 0 where

@@ -1,40 +1,20 @@
 -- Lines 7 to 12 of write as the code tests them, on a warm row. Assumes nothing.
-use Prim.Native.Nat.{ℕ, suc, ◌+◌, ◌≤◌, ◌<◌}
+use Prim.Native.Nat.{ℕ, suc, ◌+◌}
 use mathlib.Core.Path.{◌≡◌, sym, ap, ◌∙◌}
-use Rattle.std.specs.Prelude.{Err}
 use mathlib.Core.Bool.{Bool, true, false}
 use mathlib.Core.List.{List}
 use native.Mathlib.Numerals.{add-one}
-use borrow.Author.Tests.{lt-ltb, le-ltb}
 use Rattle.page.specs.declared.Page.{Page}
 use Rattle.std.specs.Prelude.{Option}
-use Rattle.recovery.specs.declared.Refusal.TheVariants.{DamagedRow, OtherToken, EarlyStart}
+use Rattle.recovery.specs.declared.Refusal.TheVariants.{DamagedRow, OtherToken}
 use Rattle.recovery.specs.declared.Row.{Row}
 use Rattle.recovery.specs.declared.State.{State}
 use Rattle.recovery.specs.declared.Answer.TheVariants.{Refused}
 use Rattle.recovery.specs.Steps.{sealed_image, row_holds_by, row_holds_in}
 use Rattle.recovery.proofs.Held.{row_held}
 use Rattle.calls.specs.Calls.{is_free_for}
-use Rattle.calls.specs.LineSteps.{Line, room_line}
+use Rattle.calls.specs.LineSteps.{Line}
 use Rattle.calls.specs.ReadSteps.{store_line, stored_at, write_answer}
-
--- ---- lines 10 to 12
-
-module _ (s : List ℕ) (files : ℕ) (st : State) (t : ℕ) (r : Row) where
-  pub store_10 : t ≤ r.currentend → Err EarlyStart ≡ store_line s files st t r
-  unfolding store_line
-  store_10 k = simp (le-ltb r.currentend t k)
-
-  module _ (c : r.currentend < t) where
-    pub store_floor : t ≤ st.floor → Err EarlyStart ≡ store_line s files st t r
-    unfolding store_line
-    store_floor k = simp (lt-ltb r.currentend t c, le-ltb st.floor t k)
-
-    pub store_room : st.floor < t → (l : Line) → l ≡ room_line s st.end files (st.undecided + 1) → l ≡ store_line s files st t r
-    unfolding store_line
-    store_room d l hl = simp (lt-ltb r.currentend t c, lt-ltb st.floor t d) hl
-
--- ---- lines 7 and 8
 
 module _ (s : List ℕ) (files : ℕ) (st : State) (f t a : ℕ) (r : Row) (u v : Option Page) (hu : u ≡ sealed_image files s f r.current) (hv : v ≡ sealed_image files s f r.token) where
   pub write_7 : row_holds_by st.end r u v ≡ false → Refused DamagedRow 0 ≡ write_answer s files st f t a r

@@ -6,7 +6,7 @@ use mathlib.Core.List.{List}
 use native.Mathlib.Omega.{arith}
 use lib.ListN.{length}
 use lib.Dec.{eqb, leb, ltb}
-use borrow.Author.Tests.{le-leb, lt-leb, eqb-true, leb-true, ltb-true}
+use borrow.Author.Tests.{leb-false, le-leb, lt-leb, eqb-true, leb-true, ltb-true}
 use Rattle.encoding.proofs.Logic.{and_true, clash}
 use Rattle.page.specs.declared.Page.{Page}
 use Rattle.page.specs.Layout.{page_size, value_size}
@@ -17,7 +17,7 @@ use Rattle.page.proofs.Obeyed.{image_rules}
 use Rattle.recovery.specs.Places.{put}
 use Rattle.recovery.specs.Log.{Image, image}
 use Rattle.recovery.specs.declared.Refusal.{Refusal}
-use Rattle.recovery.specs.declared.Refusal.TheVariants.{NoFile, LongValue, DamagedRow, OtherToken, EarlyStart}
+use Rattle.recovery.specs.declared.Refusal.TheVariants.{WrongSizes, NoFile, LongValue, DamagedRow, OtherToken, EarlyStart}
 use Rattle.recovery.specs.declared.Row.{Row}
 use Rattle.recovery.specs.declared.State.{State}
 use Rattle.recovery.specs.declared.Answer.{Answer}
@@ -30,8 +30,8 @@ use Rattle.calls.specs.Calls.{write, on, is_free_for, written, on_write, append}
 use Rattle.calls.specs.Leaves.{call_leaves, packed_entry, padded, with_page}
 use Rattle.std.specs.Prelude.{Ok, Err}
 use Rattle.calls.specs.LineSteps.{Line, free, action_line, room_line}
-use Rattle.calls.specs.ReadSteps.{store_line, stored_at, write_answer}
-use Rattle.calls.proofs.Ends.{ends_same, ends_row, ends_grown}
+use Rattle.calls.specs.ReadSteps.{may_write, store_line, stored_at, write_answer}
+use Rattle.calls.proofs.Ends.{ends_line_1, ends_same, ends_row, ends_grown}
 use Rattle.calls.proofs.ActionLines.{acting, by_line, undecided_by}
 use Rattle.calls.proofs.RoomLines.{room_is, room_by, append_fits}
 use Rattle.calls.proofs.ReadWarming.{warm_is, put_warm}
@@ -176,3 +176,34 @@ module _ (s fs rs : List ℕ) (st : State) (h : line_one (length s) (length fs) 
               hs ∙ ap (λ (z : Page). with_page s st.end (packed z pv (suc st.end))) hg ∙ ap (λ (z : List ℕ). with_page s st.end (packed page z (suc st.end))) hp in
               let l : ys ≡ flat (put (put (rows_of rs) f r) f r₁) = hy ∙ ap (with_row_of xs f) k ∙ put_warm s fs rs st h f g r xs wm r₁ in
               rw e (ends_grown s fs rs st (write f t a v) h (image I) fs (put (put (rows_of rs) f r) f r₁) st.undecided o room s'' fs ys x refl l)
+
+-- ---- all of these lines
+
+module _ (s fs rs : List ℕ) (st : State) (f a : ℕ) (v : List ℕ) where
+  pub record MayWrite : Type 0 where
+    pub fits : line_one (length s) (length fs) (length rs) st.end st.undecided ≡ true
+    pub file : is_file (length rs / row_length) f ≡ true
+    pub short : length v ≤ value_size
+    pub acts : action_line fs st.end a ≡ free
+
+  pub allowed : free ≡ may_write s fs rs st f a v → MayWrite
+  unfolding may_write
+  allowed e = go (line_one (length s) (length fs) (length rs) st.end st.undecided) refl (is_file (length rs / row_length) f) refl (leb (length v) value_size) refl e
+    where
+      go : (b : Bool) → line_one (length s) (length fs) (length rs) st.end st.undecided ≡ b → (c : Bool) → is_file (length rs / row_length) f ≡ c → (d : Bool) → leb (length v) value_size ≡ d
+          → free ≡ cond b (cond c (cond d (action_line fs st.end a) (Err LongValue)) (Err NoFile)) (Err WrongSizes) → MayWrite
+      go false h c g d k q = clash cc
+      go true h false g d k q = clash cc
+      go true h true g false k q = clash cc
+      go true h true g true k q = record { fits = h; file = g; short = leb-true (length v) value_size k; acts = sym q }
+
+  pub write_no : (t : ℕ) (n : Refusal) → Err n ≡ may_write s fs rs st f a v → refused n 0 s fs rs st ≡ call_leaves s fs rs st (write f t a v)
+  unfolding may_write
+  write_no t n e = go (line_one (length s) (length fs) (length rs) st.end st.undecided) refl (is_file (length rs / row_length) f) refl (leb (length v) value_size) refl e
+    where
+      go : (b : Bool) → line_one (length s) (length fs) (length rs) st.end st.undecided ≡ b → (c : Bool) → is_file (length rs / row_length) f ≡ c → (d : Bool) → leb (length v) value_size ≡ d
+          → Err n ≡ cond b (cond c (cond d (action_line fs st.end a) (Err LongValue)) (Err NoFile)) (Err WrongSizes) → refused n 0 s fs rs st ≡ call_leaves s fs rs st (write f t a v)
+      go false h c g d k q = let z : n ≡ WrongSizes = cc in rw z (ends_line_1 s fs rs st (write f t a v) h)
+      go true h false g d k q = let z : n ≡ NoFile = cc in rw z (write_3 s fs rs st h f t a v g)
+      go true h true g false k q = let z : n ≡ LongValue = cc in rw z (write_4 s fs rs st h f t a v g (leb-false (length v) value_size k))
+      go true h true g true k q = write_56 s fs rs st h f t a v g (leb-true (length v) value_size k) n q

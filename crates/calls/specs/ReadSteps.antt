@@ -1,18 +1,19 @@
 -- What smaller functions of read and write answer. A reader of document 01 can pass this file over: the laws join it to `on`.
-use Rattle.std.specs.Prelude.{◌≡◌, List, Bool, cond, ◌&&◌, ℕ, suc, ◌+◌, eqb, ltb, Option as Maybe, Some, None, Ok, Err}
+use Rattle.std.specs.Prelude.{◌≡◌, List, Bool, cond, ◌&&◌, ℕ, suc, ◌+◌, ◌/◌, length, eqb, leb, ltb, Option as Maybe, Some, None, Ok, Err}
 use Rattle.std.proofs.Math.Option.{Option, some, none}
+use Rattle.page.specs.Layout.{value_size}
 use Rattle.page.specs.declared.Page.{Page}
 use Rattle.recovery.specs.Places.{nth}
 use Rattle.recovery.specs.Log.{Image, blank}
 use Rattle.recovery.specs.Sheet.{page_bytes, image_from}
-use Rattle.recovery.specs.declared.Refusal.TheVariants.{DamagedRow, OtherToken, EarlyStart, LostLink, OnOlderSheet}
+use Rattle.recovery.specs.declared.Refusal.TheVariants.{WrongSizes, NoFile, LongValue, DamagedRow, OtherToken, EarlyStart, LostLink, OnOlderSheet}
 use Rattle.recovery.specs.declared.Row.{Row}
 use Rattle.recovery.specs.declared.State.{State}
 use Rattle.recovery.specs.declared.Answer.{Answer}
 use Rattle.recovery.specs.declared.Answer.TheVariants.{Refused, Stored, Nothing}
-use Rattle.recovery.specs.World.{is_carried}
-use Rattle.recovery.specs.Lent.{pages_of}
-use Rattle.recovery.specs.Steps.{sealed_image, row_holds_in}
+use Rattle.recovery.specs.World.{is_file, is_carried}
+use Rattle.recovery.specs.Lent.{row_length, pages_of}
+use Rattle.recovery.specs.Steps.{line_one, sealed_image, row_holds_in}
 use Rattle.calls.specs.LineSteps.{Line, free, action_line, room_line}
 use Rattle.calls.specs.Walk.{Walk, met, nothing, early, lost, images_below, follow}
 use Rattle.calls.specs.Calls.{image_of, is_free_for, version_answer}
@@ -20,6 +21,22 @@ use Rattle.calls.specs.Calls.{image_of, is_free_for, version_answer}
 -- lines 5 and 6 of read, which passes over them for action 0
 unfoldable pub read_line : List ℕ → ℕ → ℕ → Line
 read_line fates end a = cond (eqb a 0) free (action_line fates end a)
+
+-- lines 1, 3, 5 and 6 of read
+unfoldable pub may_read : List ℕ → List ℕ → List ℕ → State → ℕ → ℕ → Line
+may_read s fates rows state file a =
+    cond (line_one (length s) (length fates) (length rows) state.end state.undecided)
+    (cond (is_file (length rows / row_length) file) (read_line fates state.end a) (Err NoFile))
+    (Err WrongSizes)
+
+-- lines 1 and 3 to 6 of write
+unfoldable pub may_write : List ℕ → List ℕ → List ℕ → State → ℕ → ℕ → List ℕ → Line
+may_write s fates rows state file a value =
+    cond (line_one (length s) (length fates) (length rows) state.end state.undecided)
+    (cond (is_file (length rows / row_length) file)
+    (cond (leb (length value) value_size) (action_line fates state.end a) (Err LongValue))
+    (Err NoFile))
+    (Err WrongSizes)
 
 -- the image of a page's bytes, by the fields that were found
 abbrev pub image_by : List ℕ → Maybe Page → Option Image

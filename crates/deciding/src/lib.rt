@@ -3,7 +3,7 @@
 
 mod testing;
 
-ghost use Rattle.std.specs.Prelude.{true, false, cond, ◌≡◌, ◌*◌, ◌/◌, pred, length};
+ghost use Rattle.std.specs.Prelude.{true, false, cond, ◌≡◌, ◌*◌, ◌/◌, length};
 ghost use Rattle.page.specs.Table.{outcome};
 ghost use Rattle.recovery.specs.Log.{verdict};
 ghost use Rattle.recovery.specs.World.{fate_number, is_rebuilt_for};
@@ -13,6 +13,7 @@ ghost use Rattle.recovery.specs.Steps.{row_of};
 ghost use Rattle.calls.specs.Calls.{Call, decided};
 ghost use Rattle.calls.specs.Leaves.{call_leaves};
 ghost use Rattle.calls.specs.DecideSteps.{decide_line, decided_again, is_token_in, settled_row, settled_rows};
+ghost use Rattle.deciding.specs.Verdicts.{is_commit};
 
 use calls::{action_line, append, room_line};
 use page::Page;
@@ -40,12 +41,61 @@ fn decide_line(
     room_line(sheet, state.end, file_count(rows.len()), 0)
 }
 
-// An action that is decided: whether it has an opening, and whether it commits.
+// How an action is decided.
+#[derive(Clone, Copy)]
+enum Verdict {
+    Commit,
+    Abort,
+}
+
+impl Verdict {
+    // The outcome of an action: the commit record is 1, the abort record 2.
+    fn page(self, action: u64) -> Page
+        ensures { result ≡ outcome action (cond (is_commit self) 1 2) }
+    {
+        match self {
+            Verdict::Commit => Page::outcome(action, 1),
+            Verdict::Abort => Page::outcome(action, 2),
+        }
+    }
+
+    // The fate that it gives the action.
+    fn fate(self) -> u8
+        ensures { result ≡ fate_number (verdict (is_commit self)) }
+    {
+        match self {
+            Verdict::Commit => 2,
+            Verdict::Abort => 3,
+        }
+    }
+
+    // A row whose token is decided: a committed one is the current version.
+    fn settle(self, row: Row) -> Row
+        ensures { result ≡ decided (is_commit self) row }
+    {
+        let rest = Row {
+            token: 0,
+            tokenend: 0,
+            tokenaction: 0,
+            ..row
+        };
+        match self {
+            Verdict::Commit => Row {
+                current: row.token,
+                currentend: row.tokenend,
+                ..rest
+            },
+            Verdict::Abort => rest,
+        }
+    }
+}
+
+// A decision: of which action, whether that has an opening, and how it is decided.
 #[derive(Clone, Copy)]
 struct Decision {
     action: u64,
     opened: bool,
-    committed: bool,
+    verdict: Verdict,
 }
 
 // Whether a place up to the end holds a sealed image of the file under the action.
@@ -73,30 +123,10 @@ fn is_token_at(
     decision.opened
 }
 
-// A row whose token is decided: a committed one is the current version.
-fn decided_row(row: Row, committed: bool) -> Row
-    ensures { result ≡ decided committed row }
-{
-    let mut current = row.current;
-    let mut currentend = row.currentend;
-    if committed {
-        current = row.token;
-        currentend = row.tokenend;
-    }
-    Row {
-        mark: row.mark,
-        current,
-        currentend,
-        token: 0,
-        tokenend: 0,
-        tokenaction: 0,
-    }
-}
-
 // The row of a file that names the action, settled where its token is the action's.
 fn settle_row(sheet: &[u8], rows: &mut [u64], end: u64, files: u64, file: u64, decision: Decision)
     requires { (decision.opened ≡ is_opening (decoded files sheet.now decision.action)) × (is_rebuilt_for decision.action (row_of rows.old file) ≡ true) }
-    ensures { rows.new ≡ settled_row sheet.now files end decision.action decision.committed file rows.old }
+    ensures { rows.new ≡ settled_row sheet.now files end decision.action (is_commit decision.verdict) file rows.old }
 {
     let token = row_of(&rows[..], file).token;
     if !is_token_at(sheet, end, files, file, token, decision) {
@@ -104,13 +134,13 @@ fn settle_row(sheet: &[u8], rows: &mut [u64], end: u64, files: u64, file: u64, d
     }
     // Read now, so that the numbers need not be kept during the look at the page.
     let row = row_of(&rows[..], file);
-    set_row(rows, file, decided_row(row, decision.committed));
+    set_row(rows, file, decision.verdict.settle(row));
 }
 
 // Every row, settled. A row that does not name the action costs no look at a page, and the action's opening is looked at once for all.
 fn settle_rows(sheet: &[u8], rows: &mut [u64], end: u64, files: u64, decision: Decision)
     requires { (row_length * (length rows.old / row_length) ≡ length rows.old) × (files ≡ length rows.old / row_length) × (decision.opened ≡ is_opening (decoded files sheet.now decision.action)) }
-    ensures { rows.new ≡ settled_rows sheet.now files end decision.action decision.committed rows.old }
+    ensures { rows.new ≡ settled_rows sheet.now files end decision.action (is_commit decision.verdict) rows.old }
 {
     let mut file: u64 = 0;
     loop {
@@ -123,48 +153,19 @@ fn settle_rows(sheet: &[u8], rows: &mut [u64], end: u64, files: u64, decision: D
     }
 }
 
-// The commit record, 1, or the abort record, 2, of an action.
-fn outcome_page(action: u64, committed: bool) -> Page
-    ensures { result ≡ outcome action (cond committed 1 2) }
-{
-    if committed {
-        return Page::outcome(action, 1);
-    }
-    Page::outcome(action, 2)
-}
-
-// The fate that an outcome gives its action.
-fn outcome_fate(committed: bool) -> u8
-    ensures { result ≡ fate_number (verdict committed) }
-{
-    if committed {
-        return 2;
-    }
-    3
-}
-
-// One less, and 0 for 0: the open count is lent, so it may be too low.
-fn less_one(n: u64) -> u64
-    ensures { result ≡ pred n }
-{
-    if n == 0 {
-        return 0;
-    }
-    n - 1
-}
-
 // A decision of an action that is decided already: the same one is answered with the place of its outcome, and the other refused.
+#[tactic(auto, unfolding(calls::specs::DecideSteps::decided_again))]
 fn decided_again(
     sheet: &[u8],
     fates: &[u8],
     files: u64,
     state: State,
     action: u64,
-    committed: bool,
+    verdict: Verdict,
 ) -> Done
-    ensures { result ≡ decided_again sheet.now fates.now files state action committed }
+    ensures { result ≡ decided_again sheet.now fates.now files state action (is_commit verdict) }
 {
-    if fate_at(fates, action) != outcome_fate(committed) as u64 {
+    if fate_at(fates, action) != u64::from(verdict.fate()) {
         return refuse(Refusal::AlreadyDecided, state);
     }
     Done {
@@ -181,36 +182,36 @@ fn decide(
     rows: &mut [u64],
     state: State,
     action: u64,
-    committed: bool,
+    verdict: Verdict,
 ) -> Done
-    ensures { left_by result sheet.new fates.new rows.new ≡ call_leaves sheet.old fates.old rows.old state (Call.decide action committed) }
+    ensures { left_by result sheet.new fates.new rows.new ≡ call_leaves sheet.old fates.old rows.old state (Call.decide action (is_commit verdict)) }
 {
     let files = file_count(rows.len());
     if let Err(why) = decide_line(&sheet[..], &fates[..], &rows[..], state, action) {
         return match why {
             Refusal::AlreadyDecided => {
-                decided_again(&sheet[..], &fates[..], files, state, action, committed)
+                decided_again(&sheet[..], &fates[..], files, state, action, verdict)
             }
             _ => refuse(why, state),
         };
     }
     let end = state.end;
-    let opened = is_opening_at(&sheet[..], action, files);
     let decision = Decision {
         action,
-        opened,
-        committed,
+        opened: is_opening_at(&sheet[..], action, files),
+        verdict,
     };
     settle_rows(&sheet[..], rows, end, files, decision);
-    let page = outcome_page(action, committed);
+    let page = verdict.page(action);
     append(sheet, end, files, page, &[0u8; Page::VALUE_SIZE]);
-    fates[action as usize - 1] = outcome_fate(committed);
+    fates[action as usize - 1] = verdict.fate();
     Done {
         answer: Answer::Stored(end + 1),
         state: State {
             end: end + 1,
-            floor: state.floor,
-            undecided: less_one(state.undecided),
+            // The open count is lent, so it may be too low.
+            undecided: state.undecided.saturating_sub(1),
+            ..state
         },
     }
 }
@@ -225,7 +226,7 @@ pub fn commit(
 ) -> Done
     ensures { left_by result sheet.new fates.new rows.new ≡ call_leaves sheet.old fates.old rows.old state (Call.decide action true) }
 {
-    decide(sheet, fates, rows, state, action, true)
+    decide(sheet, fates, rows, state, action, Verdict::Commit)
 }
 
 // Aborts an action; answers the place of its outcome.
@@ -238,5 +239,5 @@ pub fn abort(
 ) -> Done
     ensures { left_by result sheet.new fates.new rows.new ≡ call_leaves sheet.old fates.old rows.old state (Call.decide action false) }
 {
-    decide(sheet, fates, rows, state, action, false)
+    decide(sheet, fates, rows, state, action, Verdict::Abort)
 }

@@ -11,7 +11,7 @@ use Rattle.recovery.specs.Places.{nth, put}
 use Rattle.recovery.specs.Log.{blank, Placed}
 use Rattle.recovery.specs.Sheet.{page_bytes, image_from}
 use Rattle.recovery.specs.declared.Refusal.{Refusal}
-use Rattle.recovery.specs.declared.Refusal.TheVariants.{NoFile, DamagedRow, HangingRead}
+use Rattle.recovery.specs.declared.Refusal.TheVariants.{WrongSizes, NoFile, DamagedRow, HangingRead}
 use Rattle.recovery.specs.declared.Row.{Row}
 use Rattle.recovery.specs.declared.State.{State}
 use Rattle.recovery.specs.declared.Answer.{Answer}
@@ -24,12 +24,13 @@ use Rattle.recovery.proofs.FlatRows.{rows_long}
 use Rattle.calls.specs.Walk.{Walk, met, nothing, early, lost, images_below, follow}
 use Rattle.calls.specs.Calls.{read, on, on_read, on_token, answer_walk, image_of, read_current, read_token}
 use Rattle.calls.specs.Leaves.{call_leaves}
-use Rattle.std.specs.Prelude.{Err}
+use Rattle.std.specs.Prelude.{cond, Err, Ok}
 use Rattle.calls.specs.LineSteps.{free}
-use Rattle.calls.specs.ReadSteps.{read_line, image_by, Looked, walk_answer, carried_in, walk_at}
+use Rattle.calls.specs.ReadSteps.{read_line, may_read, image_by, Looked, walk_answer, carried_in, walk_at}
 use Rattle.reading.specs.declared.Reading.{Reading}
 use Rattle.reading.specs.WarmReads.{world, Versions, Reads}
-use Rattle.calls.proofs.Ends.{ends_same, ends_row}
+use Rattle.calls.proofs.Ends.{ends_line_1, ends_same, ends_row}
+use Rattle.encoding.proofs.Logic.{clash}
 use Rattle.calls.proofs.ActionLines.{by_line, read_by}
 use Rattle.calls.proofs.ReadImages.{met_at, RowHeld, looked_token}
 use Rattle.calls.proofs.LinkByLink.{reached}
@@ -142,3 +143,31 @@ module _ (s fs rs : List ℕ) (st : State) (h : line_one (length s) (length fs) 
           ∙ rd.is fs (put (rows_of rs) f r) st.floor st.undecided (put_twice (rows_of rs) f r r)
           ∙ ap (λ (q : List Row). (x.answer, record { sheet = w.sheet; fates = fs; rows = q; end = st.end; floor = st.floor; undecided = st.undecided })) (put_twice (rows_of rs) f r x.row) in
           ends_row s fs rs st (read f t a) h f x.row x.answer o g ys (hy ∙ put_over s fs rs st h f g r xs wm x.row)
+
+-- ---- the lines before 7
+
+module _ (s fs rs : List ℕ) (st : State) (f a : ℕ) where
+  pub record MayRead : Type 0 where
+    pub fits : line_one (length s) (length fs) (length rs) st.end st.undecided ≡ true
+    pub file : is_file (length rs / row_length) f ≡ true
+    pub acts : read_line fs st.end a ≡ free
+
+  pub allowed : free ≡ may_read s fs rs st f a → MayRead
+  unfolding may_read
+  allowed e = go (line_one (length s) (length fs) (length rs) st.end st.undecided) refl (is_file (length rs / row_length) f) refl e
+    where
+      go : (b : Bool) → line_one (length s) (length fs) (length rs) st.end st.undecided ≡ b → (c : Bool) → is_file (length rs / row_length) f ≡ c
+          → free ≡ cond b (cond c (read_line fs st.end a) (Err NoFile)) (Err WrongSizes) → MayRead
+      go false h c g q = clash cc
+      go true h false g q = clash cc
+      go true h true g q = record { fits = h; file = g; acts = sym q }
+
+  pub read_no : (t : ℕ) (n : Refusal) → Err n ≡ may_read s fs rs st f a → refused n 0 s fs rs st ≡ call_leaves s fs rs st (read f t a)
+  unfolding may_read
+  read_no t n e = go (line_one (length s) (length fs) (length rs) st.end st.undecided) refl (is_file (length rs / row_length) f) refl e
+    where
+      go : (b : Bool) → line_one (length s) (length fs) (length rs) st.end st.undecided ≡ b → (c : Bool) → is_file (length rs / row_length) f ≡ c
+          → Err n ≡ cond b (cond c (read_line fs st.end a) (Err NoFile)) (Err WrongSizes) → refused n 0 s fs rs st ≡ call_leaves s fs rs st (read f t a)
+      go false h c g q = let z : n ≡ WrongSizes = cc in rw z (ends_line_1 s fs rs st (read f t a) h)
+      go true h false g q = let z : n ≡ NoFile = cc in rw z (read_3 s fs rs st h f t a g)
+      go true h true g q = read_56 s fs rs st h f t a g n q

@@ -2,14 +2,12 @@
 #![tactic(auto)]
 
 ghost use Rattle.std.specs.Prelude.{true, false, ◌≡◌, ◌/◌, length, Some};
-ghost use Rattle.recovery.specs.World.{is_file};
-ghost use Rattle.recovery.specs.Lent.{left_by, row_length};
-ghost use Rattle.recovery.specs.Steps.{line_one, sealed_image};
+ghost use Rattle.recovery.specs.Lent.{left_by};
+ghost use Rattle.recovery.specs.Steps.{sealed_image};
 ghost use Rattle.calls.specs.Calls.{Call, read_current, read_token};
 ghost use Rattle.calls.specs.Walk.{none_below};
 ghost use Rattle.calls.specs.Leaves.{call_leaves};
-ghost use Rattle.calls.specs.LineSteps.{free};
-ghost use Rattle.calls.specs.ReadSteps.{read_line, walk_answer, walk_at, Looked};
+ghost use Rattle.calls.specs.ReadSteps.{read_line, may_read, walk_answer, walk_at, Looked};
 ghost use Rattle.reading.specs.WarmReads.{Versions, Reads};
 
 use calls::action_line;
@@ -73,7 +71,7 @@ fn walk(sheet: &[u8], from: u64, files: u64, file: u64, time: u64, first: Page) 
         if x.start <= time {
             return Answer::Value(place, x.start, x.small);
         }
-        carried = carried | is_carried_at(sheet, x.action, files);
+        carried |= is_carried_at(sheet, x.action, files);
         let next = x.link;
         if next == 0 {
             return none_below(carried);
@@ -154,27 +152,25 @@ fn read_row(
     }
 }
 
-// Read, where no line before 7 refuses.
-fn read_warm(
+// Lines 1, 3, 5 and 6 of read.
+#[tactic(auto, unfolding(calls::specs::ReadSteps::may_read))]
+fn may_read(
     sheet: &[u8],
     fates: &[u8],
-    rows: &mut [u64],
+    rows: &[u64],
     state: State,
     file: u64,
-    time: u64,
     action: u64,
-) -> Done
-    requires { (line_one (length sheet.now) (length fates.now) (length rows.old) state.end state.undecided ≡ true) × (is_file (length rows.old / row_length) file ≡ true) × (read_line fates.now state.end action ≡ free) }
-    ensures { left_by result sheet.now fates.now rows.new ≡ call_leaves sheet.now fates.now rows.old state (Call.read file time action) }
+) -> Result<(), Refusal>
+    ensures { result ≡ may_read sheet.now fates.now rows.now state file action }
 {
-    let end = state.end;
-    let files = file_count(rows.len());
-    let row = warm_row(sheet, fates, rows, end, file);
-    let reading = read_row(sheet, end, files, file, time, action, row);
-    let new = reading.row;
-    set_row(rows, file, new);
-    let answer = reading.answer;
-    Done { answer, state }
+    if !is_lent_right(sheet.len(), fates.len(), rows.len(), state) {
+        return Err(Refusal::WrongSizes);
+    }
+    if !has_file(rows.len(), file) {
+        return Err(Refusal::NoFile);
+    }
+    read_line(fates, state.end, action)
 }
 
 // Reads a file at a time, for an action or, with action 0, for none.
@@ -189,14 +185,15 @@ pub fn read(
 ) -> Done
     ensures { left_by result sheet.now fates.now rows.new ≡ call_leaves sheet.now fates.now rows.old state (Call.read file time action) }
 {
-    if !is_lent_right(sheet.len(), fates.len(), rows.len(), state) {
-        return refuse(Refusal::WrongSizes, state);
-    }
-    if !has_file(rows.len(), file) {
-        return refuse(Refusal::NoFile, state);
-    }
-    if let Err(why) = read_line(fates, state.end, action) {
+    if let Err(why) = may_read(sheet, fates, &rows[..], state, file, action) {
         return refuse(why, state);
     }
-    read_warm(sheet, fates, rows, state, file, time, action)
+    let files = file_count(rows.len());
+    let row = warm_row(sheet, fates, rows, state.end, file);
+    let reading = read_row(sheet, state.end, files, file, time, action, row);
+    set_row(rows, file, reading.row);
+    Done {
+        answer: reading.answer,
+        state,
+    }
 }

@@ -5,13 +5,10 @@ mod beginning;
 
 ghost use Rattle.std.specs.Prelude.{true, ◌≡◌, ◌/◌, ◌≤◌, length};
 ghost use Rattle.page.specs.Layout.{page_size, value_size};
-ghost use Rattle.recovery.specs.World.{is_file};
-ghost use Rattle.recovery.specs.Lent.{left_by, row_length};
-ghost use Rattle.recovery.specs.Steps.{line_one};
+ghost use Rattle.recovery.specs.Lent.{left_by};
 ghost use Rattle.calls.specs.Calls.{Call, is_free_for, written_end, written};
 ghost use Rattle.calls.specs.Leaves.{call_leaves, padded};
-ghost use Rattle.calls.specs.LineSteps.{free, action_line};
-ghost use Rattle.calls.specs.ReadSteps.{store_line, write_answer};
+ghost use Rattle.calls.specs.ReadSteps.{may_write, store_line, write_answer};
 
 pub use beginning::begin;
 use calls::{action_line, append, room_line};
@@ -28,11 +25,7 @@ fn pad(value: &[u8]) -> [u8; Page::VALUE_SIZE]
     ensures { result ≡ padded value.now }
 {
     let mut bytes = [0u8; Page::VALUE_SIZE];
-    let mut i = 0;
-    while i < value.len() {
-        bytes[i] = value[i];
-        i += 1;
-    }
+    bytes[..value.len()].copy_from_slice(value);
     bytes
 }
 
@@ -98,51 +91,38 @@ fn written_end(row: Row, start: u64) -> u64
 fn written_row(row: Row, place: u64, start: u64, action: u64) -> Row
     ensures { result ≡ written row place start action }
 {
-    let tokenend = written_end(row, start);
     Row {
         mark: 1,
-        current: row.current,
-        currentend: row.currentend,
         token: place,
-        tokenend,
+        tokenend: written_end(row, start),
         tokenaction: action,
+        ..row
     }
 }
 
-// Write, where no line before 7 refuses.
-fn write_warm(
-    sheet: &mut [u8],
+// Lines 1 and 3 to 6 of write.
+#[tactic(auto, unfolding(calls::specs::ReadSteps::may_write))]
+fn may_write(
+    sheet: &[u8],
     fates: &[u8],
-    rows: &mut [u64],
+    rows: &[u64],
     state: State,
     file: u64,
-    start: u64,
     action: u64,
     value: &[u8],
-) -> Done
-    requires { (line_one (length sheet.old) (length fates.now) (length rows.old) state.end state.undecided ≡ true) × (is_file (length rows.old / row_length) file ≡ true) × (length value.now ≤ value_size) × (action_line fates.now state.end action ≡ free) }
-    ensures { left_by result sheet.new fates.now rows.new ≡ call_leaves sheet.old fates.now rows.old state (Call.write file start action value.now) }
+) -> Result<(), Refusal>
+    ensures { result ≡ may_write sheet.now fates.now rows.now state file action value.now }
 {
-    // First, so that these stores are done when the page is written from them.
-    let bytes = pad(value);
-    let end = state.end;
-    let files = file_count(rows.len());
-    let row = warm_row(&sheet[..], fates, rows, end, file);
-    let answer = write_answer(&sheet[..], state, files, file, start, action, row);
-    let Answer::Stored(place) = answer else {
-        return Done { answer, state };
-    };
-    set_row(rows, file, written_row(row, place, start, action));
-    let page = Page::image(value.len() as u64, file, action, row.current, start);
-    append(sheet, end, files, page, &bytes);
-    Done {
-        answer: Answer::Stored(place),
-        state: State {
-            end: place,
-            floor: state.floor,
-            undecided: state.undecided,
-        },
+    if !is_lent_right(sheet.len(), fates.len(), rows.len(), state) {
+        return Err(Refusal::WrongSizes);
     }
+    if !has_file(rows.len(), file) {
+        return Err(Refusal::NoFile);
+    }
+    if Page::VALUE_SIZE < value.len() {
+        return Err(Refusal::LongValue);
+    }
+    action_line(fates, state.end, action)
 }
 
 // Writes a value of a file under an action.
@@ -158,17 +138,25 @@ pub fn write(
 ) -> Done
     ensures { left_by result sheet.new fates.now rows.new ≡ call_leaves sheet.old fates.now rows.old state (Call.write file start action value.now) }
 {
-    if !is_lent_right(sheet.len(), fates.len(), rows.len(), state) {
-        return refuse(Refusal::WrongSizes, state);
-    }
-    if !has_file(rows.len(), file) {
-        return refuse(Refusal::NoFile, state);
-    }
-    if Page::VALUE_SIZE < value.len() {
-        return refuse(Refusal::LongValue, state);
-    }
-    if let Err(why) = action_line(fates, state.end, action) {
+    if let Err(why) = may_write(&sheet[..], fates, &rows[..], state, file, action, value) {
         return refuse(why, state);
     }
-    write_warm(sheet, fates, rows, state, file, start, action, value)
+    // First, so that these stores are done when the page is written from them.
+    let bytes = pad(value);
+    let files = file_count(rows.len());
+    let row = warm_row(&sheet[..], fates, rows, state.end, file);
+    let answer = write_answer(&sheet[..], state, files, file, start, action, row);
+    let Answer::Stored(place) = answer else {
+        return Done { answer, state };
+    };
+    set_row(rows, file, written_row(row, place, start, action));
+    let page = Page::image(value.len() as u64, file, action, row.current, start);
+    append(sheet, state.end, files, page, &bytes);
+    Done {
+        answer,
+        state: State {
+            end: place,
+            ..state
+        },
+    }
 }

@@ -9,9 +9,11 @@ use Rattle.recovery.specs.declared.Refusal.TheVariants.{AlreadyDecided}
 use Rattle.recovery.specs.declared.State.{State}
 use Rattle.calls.specs.DecideSteps.{decide_line}
 use native.Mathlib.Omega.{arith}
+use native.Mathlib.Numerals.{sub-one}
 use Rattle.calls.proofs.Appends.{appended_is}
 use Rattle.calls.proofs.DecideEnds.{Ready, ready, decide_again, decide_refused, end_low, rows_whole, outcome_asked, decide_done}
 use Rattle.calls.proofs.Ends.{by_refuse}
+use Rattle.deciding.specs.Verdicts.{is_commit}
 use Rattle.deciding.proofs.decide.Goals as goal
 
 -- what the lines let through
@@ -32,7 +34,7 @@ pub settle_rows-requires : goal.settle_rows-requires
 settle_rows-requires c =
     let known = known_by (sym c.in_default.is ∙ c.decide_line.ensures) in
     let a = c.args in
-    (rows_whole a.sheet.now a.fates.now a.rows.now a.state a.action a.committed known, c.file_count-files.ensures, c.is_opening_at-opened.ensures)
+    (rows_whole a.sheet.now a.fates.now a.rows.now a.state a.action (is_commit a.verdict) known, c.file_count-files.ensures, c.is_opening_at.ensures)
 
 pub overflow_sub-fates : goal.overflow_sub-fates
 overflow_sub-fates c =
@@ -47,15 +49,15 @@ bounds-fates-action c =
 pub overflow_add-result : goal.overflow_add-result
 overflow_add-result c =
     let known = known_by (sym c.in_default.is ∙ c.decide_line.ensures) in
-    omega (arith, end_low _ _ _ _ _ c.args.committed known)
+    omega (arith, end_low _ _ _ _ _ (is_commit c.args.verdict) known)
 
 pub overflow_add-result-2 : goal.overflow_add-result-2
 overflow_add-result-2 c =
     let known = known_by (sym c.in_default.is ∙ c.decide_line.ensures) in
-    omega (arith, end_low _ _ _ _ _ c.args.committed known)
+    omega (arith, end_low _ _ _ _ _ (is_commit c.args.verdict) known)
 
 pub returns : goal.returns
 returns c =
     let known = known_by (sym c.in_default.is ∙ c.decide_line.ensures) in
     let a = c.args in
-    decide_done _ _ _ _ _ _ known _ c.outcome_page-page.ensures _ _ _ _ (c.append.ensures ∙ appended_is _ _ _ _ _ (rw c.file_count-files.ensures (outcome_asked a.sheet.now a.fates.now a.rows.now a.state a.action a.committed known _ c.outcome_page-page.ensures))) c.outcome_fate.ensures (rw c.file_count-files.ensures at c.settle_rows.ensures) c.less_one.ensures
+    decide_done _ _ _ _ _ _ known _ c.page-page.ensures _ _ _ _ (c.append.ensures ∙ appended_is _ _ _ _ _ (rw c.file_count-files.ensures (outcome_asked a.sheet.now a.fates.now a.rows.now a.state a.action (is_commit a.verdict) known _ c.page-page.ensures))) c.fate.ensures (rw c.file_count-files.ensures at c.settle_rows.ensures) (c.saturating_sub.ensures ∙ sub-one c.args.state.undecided)

@@ -3,6 +3,7 @@ use mathlib.Core.Path.{ap, ◌∙◌}
 use Rattle.recovery.specs.declared.Row.{Row}
 use Rattle.calls.specs.Calls.{decided}
 use Rattle.calls.proofs.DecideRows.{row_same, row_decided}
+use Rattle.deciding.specs.Verdicts.{is_commit}
 use Rattle.deciding.proofs.settle_row.Goals as goal
 
 pub returns-then-not-is_token_at : goal.returns-then-not-is_token_at
@@ -12,4 +13,4 @@ returns-then-not-is_token_at c =
 pub returns : goal.returns
 returns c =
     row_decided _ _ _ _ _ _ _ c.requires.1 _ (ap (λ (c : Row). c.token) c.row_of-token.ensures) _ c.is_token_at.ensures c.if-not-is_token_at.false
-    _ (c.decided_row.ensures ∙ ap (decided c.args.decision.committed) c.row_of-row.ensures) _ c.set_row.ensures
+    _ (c.settle.ensures ∙ ap (decided (is_commit c.args.decision.verdict)) c.row_of-row.ensures) _ c.set_row.ensures

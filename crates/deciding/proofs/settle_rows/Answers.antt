@@ -6,31 +6,32 @@ use native.Mathlib.Numerals.{add-one}
 use mathlib.Core.Path.{◌∙◌, ap}
 use Rattle.calls.proofs.DecideRows.{run_long, run_none, reached, run_more, run_all}
 use borrow.Author.Rules.{rules}
+use Rattle.deciding.specs.Verdicts.{is_commit}
 use Rattle.deciding.proofs.settle_rows.Goals as goal
 
 pub loop-file-init : goal.loop-file-init
 loop-file-init c =
-    (search rules, run_none c.args.sheet.now c.args.files c.args.end c.args.decision.action c.args.decision.committed c.args.rows.now c.requires.0)
+    (search rules, run_none c.args.sheet.now c.args.files c.args.end c.args.decision.action (is_commit c.args.decision.verdict) c.args.rows.now c.requires.0)
 
 pub shape_of-rows-then-files-file : goal.shape_of-rows-then-files-file
 shape_of-rows-then-files-file c = ap length c.loop-file.invariant.1 ∙ run_long _ _ _ _ _ _ c.requires.0 _
 
 pub returns-then-files-file : goal.returns-then-files-file
 returns-then-files-file c =
-    let here = reached c.args.sheet.now c.args.files c.args.end c.args.decision.action c.args.decision.committed c.args.rows.now c.requires.0 c.loop-file.rows c.loop-file.file _ (omega (arith, c.requires, c.loop-file.invariant.0)) c.loop-file.invariant.1 c.next_named-file.ensures in
-    run_all c.args.sheet.now c.args.files c.args.end c.args.decision.action c.args.decision.committed c.args.rows.now c.next_named-file.result _ here.most (omega (arith, c.requires, c.if-files-file.true)) here.run
+    let here = reached c.args.sheet.now c.args.files c.args.end c.args.decision.action (is_commit c.args.decision.verdict) c.args.rows.now c.requires.0 c.loop-file.rows c.loop-file.file _ (omega (arith, c.requires, c.loop-file.invariant.0)) c.loop-file.invariant.1 c.next_named-file.ensures in
+    run_all c.args.sheet.now c.args.files c.args.end c.args.decision.action (is_commit c.args.decision.verdict) c.args.rows.now c.next_named-file.result _ here.most (omega (arith, c.requires, c.if-files-file.true)) here.run
 
 pub settle_row-requires : goal.settle_row-requires
 settle_row-requires c =
-    let here = reached c.args.sheet.now c.args.files c.args.end c.args.decision.action c.args.decision.committed c.args.rows.now c.requires.0 c.loop-file.rows c.loop-file.file _ (omega (arith, c.requires, c.loop-file.invariant.0)) c.loop-file.invariant.1 c.next_named-file.ensures in
+    let here = reached c.args.sheet.now c.args.files c.args.end c.args.decision.action (is_commit c.args.decision.verdict) c.args.rows.now c.requires.0 c.loop-file.rows c.loop-file.file _ (omega (arith, c.requires, c.loop-file.invariant.0)) c.loop-file.invariant.1 c.next_named-file.ensures in
     (c.requires.2, rw add-one (here.names (omega (arith, c.requires, c.if-files-file.false))))
 
 pub loop-file-smaller : goal.loop-file-smaller
 loop-file-smaller c =
-    let here = reached c.args.sheet.now c.args.files c.args.end c.args.decision.action c.args.decision.committed c.args.rows.now c.requires.0 c.loop-file.rows c.loop-file.file _ (omega (arith, c.requires, c.loop-file.invariant.0)) c.loop-file.invariant.1 c.next_named-file.ensures in
+    let here = reached c.args.sheet.now c.args.files c.args.end c.args.decision.action (is_commit c.args.decision.verdict) c.args.rows.now c.requires.0 c.loop-file.rows c.loop-file.file _ (omega (arith, c.requires, c.loop-file.invariant.0)) c.loop-file.invariant.1 c.next_named-file.ensures in
     omega (arith, here.up, c.if-files-file.false)
 
 pub loop-file-preserved : goal.loop-file-preserved
 loop-file-preserved c =
-    let here = reached c.args.sheet.now c.args.files c.args.end c.args.decision.action c.args.decision.committed c.args.rows.now c.requires.0 c.loop-file.rows c.loop-file.file _ (omega (arith, c.requires, c.loop-file.invariant.0)) c.loop-file.invariant.1 c.next_named-file.ensures in
-    (omega (arith, c.if-files-file.false), run_more c.args.sheet.now c.args.files c.args.end c.args.decision.action c.args.decision.committed c.args.rows.now c.next_named-file.result (omega (arith, c.requires, c.if-files-file.false)) _ _ here.run c.settle_row.ensures)
+    let here = reached c.args.sheet.now c.args.files c.args.end c.args.decision.action (is_commit c.args.decision.verdict) c.args.rows.now c.requires.0 c.loop-file.rows c.loop-file.file _ (omega (arith, c.requires, c.loop-file.invariant.0)) c.loop-file.invariant.1 c.next_named-file.ensures in
+    (omega (arith, c.if-files-file.false), run_more c.args.sheet.now c.args.files c.args.end c.args.decision.action (is_commit c.args.decision.verdict) c.args.rows.now c.next_named-file.result (omega (arith, c.requires, c.if-files-file.false)) _ _ here.run c.settle_row.ensures)

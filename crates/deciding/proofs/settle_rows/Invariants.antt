@@ -3,10 +3,11 @@
 use mathlib.Core.Path.{◌≡◌}
 use Prim.Native.Nat.{◌≤◌, ◌-◌}
 use Rattle.calls.proofs.DecideRows.{run_to}
+use Rattle.deciding.specs.Verdicts.{is_commit}
 use Rattle.deciding.proofs.settle_rows.Given as goal
 
 abbrev pub invariant-loop-file : goal.invariant-loop-file
-invariant-loop-file l = (l.file ≤ l.files) × (l.rows ≡ run_to l.sheet l.files l.end l.decision.action l.decision.committed l.initial.rows l.file)
+invariant-loop-file l = (l.file ≤ l.files) × (l.rows ≡ run_to l.sheet l.files l.end l.decision.action (is_commit l.decision.verdict) l.initial.rows l.file)
 
 abbrev pub decreases-loop-file : goal.decreases-loop-file
 decreases-loop-file l = l.files - l.file

@@ -1,30 +1,38 @@
--- `writing::write`: lines 1, 3, 4, 5 and 6, and the rest on a warm row. Assumes nothing.
+-- `writing::write`: a line before 7 refuses, a refusal on a warm row, or the page and the row written. Assumes nothing.
 use mathlib.Core.Path.{sym, ◌∙◌}
-use Rattle.encoding.proofs.Logic.{refused, passed}
-use Rattle.calls.specs.Calls.{write}
-use Rattle.calls.proofs.WriteEnds.{write_3, write_4, write_56}
-use Rattle.calls.proofs.Ends.{by_refuse, ends_line_1}
+use lib.ListN.{length}
+use native.Mathlib.Omega.{arith}
+use Rattle.calls.proofs.Appends.{appended_is}
+use Rattle.calls.proofs.WriteEnds.{allowed, write_no, write_refused, append_asked, write_done}
+use Rattle.calls.proofs.Ends.{lent_is, by_refuse}
 use Rattle.writing.proofs.write.Goals as goal
 
-pub returns-then-not-is_lent_right : goal.returns-then-not-is_lent_right
-returns-then-not-is_lent_right c =
-    let a = c.args in
-    by_refuse _ _ _ _ _ _ c.refuse.ensures (ends_line_1 a.sheet.now a.fates.now a.rows.now a.state (write a.file a.start a.action a.value.now) (refused c.is_lent_right.ensures c.if-not-is_lent_right.true))
-
-pub returns-then-not-has_file : goal.returns-then-not-has_file
-returns-then-not-has_file c =
-    let a = c.args in
-    by_refuse _ _ _ _ _ _ c.refuse-then-not-has_file.ensures (write_3 a.sheet.now a.fates.now a.rows.now a.state (passed c.is_lent_right.ensures c.if-not-is_lent_right.false) a.file a.start a.action a.value.now (refused c.has_file.ensures c.if-not-has_file.true))
-
-pub returns-then-value-gt-VALUE_SIZE : goal.returns-then-value-gt-VALUE_SIZE
-returns-then-value-gt-VALUE_SIZE c =
-    let a = c.args in
-    by_refuse _ _ _ _ _ _ c.refuse-then-value-gt-VALUE_SIZE.ensures (write_4 a.sheet.now a.fates.now a.rows.now a.state (passed c.is_lent_right.ensures c.if-not-is_lent_right.false) a.file a.start a.action a.value.now (passed c.has_file.ensures c.if-not-has_file.false) c.if-value-gt-VALUE_SIZE.true)
-
 pub returns-in-Err : goal.returns-in-Err
-returns-in-Err c =
-    let a = c.args in
-    by_refuse _ _ _ _ _ _ c.refuse-in-Err.ensures (write_56 a.sheet.now a.fates.now a.rows.now a.state (passed c.is_lent_right.ensures c.if-not-is_lent_right.false) a.file a.start a.action a.value.now (passed c.has_file.ensures c.if-not-has_file.false) c.if-value-gt-VALUE_SIZE.false _ (sym c.in-Err.is ∙ c.action_line.ensures))
+returns-in-Err c = by_refuse _ _ _ _ _ _ c.refuse.ensures (write_no _ _ _ _ _ _ _ _ _ (sym c.in-Err.is ∙ c.may_write.ensures))
 
-pub write_warm-requires : goal.write_warm-requires
-write_warm-requires c = (passed c.is_lent_right.ensures c.if-not-is_lent_right.false, passed c.has_file.ensures c.if-not-has_file.false, c.if-value-gt-VALUE_SIZE.false, sym c.action_line.ensures ∙ c.in_default.is)
+pub pad-bytes-requires : goal.pad-bytes-requires
+pad-bytes-requires c =
+    let a = c.args in
+    (allowed a.sheet.now a.fates.now a.rows.now a.state a.file a.action a.value.now (sym c.in_default.is ∙ c.may_write.ensures)).short
+
+pub write_answer-answer-requires : goal.write_answer-answer-requires
+write_answer-answer-requires c =
+    let a = c.args in
+    let m = allowed a.sheet.now a.fates.now a.rows.now a.state a.file a.action a.value.now (sym c.in_default.is ∙ c.may_write.ensures) in
+    let k = lent_is (length a.sheet.now) (length a.fates.now) (length a.rows.now) a.state.end a.state.undecided m.fits in
+    (k.end_in, k.few)
+
+pub returns-in_default-answer : goal.returns-in_default-answer
+returns-in_default-answer c =
+    let a = c.args in
+    let m = allowed a.sheet.now a.fates.now a.rows.now a.state a.file a.action a.value.now (sym c.in_default.is ∙ c.may_write.ensures) in
+    write_refused a.sheet.now a.fates.now a.rows.now a.state m.fits a.file a.start a.action a.value.now m.file m.short m.acts _ _ c.warm_row-row.ensures c.write_answer-answer.result (rw c.file_count-files.ensures at c.write_answer-answer.ensures) c.in_default-answer.not-Stored
+
+pub shape_of-rows : goal.shape_of-rows
+shape_of-rows c = omega (arith, c.set_row.auto, c.warm_row-row.auto)
+
+pub returns : goal.returns
+returns c =
+    let a = c.args in
+    let m = allowed a.sheet.now a.fates.now a.rows.now a.state a.file a.action a.value.now (sym c.in_default.is ∙ c.may_write.ensures) in
+    write_done a.sheet.now a.fates.now a.rows.now a.state m.fits a.file a.start a.action a.value.now m.file m.short m.acts _ _ c.warm_row-row.ensures _ (rw c.file_count-files.ensures at (sym c.in-Stored.is ∙ c.write_answer-answer.ensures)) _ c.image-page.ensures _ c.written_row.ensures _ _ _ c.pad-bytes.ensures (c.append.ensures ∙ appended_is _ _ _ _ _ (rw c.file_count-files.ensures (append_asked a.sheet.now a.fates.now a.rows.now a.state m.fits a.file a.start a.action a.value.now m.file m.short m.acts _ _ c.warm_row-row.ensures _ (rw c.file_count-files.ensures at (sym c.in-Stored.is ∙ c.write_answer-answer.ensures)) c.ranges.start.fits _ c.image-page.ensures _ c.pad-bytes.ensures))) c.set_row.ensures
