@@ -13,6 +13,7 @@ ghost use Rattle.harness.specs.Counts.{fields, found, written, counted, fits_at,
 
 use inspection::InspectError;
 use page::{PackError, Page, Unpacked};
+use recovery::View;
 
 fn one_if_fields(u: Unpacked) -> u64
     ensures { result ≡ fields u }
@@ -98,7 +99,7 @@ pub extern "C" fn bench_pack(sheet: &mut [u8], files: u64, size: u64, value: &[u
 pub extern "C" fn bench_walk(sheet: &[u8], fates: &[u8], files: u64, file: u64, end: u64) -> u64
     ensures { result ≡ (row_from_pages sheet.now fates.now files file end).current }
 {
-    let row = rebuilding::rebuilt_row(sheet, fates, end, files, file);
+    let row = rebuilding::rebuilt_row(View { sheet, files }, fates, end, file);
     row.current
 }
 
