@@ -90,66 +90,63 @@ impl Verdict {
     }
 }
 
-// A decision: of which action, whether that has an opening, and how it is decided.
+// A decision on an open sheet: of which action, whether that has an opening, and how it is decided.
 #[derive(Clone, Copy)]
-struct Decision {
+struct Decision<'a> {
+    sheet: &'a [u8],
+    end: u64,
+    files: u64,
     action: u64,
     opened: bool,
     verdict: Verdict,
+    ghost opened_is: { opened ≡ is_opening (decoded files sheet.now action) },
 }
 
-// Whether a place up to the end holds a sealed image of the file under the action.
-fn is_token_at(
-    sheet: &[u8],
-    end: u64,
-    files: u64,
-    file: u64,
-    place: u64,
-    decision: Decision,
-) -> bool
-    requires { decision.opened ≡ is_opening (decoded files sheet.now decision.action) }
-    ensures { result ≡ is_token_in sheet.now files end decision.action file place }
-{
-    if end < place {
-        return false;
+impl<'a> Decision<'a> {
+    // Whether a place up to the end holds a sealed image of the file under the action.
+    fn is_token_at(&self, file: u64, place: u64) -> bool
+        ensures { result ≡ is_token_in self.now.sheet.now self.now.files self.now.end self.now.action file place }
+    {
+        if self.end < place {
+            return false;
+        }
+        let Some(image) = seek_at(self.sheet, place, self.files, file) else {
+            return false;
+        };
+        if image.action != self.action {
+            return false;
+        }
+        self.opened
     }
-    let found = seek_at(sheet, place, files, file);
-    let Some(image) = found else {
-        return false;
-    };
-    if image.action != decision.action {
-        return false;
-    }
-    decision.opened
-}
 
-// The row of a file that names the action, settled where its token is the action's.
-fn settle_row(sheet: &[u8], rows: &mut [u64], end: u64, files: u64, file: u64, decision: Decision)
-    requires { (decision.opened ≡ is_opening (decoded files sheet.now decision.action)) × (is_rebuilt_for decision.action (row_of rows.old file) ≡ true) }
-    ensures { rows.new ≡ settled_row sheet.now files end decision.action (is_commit decision.verdict) file rows.old }
-{
-    let token = row_of(&rows[..], file).token;
-    if !is_token_at(sheet, end, files, file, token, decision) {
-        return;
-    }
-    // Read now, so that the numbers need not be kept during the look at the page.
-    let row = row_of(&rows[..], file);
-    set_row(rows, file, decision.verdict.settle(row));
-}
-
-// Every row, settled. A row that does not name the action costs no look at a page, and the action's opening is looked at once for all.
-fn settle_rows(sheet: &[u8], rows: &mut [u64], end: u64, files: u64, decision: Decision)
-    requires { (row_length * (length rows.old / row_length) ≡ length rows.old) × (files ≡ length rows.old / row_length) × (decision.opened ≡ is_opening (decoded files sheet.now decision.action)) }
-    ensures { rows.new ≡ settled_rows sheet.now files end decision.action (is_commit decision.verdict) rows.old }
-{
-    let mut file: u64 = 0;
-    loop {
-        file = next_named(&rows[..], file, decision.action);
-        if files <= file {
+    // The row of a file that names the action, settled where its token is the action's.
+    fn settle_row(&self, rows: &mut [u64], file: u64)
+        requires { is_rebuilt_for self.now.action (row_of rows.old file) ≡ true }
+        ensures { rows.new ≡ settled_row self.now.sheet.now self.now.files self.now.end self.now.action (is_commit self.now.verdict) file rows.old }
+    {
+        let token = row_of(&rows[..], file).token;
+        if !self.is_token_at(file, token) {
             return;
         }
-        file += 1;
-        settle_row(sheet, rows, end, files, file, decision);
+        // Read now, so that the numbers need not be kept during the look at the page.
+        let row = row_of(&rows[..], file);
+        set_row(rows, file, self.verdict.settle(row));
+    }
+
+    // Every row, settled. A row that does not name the action costs no look at a page, and the action's opening is looked at once for all.
+    fn settle_rows(&self, rows: &mut [u64])
+        requires { (row_length * (length rows.old / row_length) ≡ length rows.old) × (self.now.files ≡ length rows.old / row_length) }
+        ensures { rows.new ≡ settled_rows self.now.sheet.now self.now.files self.now.end self.now.action (is_commit self.now.verdict) rows.old }
+    {
+        let mut file: u64 = 0;
+        loop {
+            file = next_named(&rows[..], file, self.action);
+            if self.files <= file {
+                return;
+            }
+            file += 1;
+            self.settle_row(rows, file);
+        }
     }
 }
 
@@ -197,11 +194,14 @@ fn decide(
     }
     let end = state.end;
     let decision = Decision {
+        sheet: &sheet[..],
+        end,
+        files,
         action,
         opened: is_opening_at(&sheet[..], action, files),
         verdict,
     };
-    settle_rows(&sheet[..], rows, end, files, decision);
+    decision.settle_rows(rows);
     let page = verdict.page(action);
     append(sheet, end, files, page, &[0u8; Page::VALUE_SIZE]);
     fates[action as usize - 1] = verdict.fate();

@@ -24,7 +24,7 @@ use Rattle.recovery.proofs.FlatRows.{rows_long}
 use Rattle.calls.specs.Walk.{Walk, met, nothing, early, lost, images_below, follow}
 use Rattle.calls.specs.Calls.{read, on, on_read, on_token, answer_walk, image_of, read_current, read_token}
 use Rattle.calls.specs.Leaves.{call_leaves}
-use Rattle.std.specs.Prelude.{cond, Err, Ok}
+use Rattle.std.specs.Prelude.{cond, Err}
 use Rattle.calls.specs.LineSteps.{free}
 use Rattle.calls.specs.ReadSteps.{read_line, may_read, image_by, Looked, walk_answer, carried_in, walk_at}
 use Rattle.reading.specs.declared.Reading.{Reading}

@@ -34,7 +34,7 @@ pub settle_rows-requires : goal.settle_rows-requires
 settle_rows-requires c =
     let known = known_by (sym c.in_default.is ∙ c.decide_line.ensures) in
     let a = c.args in
-    (rows_whole a.sheet.now a.fates.now a.rows.now a.state a.action (is_commit a.verdict) known, c.file_count-files.ensures, c.is_opening_at.ensures)
+    (rows_whole a.sheet.now a.fates.now a.rows.now a.state a.action (is_commit a.verdict) known, c.file_count-files.ensures)
 
 pub overflow_sub-fates : goal.overflow_sub-fates
 overflow_sub-fates c =
