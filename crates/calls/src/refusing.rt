@@ -2,8 +2,7 @@
 ghost use Rattle.std.specs.Prelude.{◌≡◌, ◌+◌};
 ghost use Rattle.calls.specs.LineSteps.{known_fate, action_line, room_line};
 
-use page::Page;
-use recovery::{Refusal, fate_at, is_blank_at};
+use recovery::{Refusal, View, fate_at};
 
 // Line 5: an action's fate, 1 to 3.
 #[tactic(auto, unfolding(crate::specs::LineSteps::known_fate))]
@@ -34,17 +33,17 @@ pub fn action_line(fates: &[u8], end: u64, action: u64) -> Result<(), Refusal>
 
 // Lines 11 and 12, for a call that stores one page above the end and leaves so many more for outcomes.
 #[tactic(auto, using(crate::proofs::RoomLines::line_11, crate::proofs::RoomLines::line_12, crate::proofs::RoomLines::line_free))]
-pub fn room_line(sheet: &[u8], end: u64, files: u64, reserve: u64) -> Result<(), Refusal>
-    ensures { result ≡ room_line sheet.now end files (reserve + 1) }
+pub fn room_line(view: View, end: u64, reserve: u64) -> Result<(), Refusal>
+    ensures { result ≡ room_line view.entry.sheet.now end view.entry.files (reserve + 1) }
 {
-    let pages = (sheet.len() / Page::SIZE) as u64;
+    let pages = view.pages();
     if pages <= end {
         return Err(Refusal::NoRoom);
     }
     if pages - end <= reserve {
         return Err(Refusal::NoRoom);
     }
-    if !is_blank_at(sheet, end + 1, files) {
+    if !view.is_blank_at(end + 1) {
         return Err(Refusal::NotBlank);
     }
     Ok(())

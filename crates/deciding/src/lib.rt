@@ -18,8 +18,8 @@ ghost use Rattle.deciding.specs.Verdicts.{is_commit};
 use calls::{action_line, append, room_line};
 use page::Page;
 use recovery::{
-    Answer, Done, Refusal, Row, State, fate_at, file_count, is_lent_right, is_opening_at,
-    next_named, outcome_place, refuse, row_of, seek_at, set_row,
+    Answer, Done, Refusal, Row, State, View, fate_at, file_count, is_lent_right, next_named,
+    refuse, row_of, set_row,
 };
 pub use testing::test;
 
@@ -38,7 +38,8 @@ fn decide_line(
         return Err(Refusal::WrongSizes);
     }
     action_line(fates, state.end, action)?;
-    room_line(sheet, state.end, file_count(rows.len()), 0)
+    let files = file_count(rows.len());
+    room_line(View { sheet, files }, state.end, 0)
 }
 
 // How an action is decided.
@@ -93,24 +94,23 @@ impl Verdict {
 // A decision on an open sheet: of which action, whether that has an opening, and how it is decided.
 #[derive(Clone, Copy)]
 struct Decision<'a> {
-    sheet: &'a [u8],
+    view: View<'a>,
     end: u64,
-    files: u64,
     action: u64,
     opened: bool,
     verdict: Verdict,
-    ghost opened_is: { opened ≡ is_opening (decoded files sheet.now action) },
+    ghost opened_is: { opened ≡ is_opening (decoded view.files view.sheet.now action) },
 }
 
 impl<'a> Decision<'a> {
     // Whether a place up to the end holds a sealed image of the file under the action.
     fn is_token_at(&self, file: u64, place: u64) -> bool
-        ensures { result ≡ is_token_in self.now.sheet.now self.now.files self.now.end self.now.action file place }
+        ensures { result ≡ is_token_in self.now.view.sheet.now self.now.view.files self.now.end self.now.action file place }
     {
         if self.end < place {
             return false;
         }
-        let Some(image) = seek_at(self.sheet, place, self.files, file) else {
+        let Some(image) = self.view.seek_at(place, file) else {
             return false;
         };
         if image.action != self.action {
@@ -122,7 +122,7 @@ impl<'a> Decision<'a> {
     // The row of a file that names the action, settled where its token is the action's.
     fn settle_row(&self, rows: &mut [u64], file: u64)
         requires { is_rebuilt_for self.now.action (row_of rows.old file) ≡ true }
-        ensures { rows.new ≡ settled_row self.now.sheet.now self.now.files self.now.end self.now.action (is_commit self.now.verdict) file rows.old }
+        ensures { rows.new ≡ settled_row self.now.view.sheet.now self.now.view.files self.now.end self.now.action (is_commit self.now.verdict) file rows.old }
     {
         let token = row_of(&rows[..], file).token;
         if !self.is_token_at(file, token) {
@@ -135,13 +135,13 @@ impl<'a> Decision<'a> {
 
     // Every row, settled. A row that does not name the action costs no look at a page, and the action's opening is looked at once for all.
     fn settle_rows(&self, rows: &mut [u64])
-        requires { (row_length * (length rows.old / row_length) ≡ length rows.old) × (self.now.files ≡ length rows.old / row_length) }
-        ensures { rows.new ≡ settled_rows self.now.sheet.now self.now.files self.now.end self.now.action (is_commit self.now.verdict) rows.old }
+        requires { (row_length * (length rows.old / row_length) ≡ length rows.old) × (self.now.view.files ≡ length rows.old / row_length) }
+        ensures { rows.new ≡ settled_rows self.now.view.sheet.now self.now.view.files self.now.end self.now.action (is_commit self.now.verdict) rows.old }
     {
         let mut file: u64 = 0;
         loop {
             file = next_named(&rows[..], file, self.action);
-            if self.files <= file {
+            if self.view.files <= file {
                 return;
             }
             file += 1;
@@ -152,27 +152,20 @@ impl<'a> Decision<'a> {
 
 // A decision of an action that is decided already: the same one is answered with the place of its outcome, and the other refused.
 #[tactic(auto, unfolding(calls::specs::DecideSteps::decided_again))]
-fn decided_again(
-    sheet: &[u8],
-    fates: &[u8],
-    files: u64,
-    state: State,
-    action: u64,
-    verdict: Verdict,
-) -> Done
-    ensures { result ≡ decided_again sheet.now fates.now files state action (is_commit verdict) }
+fn decided_again(view: View, fates: &[u8], state: State, action: u64, verdict: Verdict) -> Done
+    ensures { result ≡ decided_again view.entry.sheet.now fates.now view.entry.files state action (is_commit verdict) }
 {
     if fate_at(fates, action) != u64::from(verdict.fate()) {
         return refuse(Refusal::AlreadyDecided, state);
     }
     Done {
-        answer: Answer::Stored(outcome_place(sheet, state.end, files, action)),
+        answer: Answer::Stored(view.outcome_place(state.end, action)),
         state,
     }
 }
 
 // Commits or aborts an action: appends its outcome. The rows are settled first, by the sheet as it was. Asked again, it changes
-// nothing.
+// nothing. The open count is lent, so it may be 0 already.
 fn decide(
     sheet: &mut [u8],
     fates: &mut [u8],
@@ -184,32 +177,31 @@ fn decide(
     ensures { left_by result sheet.new fates.new rows.new ≡ call_leaves sheet.old fates.old rows.old state (Call.decide action (is_commit verdict)) }
 {
     let files = file_count(rows.len());
-    if let Err(why) = decide_line(&sheet[..], &fates[..], &rows[..], state, action) {
+    let view = View {
+        sheet: &sheet[..],
+        files,
+    };
+    if let Err(why) = decide_line(view.sheet, &fates[..], &rows[..], state, action) {
         return match why {
-            Refusal::AlreadyDecided => {
-                decided_again(&sheet[..], &fates[..], files, state, action, verdict)
-            }
+            Refusal::AlreadyDecided => decided_again(view, &fates[..], state, action, verdict),
             _ => refuse(why, state),
         };
     }
-    let end = state.end;
     let decision = Decision {
-        sheet: &sheet[..],
-        end,
-        files,
+        view,
+        end: state.end,
         action,
-        opened: is_opening_at(&sheet[..], action, files),
+        opened: view.is_opening_at(action),
         verdict,
     };
     decision.settle_rows(rows);
     let page = verdict.page(action);
-    append(sheet, end, files, page, &[0u8; Page::VALUE_SIZE]);
+    append(sheet, state.end, files, page, &[0u8; Page::VALUE_SIZE]);
     fates[action as usize - 1] = verdict.fate();
     Done {
-        answer: Answer::Stored(end + 1),
+        answer: Answer::Stored(state.end + 1),
         state: State {
-            end: end + 1,
-            // The open count is lent, so it may be too low.
+            end: state.end + 1,
             undecided: state.undecided.saturating_sub(1),
             ..state
         },

@@ -5,7 +5,7 @@ ghost use Rattle.calls.specs.Calls.{Call};
 ghost use Rattle.calls.specs.Leaves.{call_leaves};
 
 use calls::known_fate;
-use recovery::{Answer, Done, Refusal, State, file_count, is_lent_right, outcome_place, refuse};
+use recovery::{Answer, Done, Refusal, State, View, file_count, is_lent_right, refuse};
 
 // The fate of an action, and the place of its newest sealed outcome up to the end, 0 if there is none.
 pub fn test(sheet: &[u8], fates: &[u8], rows: &[u64], state: State, action: u64) -> Done
@@ -18,7 +18,8 @@ pub fn test(sheet: &[u8], fates: &[u8], rows: &[u64], state: State, action: u64)
         Ok(fate) => fate,
         Err(why) => return refuse(why, state),
     };
-    let place = outcome_place(sheet, state.end, file_count(rows.len()), action);
+    let files = file_count(rows.len());
+    let place = View { sheet, files }.outcome_place(state.end, action);
     Done {
         answer: Answer::Told(fate, place),
         state,

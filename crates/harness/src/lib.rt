@@ -12,6 +12,7 @@ ghost use Rattle.inspection.specs.Inspected.{inspected, inspect_place};
 ghost use Rattle.harness.specs.Counts.{counted, fits_at, seen_at, packed_to};
 
 use page::{Page, Unpacked};
+use recovery::View;
 
 // How many of the numbers below n pass.
 fn count_passing<F: Fn(usize) -> bool>(n: usize, passes: F) -> u64
@@ -76,7 +77,7 @@ pub extern "C" fn bench_pack(sheet: &mut [u8], files: u64, size: u64, value: &[u
 pub extern "C" fn bench_walk(sheet: &[u8], fates: &[u8], files: u64, file: u64, end: u64) -> u64
     ensures { result ≡ (row_from_pages sheet.now fates.now files file end).current }
 {
-    let row = rebuilding::rebuilt_row(sheet, fates, end, files, file);
+    let row = rebuilding::rebuilt_row(View { sheet, files }, fates, end, file);
     row.current
 }
 

@@ -71,7 +71,11 @@ module _ (s : List ℕ) (files : ℕ) where
   abbrev log : ℕ → List Entry
   log n = down (pages_of s files) n
 
-  module _ {N : ℕ} (m n : ℕ) (k : Kept N) (hm : m ≡ length s / page_size) (w : Knows (log n) k) where
+  -- the last place
+  abbrev m : ℕ
+  m = length s / page_size
+
+  module _ {N : ℕ} (n : ℕ) (k : Kept N) (w : Knows (log n) k) where
     -- an action that has a fate below is the place of an opening
     opened : n ≤ m → (a : ℕ) → 1 ≤ fate_number (fate_of (log n) a) → is_opening (decoded files s a) ≡ true
     unfolding sealed
@@ -154,18 +158,18 @@ module _ (s : List Entry) where
           le-leb (p + 1) (end_of s n) (omega (arith, z))
       go false x = lt-leb (p + 1) (end_of s n) (omega (arith, leb-false p (end_of s n) x))
 
-module _ (s : List ℕ) (files m p : ℕ) (u : Unpacked) (b : Bool) (hm : m ≡ length s / page_size) (low : 1 ≤ p) (high : p ≤ m) (e : u ≡ tested (page_bytes s p) p files) (q : b ≡ is_blank_page u) where
+module _ (s : List ℕ) (files p : ℕ) (u : Unpacked) (b : Bool) (low : 1 ≤ p) (high : p ≤ length s / page_size) (e : u ≡ tested (page_bytes s p) p files) (q : b ≡ is_blank_page u) where
   blank_is : b ≡ is_blank (nth blank (pages_of s files) p)
   blank_is =
       q
       ∙ sym (blank_sealed (decoded files s) (page_bytes s p) u)
       ∙ ap is_blank (sealed_is s p files u e ∙ sym (page_at_place files (length s / page_size) s p low (omega arith)))
 
-  pub up_hit : b ≡ false → true ≡ leb p (end_of (pages_of s files) m)
-  up_hit t = sym (le-leb p (end_of (pages_of s files) m) (used_end (pages_of s files) p (refused blank_is t) m high))
+  pub up_hit : b ≡ false → true ≡ leb p (end_of (pages_of s files) (length s / page_size))
+  up_hit t = sym (le-leb p (end_of (pages_of s files) (length s / page_size)) (used_end (pages_of s files) p (refused blank_is t) (length s / page_size) high))
 
-  pub up_miss : b ≡ true → leb (p + 1) (end_of (pages_of s files) m) ≡ leb p (end_of (pages_of s files) m)
-  up_miss t = up_more (pages_of s files) m p low (passed blank_is t)
+  pub up_miss : b ≡ true → leb (p + 1) (end_of (pages_of s files) (length s / page_size)) ≡ leb p (end_of (pages_of s files) (length s / page_size))
+  up_miss t = up_more (pages_of s files) (length s / page_size) p low (passed blank_is t)
 
 -- ---- the answer
 

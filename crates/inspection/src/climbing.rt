@@ -11,7 +11,7 @@ ghost use Rattle.inspection.specs.ClimbSteps.{version_in, image_fits_in, page_fi
 
 use crate::{InspectError, is_inspectable};
 use page::{Page, Unpacked};
-use recovery::{FEW_PAGES, is_blank_at, page_at};
+use recovery::{FEW_PAGES, View};
 
 // An image: its place, its action and its start. Place 0 is none, and no Option is: an image links to place 0 where its file has no
 // version, and one comparison serves both.
@@ -131,26 +131,18 @@ impl<const N: usize> Kept<N> {
     }
 }
 
-// How many pages a sheet has.
-fn page_count(sheet: &[u8]) -> u64
-    ensures { result ≡ length sheet.now / page_size }
-{
-    (sheet.len() / Page::SIZE) as u64
-}
-
 // The lowest place that is bad or does not fit the pages below it.
-fn climb<const N: usize>(sheet: &[u8], files: u64) -> Option<u64>
-    requires { (length sheet.now / page_size < N) × (N ≤ suc most_places) }
-    ensures { result ≡ some_place (lowest_unlawful (down (pages_of sheet.now files) (length sheet.now / page_size))) }
+fn climb<const N: usize>(view: View) -> Option<u64>
+    requires { (length view.sheet.now / page_size < N) × (N ≤ suc most_places) }
+    ensures { result ≡ some_place (lowest_unlawful (down (pages_of view.entry.sheet.now view.entry.files) (length view.entry.sheet.now / page_size))) }
 {
-    let pages = page_count(sheet);
     let mut kept: Kept<N> = Kept {
         fates: [0; N],
         newest: [Slot::NONE; SLOTS],
         below: [Slot::NONE; SLOTS],
     };
-    for place in 1..=pages {
-        let found = page_at(sheet, place, files);
+    for place in 1..=view.pages() {
+        let found = view.page_at(place);
         if !kept.page_fits(found) {
             return Some(place);
         }
@@ -160,23 +152,23 @@ fn climb<const N: usize>(sheet: &[u8], files: u64) -> Option<u64>
 }
 
 // The climb, with arrays by the sheet's size.
-fn climb_sheet(sheet: &[u8], files: u64) -> Option<u64>
-    requires { length sheet.now / page_size ≤ most_places }
-    ensures { result ≡ some_place (lowest_unlawful (down (pages_of sheet.now files) (length sheet.now / page_size))) }
+fn climb_sheet(view: View) -> Option<u64>
+    requires { length view.sheet.now / page_size ≤ most_places }
+    ensures { result ≡ some_place (lowest_unlawful (down (pages_of view.entry.sheet.now view.entry.files) (length view.entry.sheet.now / page_size))) }
 {
-    if page_count(sheet) <= FEW_PAGES as u64 {
-        return climb::<FEW_FATES>(sheet, files);
+    if view.pages() <= FEW_PAGES as u64 {
+        return climb::<FEW_FATES>(view);
     }
-    climb::<MOST_FATES>(sheet, files)
+    climb::<MOST_FATES>(view)
 }
 
-// Whether a page from a place up is not blank.
-fn is_used_from(sheet: &[u8], files: u64, from: u64) -> bool
-    requires { 1 ≤ from }
-    ensures { result ≡ leb from (end_of (pages_of sheet.now files) (length sheet.now / page_size)) }
+// Whether a page from a place on is not blank.
+fn is_used_from(view: View, from: u64) -> bool
+    requires { (1 ≤ from) × (length view.sheet.now / page_size ≤ most_places) }
+    ensures { result ≡ leb from (end_of (pages_of view.entry.sheet.now view.entry.files) (length view.entry.sheet.now / page_size)) }
 {
-    for place in from..=page_count(sheet) {
-        if !is_blank_at(sheet, place, files) {
+    for place in from..=view.pages() {
+        if !view.is_blank_at(place) {
             return true;
         }
     }
@@ -184,12 +176,12 @@ fn is_used_from(sheet: &[u8], files: u64, from: u64) -> bool
 }
 
 // The lowest unlawful place of a sheet that passed line 1: a blank page is none if all above it are blank.
-fn lowest(sheet: &[u8], files: u64) -> u64
-    requires { length sheet.now / page_size ≤ most_places }
-    ensures { result ≡ lowest_unlawful (down (pages_of sheet.now files) (end_of (pages_of sheet.now files) (length sheet.now / page_size))) }
+fn lowest(view: View) -> u64
+    requires { length view.sheet.now / page_size ≤ most_places }
+    ensures { result ≡ lowest_unlawful (down (pages_of view.entry.sheet.now view.entry.files) (end_of (pages_of view.entry.sheet.now view.entry.files) (length view.entry.sheet.now / page_size))) }
 {
-    match climb_sheet(sheet, files) {
-        Some(place) if is_used_from(sheet, files, place) => place,
+    match climb_sheet(view) {
+        Some(place) if is_used_from(view, place) => place,
         _ => 0,
     }
 }
@@ -202,5 +194,5 @@ pub fn inspect(sheet: &[u8], files: u64) -> Result<u64, InspectError>
     if !is_inspectable(sheet.len(), files) {
         return Err(InspectError::Sizes);
     }
-    Ok(lowest(sheet, files))
+    Ok(lowest(View { sheet, files }))
 }

@@ -8,7 +8,7 @@ ghost use Rattle.moving.specs.MoveSteps.{move_line_one, survey_with, survey_to};
 
 use page::Page;
 use rebuilding::row_holds_in;
-use recovery::{Row, State, fate_at, is_blank_at, is_lent_right, row_of};
+use recovery::{Row, State, View, fate_at, is_lent_right, row_of};
 
 // Line 1, with the fresh sheet's length.
 #[tactic(auto, unfolding(crate::specs::MoveSteps::move_line_one))]
@@ -64,30 +64,29 @@ impl Survey {
 }
 
 // The survey of all rows. A damaged row does not end it: damage is rare, and so one loop tells all three.
-pub(crate) fn survey_rows(sheet: &[u8], rows: &[u64], end: u64, files: u64, floor: u64) -> Survey
-    requires { files ≤ most_files }
-    ensures { result ≡ survey_to sheet.now files end rows.now floor files }
+pub(crate) fn survey_rows(view: View, rows: &[u64], end: u64, floor: u64) -> Survey
+    requires { view.files ≤ most_files }
+    ensures { result ≡ survey_to view.entry.sheet.now view.entry.files end rows.now floor view.entry.files }
 {
     let mut survey = Survey {
         damaged: None,
         versions: 0,
         highest: floor,
     };
-    for file in 1..=files {
+    for file in 1..=view.files {
         let row = row_of(rows, file);
-        let holds = row_holds_in(sheet, end, files, file, row);
+        let holds = row_holds_in(view, end, file, row);
         survey = survey.with_row(file, row, holds);
     }
     survey
 }
 
 // Whether no page of the fresh sheet is used.
-pub(crate) fn is_unused(fresh: &[u8], files: u64) -> bool
-    ensures { result ≡ is_unused (pages_of fresh.now files) }
+pub(crate) fn is_unused(fresh: View) -> bool
+    ensures { result ≡ is_unused (pages_of fresh.entry.sheet.now fresh.entry.files) }
 {
-    let pages = (fresh.len() / Page::SIZE) as u64;
-    for place in 1..=pages {
-        if !is_blank_at(fresh, place, files) {
+    for place in 1..=fresh.pages() {
+        if !fresh.is_blank_at(place) {
             return false;
         }
     }

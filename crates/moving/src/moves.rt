@@ -6,8 +6,7 @@ ghost use Rattle.moving.specs.MoveSteps.{move_line_one, refusal_at};
 use crate::carrying::store_pages;
 use crate::checking::{is_movable, is_unused, lowest_undecided, survey_rows};
 use crate::warming::warm_rows;
-use page::Page;
-use recovery::{Answer, Done, Refusal, State, file_count, refuse};
+use recovery::{Answer, Done, Refusal, State, View, file_count, refuse};
 
 // A refusal with its place, and the state as it was.
 fn refuse_at(why: Refusal, place: u64, state: State) -> Done
@@ -25,18 +24,22 @@ fn move_warm(sheet: &[u8], fates: &[u8], rows: &[u64], state: State, fresh: &mut
     ensures { move_by result sheet.now fates.now rows.now fresh.new ≡ warm_move sheet.now fates.now rows.now state fresh.old }
 {
     let files = file_count(rows.len());
-    let survey = survey_rows(sheet, rows, state.end, files, state.floor);
+    let view = View { sheet, files };
+    let survey = survey_rows(view, rows, state.end, state.floor);
     if let Some(damaged) = survey.damaged {
         return refuse_at(Refusal::DamagedRow, damaged, state);
     }
-    let pages = (fresh.len() / Page::SIZE) as u64;
-    if pages < survey.versions + 2 {
+    let blank = View {
+        sheet: &fresh[..],
+        files,
+    };
+    if blank.pages() < survey.versions + 2 {
         return refuse(Refusal::NoRoom, state);
     }
-    if !is_unused(&fresh[..], files) {
+    if !is_unused(blank) {
         return refuse(Refusal::NotBlank, state);
     }
-    store_pages(sheet, rows, files, fresh);
+    store_pages(view, rows, fresh);
     Done {
         answer: Answer::Moved(survey.highest),
         state,

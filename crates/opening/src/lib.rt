@@ -12,7 +12,7 @@ ghost use Rattle.recovery.specs.OpenSteps.{Bounded, good, worse, stepped, Scanne
 use encoding::copy;
 use page::{Page, Unpacked};
 use recovery::{
-    Answer, Done, FEW_PAGES, Refusal, Scan, State, fate_at, file_count, is_carried_at, is_sized,
+    Answer, Done, FEW_PAGES, Refusal, Scan, State, View, fate_at, file_count, is_sized,
 };
 
 // A sheet's most pages.
@@ -86,24 +86,24 @@ fn step(found: Unpacked, place: u64, scan: Scan, kept: &mut [u8]) -> Scan
 }
 
 // The pass: tests each page once. The kept fates, a byte a page, come in as zeros.
-fn scan_pages(sheet: &[u8], kept: &mut [u8], files: u64) -> Scan
-    requires { (length sheet.now ≡ page_size * length kept.old) × (length kept.old ≤ most_places) × (kept.old ≡ replicate (length kept.old) 0) }
-    ensures { Scanned files (length kept.old) sheet.now result kept.new }
+fn scan_pages(view: View, kept: &mut [u8]) -> Scan
+    requires { (length view.sheet.now ≡ page_size * length kept.old) × (length kept.old ≤ most_places) × (kept.old ≡ replicate (length kept.old) 0) }
+    ensures { Scanned view.entry.files (length kept.old) view.entry.sheet.now result kept.new }
 {
     let mut scan = Scan { end: 0, bad: 0 };
-    for (n, part) in sheet.chunks_exact(Page::SIZE).enumerate() {
+    for (n, part) in view.sheet.chunks_exact(Page::SIZE).enumerate() {
         let place = n as u64 + 1;
-        scan = step(Page::test(part, place, files), place, scan, kept);
+        scan = step(Page::test(part, place, view.files), place, scan, kept);
     }
     scan
 }
 
 // Line 24, by the kept fates: a move onto this sheet has begun and has no outcome.
 #[tactic(auto, unfolding(recovery::specs::OpenSteps::unfinished_in))]
-fn is_unfinished(sheet: &[u8], files: u64, kept: &[u8]) -> bool
-    ensures { result ≡ unfinished_in files sheet.now kept.now }
+fn is_unfinished(view: View, kept: &[u8]) -> bool
+    ensures { result ≡ unfinished_in view.entry.files view.entry.sheet.now kept.now }
 {
-    is_carried_at(sheet, 1, files) & (fate_at(kept, 1) == 1)
+    view.is_carried_at(1) & (fate_at(kept, 1) == 1)
 }
 
 // A refusal answers three zeros for the state.
@@ -122,11 +122,12 @@ fn open_with(sheet: &[u8], fates: &mut [u8], rows: &mut [u64], floor: u64, kept:
     ensures { left_by result sheet.now fates.new rows.new ≡ open_leaves sheet.now fates.old rows.old floor }
 {
     let files = file_count(rows.len());
-    let scan = scan_pages(sheet, kept, files);
+    let view = View { sheet, files };
+    let scan = scan_pages(view, kept);
     if scan.bad != 0 {
         return refuse(Refusal::BadPage, scan.bad);
     }
-    if is_unfinished(sheet, files, kept) {
+    if is_unfinished(view, kept) {
         return refuse(Refusal::UnfinishedMove, 0);
     }
     let end = scan.end;

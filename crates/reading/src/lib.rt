@@ -14,8 +14,8 @@ use calls::action_line;
 use page::Page;
 use rebuilding::{row_holds_by, warm_row};
 use recovery::{
-    Answer, Done, Refusal, Row, State, file_count, has_file, image_at, is_carried_at,
-    is_lent_right, raised_row, refuse, set_row,
+    Answer, Done, Refusal, Row, State, View, file_count, has_file, is_lent_right, raised_row,
+    refuse, set_row,
 };
 
 // What a read of a warm row answers, and the row that it leaves.
@@ -60,9 +60,9 @@ fn none_below(carried: bool) -> Answer
 }
 
 // The first image from a place down the links whose start is not above a time. A link leads to a lower place, so this ends.
-fn walk(sheet: &[u8], from: u64, files: u64, file: u64, time: u64, first: Page) -> Answer
-    requires { sealed_image files sheet.now file from ≡ Some first }
-    ensures { result ≡ walk_at files sheet.now file time false from first }
+fn walk(view: View, from: u64, file: u64, time: u64, first: Page) -> Answer
+    requires { sealed_image view.files view.sheet.now file from ≡ Some first }
+    ensures { result ≡ walk_at view.entry.files view.entry.sheet.now file time false from first }
 {
     let mut place = from;
     let mut x = first;
@@ -71,12 +71,12 @@ fn walk(sheet: &[u8], from: u64, files: u64, file: u64, time: u64, first: Page) 
         if x.start <= time {
             return Answer::Value(place, x.start, x.small);
         }
-        carried |= is_carried_at(sheet, x.action, files);
+        carried |= view.is_carried_at(x.action);
         let next = x.link;
         if next == 0 {
             return none_below(carried);
         }
-        let found = image_at(sheet, next, files, file);
+        let found = view.image_at(next, file);
         let Some(y) = found else {
             return Answer::Refused(Refusal::LostLink, place);
         };
@@ -86,16 +86,9 @@ fn walk(sheet: &[u8], from: u64, files: u64, file: u64, time: u64, first: Page) 
 }
 
 // A read of the committed versions, from what was found at the row's current place.
-fn read_versions(
-    sheet: &[u8],
-    files: u64,
-    file: u64,
-    time: u64,
-    row: Row,
-    current: Option<Page>,
-) -> Reading
-    requires { Looked files sheet.now file row.current current }
-    ensures { Versions files sheet.now file time row result }
+fn read_versions(view: View, file: u64, time: u64, row: Row, current: Option<Page>) -> Reading
+    requires { Looked view.files view.sheet.now file row.current current }
+    ensures { Versions view.entry.files view.entry.sheet.now file time row result }
 {
     let reached = current_read(row, time);
     let Some(newest) = current else {
@@ -110,24 +103,16 @@ fn read_versions(
             row: reached,
         };
     }
-    let answer = walk(sheet, row.current, files, file, time, newest);
+    let answer = walk(view, row.current, file, time, newest);
     Reading { answer, row }
 }
 
 // Lines 7, 9, 13 and 25 of read on a warm row. Each place of the row is looked at once.
-fn read_row(
-    sheet: &[u8],
-    end: u64,
-    files: u64,
-    file: u64,
-    time: u64,
-    action: u64,
-    row: Row,
-) -> Reading
-    ensures { Reads files sheet.now end file time action row result }
+fn read_row(view: View, end: u64, file: u64, time: u64, action: u64, row: Row) -> Reading
+    ensures { Reads view.entry.files view.entry.sheet.now end file time action row result }
 {
-    let current = image_at(sheet, row.current, files, file);
-    let token = image_at(sheet, row.token, files, file);
+    let current = view.image_at(row.current, file);
+    let token = view.image_at(row.token, file);
     if !row_holds_by(end, row, current, token) {
         return Reading {
             answer: Answer::Refused(Refusal::DamagedRow, 0),
@@ -135,10 +120,10 @@ fn read_row(
         };
     }
     let Some(x) = token else {
-        return read_versions(sheet, files, file, time, row, current);
+        return read_versions(view, file, time, row, current);
     };
     if time < x.start {
-        return read_versions(sheet, files, file, time, row, current);
+        return read_versions(view, file, time, row, current);
     }
     if x.action != action {
         return Reading {
@@ -190,7 +175,7 @@ pub fn read(
     }
     let files = file_count(rows.len());
     let row = warm_row(sheet, fates, rows, state.end, file);
-    let reading = read_row(sheet, state.end, files, file, time, action, row);
+    let reading = read_row(View { sheet, files }, state.end, file, time, action, row);
     set_row(rows, file, reading.row);
     Done {
         answer: reading.answer,

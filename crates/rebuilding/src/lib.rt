@@ -7,30 +7,30 @@ ghost use Rattle.recovery.specs.Steps.{row_from_pages, place_holds_by, action_fo
 
 use page::{Page, Unpacked};
 use recovery::{
-    Answer, Done, Refusal, Row, State, counted_fate, file_count, has_file, image_at, is_lent_right,
-    refuse, row_of, set_row,
+    Answer, Done, Refusal, Row, State, View, file_count, has_file, is_lent_right, refuse, row_of,
+    set_row,
 };
 
 // The row of a file from the pages up to the end, going down: the first committed image is the current one, and the newest
 // undecided image above it the token. A page that is not an image of the file is passed over at once.
-pub fn rebuilt_row(sheet: &[u8], fates: &[u8], end: u64, files: u64, file: u64) -> Row
-    ensures { result ≡ row_from_pages sheet.now fates.now files file end }
+pub fn rebuilt_row(view: View, fates: &[u8], end: u64, file: u64) -> Row
+    ensures { result ≡ row_from_pages view.entry.sheet.now fates.now view.entry.files file end }
 {
-    let top = end.min((sheet.len() / Page::SIZE) as u64);
+    let top = end.min(view.pages());
     let mut row = Row {
         mark: 1,
         ..Row::COLD
     };
     for place in (1..=top).rev() {
         let a = Page::SIZE * (place as usize - 1);
-        let part = &sheet[a..a + Page::SIZE];
+        let part = &view.sheet[a..a + Page::SIZE];
         if !Page::names(part, file) {
             continue;
         }
-        let Unpacked::Image(image) = Page::test(part, place, files) else {
+        let Unpacked::Image(image) = Page::test(part, place, view.files) else {
             continue;
         };
-        let fate = counted_fate(sheet, fates, image.action, files);
+        let fate = view.counted_fate(fates, image.action);
         if fate == 2 {
             row.current = place;
             row.currentend = image.start;
@@ -78,11 +78,11 @@ pub fn row_holds_by(end: u64, row: Row, current: Option<Page>, token: Option<Pag
 
 // Line 7.
 #[tactic(auto, using(recovery::proofs::Held::row_held))]
-pub fn row_holds_in(sheet: &[u8], end: u64, files: u64, file: u64, row: Row) -> bool
-    ensures { result ≡ row_holds_in sheet.now files end file row }
+pub fn row_holds_in(view: View, end: u64, file: u64, row: Row) -> bool
+    ensures { result ≡ row_holds_in view.entry.sheet.now view.entry.files end file row }
 {
-    let current = image_at(sheet, row.current, files, file);
-    let token = image_at(sheet, row.token, files, file);
+    let current = view.image_at(row.current, file);
+    let token = view.image_at(row.token, file);
     row_holds_by(end, row, current, token)
 }
 
@@ -95,7 +95,7 @@ pub fn warm_row(sheet: &[u8], fates: &[u8], rows: &mut [u64], end: u64, file: u6
         return row;
     }
     let files = file_count(rows.len());
-    let new = rebuilt_row(sheet, fates, end, files, file);
+    let new = rebuilt_row(View { sheet, files }, fates, end, file);
     set_row(rows, file, new);
     new
 }
@@ -113,7 +113,7 @@ pub fn rebuild(sheet: &[u8], fates: &[u8], rows: &mut [u64], state: State, file:
     let end = state.end;
     let files = file_count(rows.len());
     let row = warm_row(sheet, fates, rows, end, file);
-    if !row_holds_in(sheet, end, files, file, row) {
+    if !row_holds_in(View { sheet, files }, end, file, row) {
         return refuse(Refusal::DamagedRow, state);
     }
     Done {

@@ -13,10 +13,7 @@ ghost use Rattle.std.specs.Prelude.{◌≡◌};
 ghost use Rattle.recovery.specs.Lent.{sizes_right};
 ghost use Rattle.recovery.specs.Steps.{line_one, refusal};
 
-pub use lookup::{
-    counted_fate, fate_at, image_at, is_blank_at, is_carried_at, is_opening_at, outcome_place,
-    page_at, part_at, seek_at,
-};
+pub use lookup::{View, fate_at, part_at};
 use page::Page;
 pub use rolling::raised_row;
 pub use rows::{file_count, has_file, is_file, next_named, row_of, set_row};

@@ -6,7 +6,7 @@ ghost use Rattle.calls.specs.Leaves.{call_leaves};
 
 use calls::{append, room_line};
 use page::Page;
-use recovery::{Answer, Done, Refusal, State, file_count, is_lent_right, refuse};
+use recovery::{Answer, Done, Refusal, State, View, file_count, is_lent_right, refuse};
 
 // Begins an action: appends its opening, and leaves room for the outcome of each undecided action.
 pub fn begin(sheet: &mut [u8], fates: &mut [u8], rows: &[u64], state: State) -> Done
@@ -17,7 +17,11 @@ pub fn begin(sheet: &mut [u8], fates: &mut [u8], rows: &[u64], state: State) -> 
     }
     let end = state.end;
     let files = file_count(rows.len());
-    if let Err(why) = room_line(&sheet[..], end, files, state.undecided + 1) {
+    let view = View {
+        sheet: &sheet[..],
+        files,
+    };
+    if let Err(why) = room_line(view, end, state.undecided + 1) {
         return refuse(why, state);
     }
     let place = end + 1;

@@ -15,7 +15,7 @@ use calls::{action_line, append, room_line};
 use page::Page;
 use rebuilding::{row_holds_by, warm_row};
 use recovery::{
-    Answer, Done, Refusal, Row, State, file_count, has_file, image_at, is_lent_right, raised_row,
+    Answer, Done, Refusal, Row, State, View, file_count, has_file, is_lent_right, raised_row,
     refuse, set_row,
 };
 
@@ -31,8 +31,8 @@ fn pad(value: &[u8]) -> [u8; Page::VALUE_SIZE]
 
 // Lines 10 to 12 of write.
 #[tactic(auto, unfolding(calls::specs::ReadSteps::store_line))]
-fn store_line(sheet: &[u8], state: State, files: u64, start: u64, row: Row) -> Result<(), Refusal>
-    ensures { result ≡ store_line sheet.now files state start row }
+fn store_line(view: View, state: State, start: u64, row: Row) -> Result<(), Refusal>
+    ensures { result ≡ store_line view.entry.sheet.now view.entry.files state start row }
 {
     if start <= row.currentend {
         return Err(Refusal::EarlyStart);
@@ -40,7 +40,7 @@ fn store_line(sheet: &[u8], state: State, files: u64, start: u64, row: Row) -> R
     if start <= state.floor {
         return Err(Refusal::EarlyStart);
     }
-    room_line(sheet, state.end, files, state.undecided)
+    room_line(view, state.end, state.undecided)
 }
 
 // Whether a row has no token, or one of this action.
@@ -51,27 +51,19 @@ fn is_free_for(row: Row, action: u64) -> bool
 }
 
 // Lines 7 to 12 of write on a warm row. Each place of the row is looked at once.
-fn write_answer(
-    sheet: &[u8],
-    state: State,
-    files: u64,
-    file: u64,
-    start: u64,
-    action: u64,
-    row: Row,
-) -> Answer
-    requires { (state.end ≤ length sheet.now / page_size) × (state.undecided ≤ state.end) }
-    ensures { result ≡ write_answer sheet.now files state file start action row }
+fn write_answer(view: View, state: State, file: u64, start: u64, action: u64, row: Row) -> Answer
+    requires { (state.end ≤ length view.sheet.now / page_size) × (state.undecided ≤ state.end) }
+    ensures { result ≡ write_answer view.entry.sheet.now view.entry.files state file start action row }
 {
-    let current = image_at(sheet, row.current, files, file);
-    let token = image_at(sheet, row.token, files, file);
+    let current = view.image_at(row.current, file);
+    let token = view.image_at(row.token, file);
     if !row_holds_by(state.end, row, current, token) {
         return Answer::Refused(Refusal::DamagedRow, 0);
     }
     if !is_free_for(row, action) {
         return Answer::Refused(Refusal::OtherToken, row.tokenaction);
     }
-    match store_line(sheet, state, files, start, row) {
+    match store_line(view, state, start, row) {
         Ok(()) => Answer::Stored(state.end + 1),
         Err(why) => Answer::Refused(why, 0),
     }
@@ -145,7 +137,11 @@ pub fn write(
     let bytes = pad(value);
     let files = file_count(rows.len());
     let row = warm_row(&sheet[..], fates, rows, state.end, file);
-    let answer = write_answer(&sheet[..], state, files, file, start, action, row);
+    let view = View {
+        sheet: &sheet[..],
+        files,
+    };
+    let answer = write_answer(view, state, file, start, action, row);
     let Answer::Stored(place) = answer else {
         return Done { answer, state };
     };

@@ -49,7 +49,7 @@ loop-n-init c =
       size = c.chunks_exact.ensures.size;
       rest = c.chunks_exact.ensures.rest;
       within = omega arith;
-      passed = passed_none a.files (length a.kept.now) a.sheet.now a.kept.now c.requires.2;
+      passed = passed_none a.view.files (length a.kept.now) a.view.sheet.now a.kept.now c.requires.2;
     })
 
 pub step-scan-requires : goal.step-scan-requires
@@ -58,21 +58,21 @@ step-scan-requires c =
     let i = c.loop-n.invariant in
     let s = c.in-Some.ensures.steps in
     let m = s.1 in
-    let p = next_page a.sheet.now _ i.rest i.size s.0.1.0 s.0.1.1 in
-    (omega arith, omega (arith, m, p.2, i.long, c.requires.0), bounded_at a.sheet.now (c.in-Some.n + 1) a.files _ (c.test.ensures ∙ ap (λ b. tested b (c.in-Some.n + 1) a.files) (p.0 ∙ ap (λ n. page_bytes a.sheet.now (n + 1)) (sym m))))
+    let p = next_page a.view.sheet.now _ i.rest i.size s.0.1.0 s.0.1.1 in
+    (omega arith, omega (arith, m, p.2, i.long, c.requires.0), bounded_at a.view.sheet.now (c.in-Some.n + 1) a.view.files _ (c.test.ensures ∙ ap (λ b. tested b (c.in-Some.n + 1) a.view.files) (p.0 ∙ ap (λ n. page_bytes a.view.sheet.now (n + 1)) (sym m))))
 
 pub loop-n-preserved : goal.loop-n-preserved
 loop-n-preserved c =
     let a = c.args in
     let i = c.loop-n.invariant in
     let s = c.in-Some.ensures.steps in
-    let p = next_page a.sheet.now _ i.rest i.size s.0.1.0 s.0.1.1 in
+    let p = next_page a.view.sheet.now _ i.rest i.size s.0.1.0 s.0.1.1 in
     rw s.2 (record {
       long = omega (arith, c.step-scan.auto, i.long);
       size = s.0.0 ∙ i.size;
       rest = p.1;
       within = omega (arith, p.2, c.requires.0);
-      passed = passed_turn a.files (length a.kept.now) a.sheet.now _ c.loop-n.scan c.loop-n.kept i.passed (omega (arith, p.2, c.requires.0)) _ (rw s.1 at (c.test.ensures ∙ ap (λ b. tested b (c.in-Some.n + 1) a.files) p.0)) _ _ (rw s.1 at c.step-scan.ensures);
+      passed = passed_turn a.view.files (length a.kept.now) a.view.sheet.now _ c.loop-n.scan c.loop-n.kept i.passed (omega (arith, p.2, c.requires.0)) _ (rw s.1 at (c.test.ensures ∙ ap (λ b. tested b (c.in-Some.n + 1) a.view.files) p.0)) _ _ (rw s.1 at c.step-scan.ensures);
     })
 
 pub returns : goal.returns
@@ -81,4 +81,4 @@ returns c =
     let l = c.loop-n in
     let i = c.loop-n.invariant in
     let s = c.in-None.ensures.steps in
-    passed_all a.files (length a.kept.now) a.sheet.now _ l.scan l.kept i.passed (no_page_left a.sheet.now _ i.rest i.size s.0.1.0 c.requires.0 i.within)
+    passed_all a.view.files (length a.kept.now) a.view.sheet.now _ l.scan l.kept i.passed (no_page_left a.view.sheet.now _ i.rest i.size s.0.1.0 c.requires.0 i.within)

@@ -12,7 +12,7 @@ abbrev pub invariant-loop-n : goal.invariant-loop-n
 invariant-loop-n l = record {
   long : length l.kept ≡ length l.initial.kept;
   size : chunks_exact_size (enumerate_source l.n-iterator) ≡ page_size;
-  rest : chunks_exact_rest (enumerate_source l.n-iterator) ≡ drop (page_size * enumerate_count l.n-iterator) l.sheet;
+  rest : chunks_exact_rest (enumerate_source l.n-iterator) ≡ drop (page_size * enumerate_count l.n-iterator) l.view.sheet.now;
   within : enumerate_count l.n-iterator ≤ length l.initial.kept;
-  passed : Passed l.files (length l.initial.kept) l.sheet (enumerate_count l.n-iterator) (l.scan, l.kept);
+  passed : Passed l.view.files (length l.initial.kept) l.view.sheet.now (enumerate_count l.n-iterator) (l.scan, l.kept);
 }

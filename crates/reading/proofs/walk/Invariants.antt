@@ -7,7 +7,7 @@ use mathlib.Core.Bool.{false}
 use Rattle.reading.proofs.walk.Given as goal
 
 abbrev pub invariant-loop-x : goal.invariant-loop-x
-invariant-loop-x l = (sealed_image l.files l.sheet l.file l.place ≡ Some l.x) × (walk_at l.files l.sheet l.file l.time l.carried l.place l.x ≡ walk_at l.files l.sheet l.file l.time false l.from l.initial.x)
+invariant-loop-x l = (sealed_image l.view.files l.view.sheet.now l.file l.place ≡ Some l.x) × (walk_at l.view.files l.view.sheet.now l.file l.time l.carried l.place l.x ≡ walk_at l.view.files l.view.sheet.now l.file l.time false l.from l.initial.x)
 
 abbrev pub decreases-loop-x : goal.decreases-loop-x
 decreases-loop-x l = l.place

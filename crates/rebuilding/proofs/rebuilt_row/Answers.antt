@@ -37,14 +37,14 @@ image_at {x = x} s place files file n t e i p =
     named_image (page_bytes s place) place files file x (passed (named_at s place file n p) t) (sym i ∙ tested_at s place files e p)
 
 -- a place of the walk is one of the sheet
-within : {top : ℕ} (end place : ℕ) (s : List ℕ) → place ≤ top → top ≡ min end (length s / 64) → 64 * place ≤ length s
-within end place s h t = omega (arith, t)
+within : {top pages : ℕ} (end place : ℕ) (s : List ℕ) → place ≤ top → top ≡ min end pages → pages ≡ length s / 64 → 64 * place ≤ length s
+within end place s h t p = omega (arith, t, p)
 
 pub loop-place-init : goal.loop-place-init
 loop-place-init c =
     let a = c.args in
     record {
-      from_above = over_none _ ∙ ap (row_to a.files a.sheet.now a.fates.now a.file) c.min-top.ensures ∙ row_from_lem a.files a.sheet.now a.fates.now a.file a.end;
+      from_above = over_none _ ∙ ap (row_to a.view.files a.view.sheet.now a.fates.now a.file) (c.min-top.ensures ∙ ap (min a.end) c.pages.ensures) ∙ row_from_lem a.view.files a.view.sheet.now a.fates.now a.file a.end;
       token_alone = refl;
       nameless = λ z. (refl, refl);
     }
@@ -54,10 +54,10 @@ loop-place-preserved-then-not-names c =
     let a = c.args in
     let l = c.loop-place in
     let i = l.invariant in
-    let n = named_at a.sheet.now l.place a.file c.names.ensures (part_is _ _ _ l.place c.loop-place-test.true refl refl) in
+    let n = named_at a.view.sheet.now l.place a.file c.names.ensures (part_is _ _ _ l.place c.loop-place-test.true refl refl) in
     record {
-      from_above = pass a.files a.sheet.now a.fates.now a.file l.place c.loop-place-test.true (within a.end _ a.sheet.now l.auto.place c.min-top.ensures) (overlay l.row.token l.row.tokenend l.row.tokenaction)
-          (unnamed (page_bytes a.sheet.now l.place) l.place a.files a.file (refused n c.if-not-names.true)) i.from_above;
+      from_above = pass a.view.files a.view.sheet.now a.fates.now a.file l.place c.loop-place-test.true (within a.end _ a.view.sheet.now l.auto.place c.min-top.ensures c.pages.ensures) (overlay l.row.token l.row.tokenend l.row.tokenaction)
+          (unnamed (page_bytes a.view.sheet.now l.place) l.place a.view.files a.file (refused n c.if-not-names.true)) i.from_above;
       token_alone = i.token_alone;
       nameless = i.nameless;
     }
@@ -68,9 +68,9 @@ loop-place-preserved-in_default c =
     let a = c.args in
     let l = c.loop-place in
     let i = l.invariant in
-    let e = tested_at a.sheet.now l.place a.files c.test.ensures (part_is _ _ _ l.place c.loop-place-test.true refl refl) in
+    let e = tested_at a.view.sheet.now l.place a.view.files c.test.ensures (part_is _ _ _ l.place c.loop-place-test.true refl refl) in
     record {
-      from_above = pass a.files a.sheet.now a.fates.now a.file l.place c.loop-place-test.true (within a.end _ a.sheet.now l.auto.place c.min-top.ensures) (overlay l.row.token l.row.tokenend l.row.tokenaction)
+      from_above = pass a.view.files a.view.sheet.now a.fates.now a.file l.place c.loop-place-test.true (within a.end _ a.view.sheet.now l.auto.place c.min-top.ensures c.pages.ensures) (overlay l.row.token l.row.tokenend l.row.tokenaction)
           (off_image c.test.result (λ (p : Page). cond (eqb p.file a.file) (Some p) None) None c.in_default.not-Image ∙ ap (image_of_file a.file) e) i.from_above;
       token_alone = i.token_alone;
       nameless = i.nameless;
@@ -81,9 +81,9 @@ returns-then-fate-eq2 c =
     let a = c.args in
     let l = c.loop-place in
     let i = l.invariant in
-    let image = image_at a.sheet.now l.place a.files a.file c.names.ensures c.if-not-names.false c.test.ensures c.in-Image.is (part_is _ _ _ l.place c.loop-place-test.true refl refl) in
+    let image = image_at a.view.sheet.now l.place a.view.files a.file c.names.ensures c.if-not-names.false c.test.ensures c.in-Image.is (part_is _ _ _ l.place c.loop-place-test.true refl refl) in
     ap (λ (r : Row). record { mark = r.mark; current = l.place; currentend = c.in-Image.image.start; token = l.row.token; tokenend = l.row.tokenend; tokenaction = l.row.tokenaction }) i.token_alone
-    ∙ stop a.files a.sheet.now a.fates.now a.file l.place c.loop-place-test.true (within a.end _ a.sheet.now l.auto.place c.min-top.ensures) _ _ image c.counted_fate-fate.ensures
+    ∙ stop a.view.files a.view.sheet.now a.fates.now a.file l.place c.loop-place-test.true (within a.end _ a.view.sheet.now l.auto.place c.min-top.ensures c.pages.ensures) _ _ image c.counted_fate-fate.ensures
     (overlay l.row.token l.row.tokenend l.row.tokenaction) (λ r m. over_committed _ _ _ _ _ _ _ r m c.if-fate-eq2.true i.nameless) i.from_above
 
 pub loop-place-preserved : goal.loop-place-preserved
@@ -91,9 +91,9 @@ loop-place-preserved c =
     let a = c.args in
     let l = c.loop-place in
     let i = l.invariant in
-    let image = image_at a.sheet.now l.place a.files a.file c.names.ensures c.if-not-names.false c.test.ensures c.in-Image.is (part_is _ _ _ l.place c.loop-place-test.true refl refl) in
+    let image = image_at a.view.sheet.now l.place a.view.files a.file c.names.ensures c.if-not-names.false c.test.ensures c.in-Image.is (part_is _ _ _ l.place c.loop-place-test.true refl refl) in
     let known = overlay l.row.token l.row.tokenend l.row.tokenaction in
-    let next = λ (known' : Row → Row). turn a.files a.sheet.now a.fates.now a.file l.place c.loop-place-test.true (within a.end _ a.sheet.now l.auto.place c.min-top.ensures) _ _ image c.counted_fate-fate.ensures known known' {x = row_to a.files a.sheet.now a.fates.now a.file a.end} in
+    let next = λ (known' : Row → Row). turn a.view.files a.view.sheet.now a.fates.now a.file l.place c.loop-place-test.true (within a.end _ a.view.sheet.now l.auto.place c.min-top.ensures c.pages.ensures) _ _ image c.counted_fate-fate.ensures known known' {x = row_to a.view.files a.view.sheet.now a.fates.now a.file a.end} in
     elim c.if-fate-eq1.branch [
       | then-fate-eq1+then-row-eq0 w ↦ rw w.row-is (record {
         from_above = next (overlay _ _ _) (λ r. over_token _ _ _ _ _ _ _ r w.if-fate-eq1.true w.if-row-eq0.true c.loop-place-test.true) i.from_above;
@@ -114,4 +114,4 @@ pub returns : goal.returns
 returns c =
     let a = c.args in
     let l = c.loop-place in
-    l.invariant.token_alone ∙ over_end a.files a.sheet.now a.fates.now a.file l.place l.row.token l.row.tokenend l.row.tokenaction (omega (arith, c.loop-place-test.false)) l.invariant.nameless ∙ l.invariant.from_above
+    l.invariant.token_alone ∙ over_end a.view.files a.view.sheet.now a.fates.now a.file l.place l.row.token l.row.tokenend l.row.tokenaction (omega (arith, c.loop-place-test.false)) l.invariant.nameless ∙ l.invariant.from_above

@@ -6,7 +6,7 @@ use Rattle.rebuilding.proofs.rebuilt_row.Given as goal
 
 abbrev pub invariant-loop-place : goal.invariant-loop-place
 invariant-loop-place l = record {
-  from_above : overlay l.row.token l.row.tokenend l.row.tokenaction (row_to l.files l.sheet l.fates l.file l.place) ≡ row_to l.files l.sheet l.fates l.file l.end;
+  from_above : overlay l.row.token l.row.tokenend l.row.tokenaction (row_to l.view.files l.view.sheet.now l.fates l.file l.place) ≡ row_to l.view.files l.view.sheet.now l.fates l.file l.end;
   token_alone : l.row ≡ rebuilt_with 0 0 l.row.token l.row.tokenend l.row.tokenaction;
   nameless : l.row.token ≡ 0 → (l.row.tokenend ≡ 0) × (l.row.tokenaction ≡ 0);
 }

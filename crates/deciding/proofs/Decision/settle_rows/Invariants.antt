@@ -7,7 +7,7 @@ use Rattle.deciding.specs.Verdicts.{is_commit}
 use Rattle.deciding.proofs.Decision.settle_rows.Given as goal
 
 abbrev pub invariant-loop-file : goal.invariant-loop-file
-invariant-loop-file l = (l.file ≤ l.self.files) × (l.rows ≡ run_to l.self.sheet.now l.self.files l.self.end l.self.action (is_commit l.self.verdict) l.initial.rows l.file)
+invariant-loop-file l = (l.file ≤ l.self.view.files) × (l.rows ≡ run_to l.self.view.sheet.now l.self.view.files l.self.end l.self.action (is_commit l.self.verdict) l.initial.rows l.file)
 
 abbrev pub decreases-loop-file : goal.decreases-loop-file
-decreases-loop-file l = l.self.files - l.file
+decreases-loop-file l = l.self.view.files - l.file

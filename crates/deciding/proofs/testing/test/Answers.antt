@@ -12,4 +12,4 @@ pub returns-in-Err : goal.returns-in-Err
 returns-in-Err c = by_refuse _ _ _ _ _ _ c.refuse-in-Err.ensures (test_none _ _ _ _ (passed c.is_lent_right.ensures c.if-not-is_lent_right.false) _ _ (sym c.in-Err.is ∙ c.known_fate.ensures))
 
 pub returns : goal.returns
-returns c = test_told _ _ _ _ (passed c.is_lent_right.ensures c.if-not-is_lent_right.false) _ _ _ (sym c.in-Ok.is ∙ c.known_fate.ensures) (rw c.file_count.ensures at c.outcome_place-place.ensures)
+returns c = test_told _ _ _ _ (passed c.is_lent_right.ensures c.if-not-is_lent_right.false) _ _ _ (sym c.in-Ok.is ∙ c.known_fate.ensures) (rw c.file_count-files.ensures at c.outcome_place-place.ensures)

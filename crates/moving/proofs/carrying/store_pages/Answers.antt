@@ -12,5 +12,5 @@ returns c =
     let p = c.append in
     let v = c.store_versions-at in
     let one : c.from-small.result ≡ 1 = rw (c.from-small.ensures, c.is_blank_at.ensures, c.requires.1) in
-    stores_all_lem a.sheet.now a.files a.rows.now a.fresh.now p.new.sheet v.new.fresh _ v.result _ _ c.requires.0
+    stores_all_lem a.view.sheet.now a.view.files a.rows.now a.fresh.now p.new.sheet v.new.fresh _ v.result _ _ c.requires.0
     (c.opening_as-opening.ensures ∙ ap (λ (n : ℕ). table.opening_as n 1) one) p.ensures (omega (arith, p.auto)) v.ensures (omega (arith, v.auto)) (c.outcome-outcome.ensures ∙ ap (table.outcome 1) one) c.append-2.ensures

@@ -6,4 +6,4 @@ use Prim.Native.Nat.{suc, pred, ◌≤◌}
 use Rattle.moving.proofs.carrying.store_versions.Given as goal
 
 abbrev pub invariant-loop-file : goal.invariant-loop-file
-invariant-loop-file l = (l.file ≤ suc l.files) × ((l.at, l.fresh) ≡ stores_to l.sheet l.files l.rows l.initial.fresh (pred l.file)) × (length l.fresh ≡ length l.initial.fresh)
+invariant-loop-file l = (l.file ≤ suc l.view.files) × ((l.at, l.fresh) ≡ stores_to l.view.sheet.now l.view.files l.rows l.initial.fresh (pred l.file)) × (length l.fresh ≡ length l.initial.fresh)

@@ -5,4 +5,4 @@ use Prim.Native.Nat.{suc, pred, ◌≤◌}
 use Rattle.moving.proofs.checking.survey_rows.Given as goal
 
 abbrev pub invariant-loop-file : goal.invariant-loop-file
-invariant-loop-file l = (l.file ≤ suc l.files) × (l.survey ≡ survey_to l.sheet l.files l.end l.rows l.floor (pred l.file))
+invariant-loop-file l = (l.file ≤ suc l.view.files) × (l.survey ≡ survey_to l.view.sheet.now l.view.files l.end l.rows l.floor (pred l.file))

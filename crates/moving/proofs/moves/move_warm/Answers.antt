@@ -25,24 +25,24 @@ overflow_add-survey c =
 pub returns-then-pages-survey : goal.returns-then-pages-survey
 returns-then-pages-survey c =
     let a = c.args in
-    warm_full a.sheet.now a.fates.now a.rows.now a.state a.fresh.now c.requires _ (rw c.file_count-files.ensures at c.survey_rows-survey.ensures) c.in_default.is c.if-pages-survey.true _ c.refuse.ensures
+    warm_full a.sheet.now a.fates.now a.rows.now a.state a.fresh.now c.requires _ (rw c.file_count-files.ensures at c.survey_rows-survey.ensures) c.in_default.is (rw c.pages.ensures at c.if-pages-survey.true) _ c.refuse.ensures
 
 pub returns-then-not-is_unused : goal.returns-then-not-is_unused
 returns-then-not-is_unused c =
     let a = c.args in
-    warm_used a.sheet.now a.fates.now a.rows.now a.state a.fresh.now c.requires _ (rw c.file_count-files.ensures at c.survey_rows-survey.ensures) c.in_default.is c.if-pages-survey.false _ (rw c.file_count-files.ensures at c.is_unused.ensures) c.if-not-is_unused.true _ c.refuse-then-not-is_unused.ensures
+    warm_used a.sheet.now a.fates.now a.rows.now a.state a.fresh.now c.requires _ (rw c.file_count-files.ensures at c.survey_rows-survey.ensures) c.in_default.is (rw c.pages.ensures at c.if-pages-survey.false) _ (rw c.file_count-files.ensures at c.is_unused.ensures) c.if-not-is_unused.true _ c.refuse-then-not-is_unused.ensures
 
 pub store_pages-requires : goal.store_pages-requires
 store_pages-requires c =
     let a = c.args in
     let k = c.file_count-files.ensures in
     let v = rw k at c.survey_rows-survey.ensures in (
-      rw k (roomy a.sheet.now a.fates.now a.rows.now a.state a.fresh.now c.requires _ v c.in_default.is c.if-pages-survey.false),
-      rw k (blank_first a.sheet.now a.fates.now a.rows.now a.state a.fresh.now c.requires _ v c.in_default.is c.if-pages-survey.false _ (rw k at c.is_unused.ensures) c.if-not-is_unused.false),
+      rw k (roomy a.sheet.now a.fates.now a.rows.now a.state a.fresh.now c.requires _ v c.in_default.is (rw c.pages.ensures at c.if-pages-survey.false)),
+      rw k (blank_first a.sheet.now a.fates.now a.rows.now a.state a.fresh.now c.requires _ v c.in_default.is (rw c.pages.ensures at c.if-pages-survey.false) _ (rw k at c.is_unused.ensures) c.if-not-is_unused.false),
     )
 
 pub returns : goal.returns
 returns c =
     let a = c.args in
     let k = c.file_count-files.ensures in
-    warm_done a.sheet.now a.fates.now a.rows.now a.state a.fresh.now c.requires _ (rw k at c.survey_rows-survey.ensures) c.in_default.is c.if-pages-survey.false _ (rw k at c.is_unused.ensures) c.if-not-is_unused.false _ (rw k at c.store_pages.ensures)
+    warm_done a.sheet.now a.fates.now a.rows.now a.state a.fresh.now c.requires _ (rw k at c.survey_rows-survey.ensures) c.in_default.is (rw c.pages.ensures at c.if-pages-survey.false) _ (rw k at c.is_unused.ensures) c.if-not-is_unused.false _ (rw k at c.store_pages.ensures)

@@ -1,7 +1,0 @@
--- `recovery::starts::highest_start`. The invariant: the highest start above the walk's place. Assumes nothing.
-use Rattle.recovery.proofs.HighestStart.{start_above}
-use mathlib.Core.Path.{◌≡◌}
-use Rattle.recovery.proofs.starts.highest_start.Given as goal
-
-abbrev pub invariant-loop-place : goal.invariant-loop-place
-invariant-loop-place l = l.highest ≡ start_above l.files l.sheet l.place
