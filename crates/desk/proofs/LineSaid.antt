@@ -95,13 +95,6 @@ not_lent d f = and_false (is_some d.state) (is_file most_files d.files) f
 pub is_lent : (d : Desk) {state : State} → d.state ≡ Some state → is_file most_files d.files ≡ true → is_open d ≡ true
 is_lent d e f = rw (e, f)
 
--- ---- a line
-
--- what its command leaves is what the conversation says of it
-pub line_by : (d : Desk) (s fates rows line : List ℕ) (c v : Option Command) (x : After) → c ≡ parsed line → c ≡ v → x ≡ conversed d s fates rows v line
-    → x ≡ conversed d s fates rows (parsed line) line
-line_by d s fates rows line c v x p e q = q ∙ ap (λ y. conversed d s fates rows y line) (sym e ∙ p)
-
 -- ---- what is said
 
 module _ (d : Desk) (s fates rows line out : List ℕ) where

@@ -21,10 +21,6 @@ write_turn out t n i y h l e = rw (add-one, take-suc-set out i (y % 256) h, appe
     step : n - i ≡ suc (n - suc i)
     step = omega arith
 
-pub copy_turn : (out s : List ℕ) (i : ℕ) → i < length out → i < length s → take i out ≡ take i s
-    → take (i + 1) (set out i (get_or s i 0)) ≡ take (i + 1) s
-copy_turn out s i h k e = rw (add-one, take-suc-set out i (get_or s i 0) h, take-suc s i 0 k, e)
-
 -- two numbers are 0 exactly if their bits together are
 pub or_zero : (x b : ℕ) → eqb (bit_or x b) 0 ≡ (eqb x 0 && eqb b 0)
 or_zero x b = go (eqb x 0) refl

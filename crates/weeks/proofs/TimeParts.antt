@@ -19,14 +19,6 @@ use Rattle.weeks.specs.Weeks.{time, uneven}
 
 -- ---- read
 
--- two bytes, the low one first
-pub two_read : (s : List ℕ) (at : ℕ) {x y : ℕ} → x ≡ get_or s at 0 → y ≡ get_or s (at + 1) 0 → y < 256
-    → x + y * 256 % 18446744073709551616 ≡ number (take 2 (drop at s))
-two_read s at {x} {y} low high small =
-    let next : at + 1 ≡ suc at = add-one at in
-    let last : y ≡ number (take 1 (drop (suc at) s)) = high ∙ ap (λ (i : ℕ). get_or s i 0) next ∙ sym (number_byte s (suc at)) in
-    omega (arith, number_first 1 s at)
-
 pub one_byte : (e : Edition) (s : List ℕ) (k : ℕ) {x : ℕ} → width e ≡ 1 → x ≡ get_or s k 0 → x ≡ time e s k
 unfolding time
 one_byte e s k h r = let one : 1 * k ≡ k = omega arith in rw (h, one) (r ∙ sym (number_byte s k))
@@ -71,17 +63,6 @@ units_are o m x some e f =
     sym (ap (λ (y : ℕ). y / minutes o) (sym q) ∙ mul-div_right x some)
 
 -- ---- written
-
-pub two_written : (x at : ℕ) (out : List ℕ) → at + 2 ≤ length out
-    → take (at + 2) (set (set out at (x % 256)) (at + 1) (x / 256 % 256)) ≡ take at out ++ bytes 2 x
-two_written x at out l =
-    let end : at + 2 ≡ suc (at + 1) = omega arith in
-    let next : at + 1 ≡ suc at = add-one at in
-    let low : take (at + 1) (set out at (x % 256)) ≡ take at out ++ (x % 256 ∷ []) = rw next (take-suc-set out at (x % 256) (omega arith)) in
-    rw end
-    (take-suc-set (set out at (x % 256)) (at + 1) (x / 256 % 256) (lt-length-set out at (x % 256) (omega arith))
-    ∙ ap (λ (t : List ℕ). t ++ (x / 256 % 256 ∷ [])) low
-    ∙ append_assoc (take at out) (x % 256 ∷ []) (x / 256 % 256 ∷ []))
 
 pub put_one : (o : Edition) (k x : ℕ) (out : List ℕ) → width o ≡ 1 → k < length out
     → take (width o * k + width o) (set out k (x % 256)) ≡ take (width o * k) out ++ bytes (width o) x

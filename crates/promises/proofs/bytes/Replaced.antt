@@ -85,9 +85,6 @@ module _ (r : ℕ → Entry) where
 pub bad_blank : bad ≡ blank → ⊥
 bad_blank e = let z : ◌≡◌ {A = ℕ} 0 1 = cc in omega arith
 
-pub bad_opening : bad ≡ opening false → ⊥
-bad_opening e = let z : ◌≡◌ {A = ℕ} 0 1 = cc in omega arith
-
 pub bad_image : (i : Image) → bad ≡ image i → ⊥
 bad_image i e = let z : ◌≡◌ {A = ℕ} 0 1 = cc in omega arith
 
