@@ -172,7 +172,7 @@ fn decided_again(
 }
 
 // Commits or aborts an action: appends its outcome. The rows are settled first, by the sheet as it was. Asked again, it changes
-// nothing.
+// nothing. The open count is lent, so it may be 0 already.
 fn decide(
     sheet: &mut [u8],
     fates: &mut [u8],
@@ -192,10 +192,9 @@ fn decide(
             _ => refuse(why, state),
         };
     }
-    let end = state.end;
     let decision = Decision {
         sheet: &sheet[..],
-        end,
+        end: state.end,
         files,
         action,
         opened: is_opening_at(&sheet[..], action, files),
@@ -203,13 +202,12 @@ fn decide(
     };
     decision.settle_rows(rows);
     let page = verdict.page(action);
-    append(sheet, end, files, page, &[0u8; Page::VALUE_SIZE]);
+    append(sheet, state.end, files, page, &[0u8; Page::VALUE_SIZE]);
     fates[action as usize - 1] = verdict.fate();
     Done {
-        answer: Answer::Stored(end + 1),
+        answer: Answer::Stored(state.end + 1),
         state: State {
-            end: end + 1,
-            // The open count is lent, so it may be too low.
+            end: state.end + 1,
             undecided: state.undecided.saturating_sub(1),
             ..state
         },
