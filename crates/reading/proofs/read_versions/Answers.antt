@@ -1,10 +1,7 @@
 -- `reading::read_versions`: no current version, a time below its start, a time from its start on. Assumes nothing.
 use mathlib.Core.Path.{sym, ◌∙◌}
-use Rattle.reading.proofs.ReadEnds.{versions_none, versions_met, versions_early}
+use Rattle.reading.proofs.ReadEnds.{versions_met, versions_early}
 use Rattle.reading.proofs.read_versions.Goals as goal
-
-pub returns-in_default : goal.returns-in_default
-returns-in_default c = versions_none _ _ c.requires _ c.current_read-reached.ensures c.in_default.is
 
 pub returns-then-newest-time : goal.returns-then-newest-time
 returns-then-newest-time c = versions_met _ _ c.requires c.in-Some.is _ c.current_read-reached.ensures c.if-newest-time.true
