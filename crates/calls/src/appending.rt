@@ -5,6 +5,7 @@ ghost use Rattle.calls.specs.Leaves.{appended};
 use page::Page;
 
 // Stores a page above the end, byte 0 first and byte 63 last, as pack writes it; nothing where there is no room or pack refuses it.
+// The sheet is lent to be written here, and so is no View.
 pub fn append(sheet: &mut [u8], end: u64, files: u64, page: Page, value: &[u8; Page::VALUE_SIZE])
     ensures { sheet.new ≡ appended sheet.old end files page value.now }
 {

@@ -36,7 +36,7 @@ impl View<'_> {
     }
 }
 
-// The same of a sheet and a file count.
+// The same of a sheet and a file count, for a program (docs/LIMITS.md).
 pub fn highest_start(sheet: &[u8], files: u64) -> u64
     ensures { result ≡ highest_start_of sheet.now files }
 {
