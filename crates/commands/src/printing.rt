@@ -105,7 +105,8 @@ impl Line {
     }
 }
 
-// A line that is a word, and one that is a word and a number, or two.
+// A line that is a word, and one that is a word and a number, or two. One function over a run of numbers would need a bound on how many
+// there are, and a sum of their digits in its contract.
 fn word_line(word: &[u8]) -> Line
     requires { length word.now ≤ 6 }
     ensures { result ≡ word.now ++ newline }

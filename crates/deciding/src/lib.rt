@@ -134,6 +134,7 @@ impl<'a> Decision<'a> {
     }
 
     // Every row, settled. A row that does not name the action costs no look at a page, and the action's opening is looked at once for all.
+    // No range counts the files: it goes on from the next one that names the action.
     fn settle_rows(&self, rows: &mut [u64])
         requires { (row_length * (length rows.old / row_length) ≡ length rows.old) × (self.now.view.files ≡ length rows.old / row_length) }
         ensures { rows.new ≡ settled_rows self.now.view.sheet.now self.now.view.files self.now.end self.now.action (is_commit self.now.verdict) rows.old }

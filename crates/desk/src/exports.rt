@@ -1,5 +1,5 @@
 // For the desk in C, to which the crate desk_c gives them: packing, the page test and inspection; the week test and the converter. A slice
-// is a pointer and a count there; any count is taken.
+// is a pointer and a count there; any count is taken. They answer numbers, and take the fields of a page one by one, as C does.
 ghost use Rattle.std.specs.Prelude.{◌≡◌, length};
 ghost use Rattle.page.specs.Answers.{pack_number, field_list};
 ghost use Rattle.desk.specs.Exports.{field_count, fields_given, packed_for, tested_for, inspected_for, week_tested_for, converted_for};
@@ -76,15 +76,7 @@ fn give_found(fields: &mut [u64], found: Unpacked) -> u64
         Unpacked::Refused => 1,
         Unpacked::Blank => 3,
         Unpacked::Torn => 4,
-        Unpacked::Opening(page) => {
-            give(fields, page);
-            0
-        }
-        Unpacked::Image(page) => {
-            give(fields, page);
-            0
-        }
-        Unpacked::Outcome(page) => {
+        Unpacked::Opening(page) | Unpacked::Image(page) | Unpacked::Outcome(page) => {
             give(fields, page);
             0
         }

@@ -1,4 +1,4 @@
-// A conversation: commands, one a line, on one sheet.
+// A conversation: commands, one a line, on one sheet. Sheet, fates and rows stay apart, as the calls are lent them.
 ghost use Rattle.std.specs.Prelude.{◌≡◌, ◌*◌, ◌≤◌, None, Some, cond, drop};
 ghost use Rattle.page.specs.Layout.{most_files};
 ghost use Rattle.recovery.specs.Lent.{row_length};
@@ -12,7 +12,7 @@ use crate::showing::{open_reply, tell};
 use calls::Call;
 use commands::{Command, Reply, parse};
 use page::Page;
-use recovery::{Answer, Done, ROW_LENGTH, State, highest_start};
+use recovery::{Answer, Done, ROW_LENGTH, Refusal, State, highest_start};
 
 // What the desk keeps from line to line, beside sheet, fates and rows: for how many files it is, the state if it has one, and after how many
 // bytes the next append is cut, if it is.
@@ -108,7 +108,7 @@ fn start(
 {
     if !recovery::is_file(Page::MOST_FILES, files) {
         return only(
-            Reply::No(1, 0),
+            Reply::No(u64::from(Refusal::WrongSizes), 0),
             Desk {
                 state: None,
                 ..desk

@@ -87,7 +87,7 @@ fn fours(s: &[u8], at: usize, end: usize) -> u64
     fours_of(read_number(&s[at..end]))
 }
 
-// Each half folded.
+// Each half folded: with masks for both, and no bound on either, so that it is none of `fold`.
 fn fold_halves(x: u64) -> u64
     ensures { result ≡ folded (x % 4294967296) + 4294967296 * folded (x / 4294967296) }
 {
@@ -132,7 +132,8 @@ fn twice(x: u64, y: u64) -> u64
     (x << 1) + y
 }
 
-// Four numbers by the high eight bits of their weights, all at once: double, and add those whose weight has the bit.
+// Four numbers by the high eight bits of their weights, all at once: double, and add those whose weight has the bit. The bounds are of this
+// sum alone, and so stand here and in no type.
 fn weigh_high(a: u64, b: u64, c: u64, d: u64) -> u64
     requires { (a ≤ 1048560) × (b ≤ 1048560) × (c ≤ 1048560) × (d ≤ 1048560) }
     ensures { result ≡ 227 * a + 153 * b + 66 * c + 164 * d }

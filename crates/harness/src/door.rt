@@ -31,7 +31,7 @@ fn tell(out: &mut [u64], done: Done)
     out[UNDECIDED] = state.undecided;
 }
 
-// A call by its number.
+// A call by its number, which is C's.
 #[tactic(auto, unfolding(crate::specs::Door::call_of))]
 fn call_of(kind: u64, file: u64, time: u64, action: u64) -> Call
     ensures { result ≡ call_of kind file time action }

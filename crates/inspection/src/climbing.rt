@@ -151,7 +151,8 @@ fn climb<const N: usize>(view: View) -> Option<u64>
     None
 }
 
-// The climb, with arrays by the sheet's size.
+// The climb, with arrays by the sheet's size. How many pages a sheet may have is line 1's, asked here and no field of View: other looks take
+// sheets of any size.
 fn climb_sheet(view: View) -> Option<u64>
     requires { length view.sheet.now / page_size ≤ most_places }
     ensures { result ≡ some_place (lowest_unlawful (down (pages_of view.entry.sheet.now view.entry.files) (length view.entry.sheet.now / page_size))) }

@@ -82,7 +82,7 @@ fn in_bounds(part: &[u8], place: u64, files: u64) -> Option<&[u8; Page::SIZE]>
     Some(bytes)
 }
 
-// The number from `at` up to `end`.
+// The number from `at` up to `end`. A range in place of both would be asked the same, here and where a field is put.
 fn field(part: &[u8], at: usize, end: usize) -> u64
     requires { (at ≤ end) × (end ≤ length part.now) × (end ≤ at + 8) }
     ensures { result ≡ field at end part.now }
@@ -188,7 +188,7 @@ impl Page {
         }
     }
 
-    // The least that each field may be.
+    // The least that each field may be. It and `highest` have no number in common, and so no function that serves both.
     #[tactic(auto, unfolding(crate::specs::Table::lowest))]
     fn lowest(kind: u64, place: u64) -> Page
         ensures { result ≡ lowest kind place }
@@ -200,7 +200,8 @@ impl Page {
         }
     }
 
-    // The greatest that each field may be.
+    // The greatest that each field may be. That the place is 1 or more is asked here and below, and is no type's: line 1 has let it through
+    // by then, and a type would be made of it again at each call.
     #[tactic(auto, unfolding(crate::specs::Table::highest))]
     fn highest(kind: u64, place: u64, files: u64) -> Page
         requires { 1 ≤ place }
@@ -366,7 +367,7 @@ impl Page {
         Some(p)
     }
 
-    // Whether the page test finds a blank page.
+    // Whether the page test finds a blank page. This look and those at openings read other bytes each: they share line 1 alone.
     pub fn is_blank(part: &[u8], place: u64, files: u64) -> bool
         ensures { result ≡ is_blank_page (tested part.now place files) }
     {
@@ -418,7 +419,7 @@ impl Page {
         Page::is_opening(part, place, files)
     }
 
-    // A part of a page's size with this kind.
+    // A part of a page's size with this kind. It and the looks that begin with it take any part, as their callers have it.
     fn has_kind(part: &[u8], kind: u64) -> bool
         ensures { result ≡ has_kind part.now kind }
     {
@@ -464,7 +465,8 @@ impl Page {
         Page::fit_image(part, place, files)
     }
 
-    // The image in a part that starts above a time, by its kind and start before anything else.
+    // The image in a part that starts above a time, by its kind and start before anything else. What it and `seek` share is `fit_image`; a
+    // closure for the one test before that would be longer than the test.
     pub fn seek_above(part: &[u8], place: u64, files: u64, time: u64) -> Option<Page>
         ensures { result ≡ image_above time (tested part.now place files) }
     {

@@ -59,7 +59,8 @@ fn none_below(carried: bool) -> Answer
     Answer::Nothing
 }
 
-// The first image from a place down the links whose start is not above a time. A link leads to a lower place, so this ends.
+// The first image from a place down the links whose start is not above a time. A link leads to a lower place, so this ends;
+// it follows links, and counts nothing.
 fn walk(view: View, from: u64, file: u64, time: u64, first: Page) -> Answer
     requires { sealed_image view.files view.sheet.now file from ≡ Some first }
     ensures { result ≡ walk_at view.entry.files view.entry.sheet.now file time false from first }

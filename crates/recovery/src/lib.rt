@@ -99,7 +99,8 @@ pub enum Refusal {
 
 // What a call answers: why it is refused, and the place that is named, 0 if none; open's end and open count; the numbers of a row after
 // its mark; the place of the call's page; place, start and length of a value; none; a fate, and the place of the newest outcome; the
-// floor for a fresh sheet.
+// floor for a fresh sheet. A refusal is one of the answers, and no Err around them: what is heard has one list of numbers (`numbers_of`),
+// and the promises speak of that.
 #[derive(Clone, Copy)]
 pub enum Answer {
     Refused(Refusal, u64),

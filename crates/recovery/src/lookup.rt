@@ -118,8 +118,8 @@ impl<'a> View<'a> {
         Page::is_outcome_of(part_at(self.sheet, place), place, self.files, action)
     }
 
-    // The place of an action's newest sealed outcome up to the end, 0 if there is none: going down from the end as far as the
-    // action's opening, past any other page at once.
+    // The place of an action's newest sealed outcome up to the end, going down from there as far as the action's opening, past any other
+    // page at once. 0 if there is none, and no None: 0 is the place that test answers then (`outcome_of`).
     pub fn outcome_place(self, end: u64, action: u64) -> u64
         ensures { result ≡ outcome_in self.entry.sheet.now self.entry.files end action }
     {
@@ -148,7 +148,7 @@ impl<'a> View<'a> {
         found
     }
 
-    // The fate under which images of an action count; the opening is looked at only where the fate could count.
+    // The fate under which images of an action count, or 0, that of no action; the opening is looked at only where the fate could count.
     #[tactic(auto, unfolding(crate::specs::Steps::counted_fate))]
     pub fn counted_fate(self, fates: &[u8], action: u64) -> u64
         ensures { result ≡ counted_fate self.entry.files self.entry.sheet.now fates.now action }

@@ -12,7 +12,8 @@ fn raise(row: &mut Row, current: u64, token: u64)
     row.tokenend = row.tokenend.max(token);
 }
 
-// The same by value, for callers: the record lies in a local, which is lent.
+// The same by value, for callers: the record lies in a local, which is lent. Document 01 asks for the function over a lent row, so that
+// both stand.
 pub fn raised_row(mut row: Row, current: u64, token: u64) -> Row
     ensures { result ≡ raised row current token }
 {
