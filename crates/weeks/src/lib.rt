@@ -117,7 +117,8 @@ impl Edition {
     }
 }
 
-// A week of opening hours as an edition writes it.
+// A week of opening hours as an edition writes it. An output lies beside its edition: in a struct with a `&mut`, the five clauses on its
+// length would go, and seven come, that its edition and its reference (`ghost_name`) stay.
 #[derive(Clone, Copy)]
 struct Week<'a> {
     edition: Edition,

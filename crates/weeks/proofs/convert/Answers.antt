@@ -1,9 +1,6 @@
 -- `weeks::convert`, by its ways out. Assumes nothing.
-use mathlib.Core.Path.{◌≡◌, ap, ◌∙◌}
-use mathlib.Core.List.{List}
-use Prim.Native.Nat.{ℕ}
+use mathlib.Core.Path.{◌∙◌}
 use Rattle.std.proofs.lemmas.Result.{err_from_is_err_and}
-use Rattle.weeks.specs.Answers.{converted}
 use Rattle.weeks.proofs.Editions.{length_named, names}
 use Rattle.weeks.proofs.Lines.{names_none, names_one, no_week, one_week, convert_unknown, convert_no_output, convert_same, convert_by}
 use Rattle.weeks.proofs.convert.Goals as goal
