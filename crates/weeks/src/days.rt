@@ -41,7 +41,7 @@ fn lower(fails: bool, d: u8, above: Option<u8>) -> Option<u8>
 
 impl Week<'_> {
     // Both tests in one pass, from Sunday down, so that the last day that is found is the lowest. It does not end at a fault: those are
-    // rare. Inlined, since a call copies the week to memory: with one a week test took 12.6 ns in place of 8.1, a conversion 22 in place of 18.
+    // rare. Inlined, since a call copies the week to memory: so a week test took 12.6 ns in place of 8.1, a conversion 22 in place of 18.
     #[inline(always)]
     pub(crate) fn faults(self, o: Edition) -> Faults
         ensures { (result.wrong ≡ some_day (lowest_day (wrong_day self.entry.edition self.entry.bytes.now))) × (result.uneven ≡ some_day (lowest_day (uneven_day self.entry.edition o self.entry.bytes.now))) }
