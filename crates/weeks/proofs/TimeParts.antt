@@ -1,18 +1,17 @@
 -- A time read off a week and put into one: its bytes one by one, and its minutes as another edition's units. Assumes nothing.
-use Prim.Native.Nat.{ℕ, suc, ◌+◌, ◌*◌, ◌/◌, ◌%◌, ◌≤◌, ◌<◌}
+use Prim.Native.Nat.{ℕ, suc, ◌+◌, ◌*◌, ◌/◌, ◌%◌, ◌<◌}
 use mathlib.Core.Path.{◌≡◌, sym, ap, ◌∙◌}
 use mathlib.Core.Bool.{true, false, not}
-use mathlib.Core.List.{List, [], ◌∷◌, ◌++◌, append_assoc}
+use mathlib.Core.List.{List, ◌++◌}
 use native.Mathlib.Omega.{arith}
 use native.Mathlib.Nat.{mul-mod_right, mul-div_right}
-use native.Mathlib.Numerals.{add-one}
 use borrow.Author.Tests.{eq-eqb, eqb-true, not-false}
 use lib.Dec.{eqb}
 use lib.ListN.{length, take, drop, get_or, set}
-use lib.Seq.{take-suc-set, lt-length-set}
+use lib.Seq.{take-suc-set}
 use Rattle.encoding.specs.Bytes.{number, bytes}
 use Rattle.encoding.proofs.Logic.{bool_ext}
-use Rattle.encoding.proofs.Numbers.{number_first, number_byte}
+use Rattle.encoding.proofs.Numbers.{number_byte}
 use Rattle.weeks.specs.declared.Edition.{Edition}
 use Rattle.weeks.specs.Editions.{width, minutes}
 use Rattle.weeks.specs.Weeks.{time, uneven}

@@ -1,10 +1,10 @@
 // The days of a week, tested.
-ghost use Rattle.std.specs.Prelude.{cond, Some, ◌≡◌, ◌+◌, ◌*◌, ◌<◌, length};
-ghost use Rattle.weeks.specs.Editions.{size, minutes};
+ghost use Rattle.std.specs.Prelude.{cond, Some, ◌≡◌, ◌+◌, ◌*◌, ◌<◌};
+ghost use Rattle.weeks.specs.Editions.{minutes};
 ghost use Rattle.weeks.specs.Weeks.{wrong, wrong_day, uneven, uneven_day, lowest_day, some_day};
 
-use crate::Edition;
-use crate::times::{time_at, units};
+use crate::times::units;
+use crate::{Edition, Week};
 
 // The lowest day whose times are wrong, and the lowest with a minute that another edition cannot tell.
 #[derive(Clone, Copy)]
@@ -39,23 +39,27 @@ fn lower(fails: bool, d: u8, above: Option<u8>) -> Option<u8>
     above
 }
 
-// Both tests in one pass, from Sunday down, so that the last day that is found is the lowest. It does not end at a fault: those are rare.
-pub(crate) fn find_faults(e: Edition, o: Edition, week: &[u8]) -> Faults
-    requires { length week.now ≡ size e }
-    ensures { (result.wrong ≡ some_day (lowest_day (wrong_day e week.now))) × (result.uneven ≡ some_day (lowest_day (uneven_day e o week.now))) }
-{
-    let mut wrong = None;
-    let mut uneven = None;
-    for d in (0..Edition::DAYS).rev() {
-        let opens = time_at(e, week, 2 * d);
-        let closes = time_at(e, week, 2 * d + 1);
-        let day = d as u8 + 1;
-        wrong = lower(is_wrong(e, opens, closes), day, wrong);
-        uneven = lower(
-            is_uneven(e, o, opens) | is_uneven(e, o, closes),
-            day,
-            uneven,
-        );
+impl Week<'_> {
+    // Both tests in one pass, from Sunday down, so that the last day that is found is the lowest. It does not end at a fault: those are
+    // rare. Inlined, since a call copies the week to memory: so a week test took 12.6 ns in place of 8.1, a conversion 22 in place of 18.
+    #[inline(always)]
+    pub(crate) fn faults(self, o: Edition) -> Faults
+        ensures { (result.wrong ≡ some_day (lowest_day (wrong_day self.entry.edition self.entry.bytes.now))) × (result.uneven ≡ some_day (lowest_day (uneven_day self.entry.edition o self.entry.bytes.now))) }
+    {
+        let e = self.edition;
+        let mut wrong = None;
+        let mut uneven = None;
+        for d in (0..Edition::DAYS).rev() {
+            let opens = self.time(2 * d);
+            let closes = self.time(2 * d + 1);
+            let day = d as u8 + 1;
+            wrong = lower(is_wrong(e, opens, closes), day, wrong);
+            uneven = lower(
+                is_uneven(e, o, opens) | is_uneven(e, o, closes),
+                day,
+                uneven,
+            );
+        }
+        Faults { wrong, uneven }
     }
-    Faults { wrong, uneven }
 }

@@ -6,14 +6,13 @@ mod days;
 mod masks;
 mod times;
 
-ghost use Rattle.std.specs.Prelude.{◌≡◌, ◌*◌, length, take};
+ghost use Rattle.std.specs.Prelude.{◌≡◌, ◌*◌, length, take, option_map, IfSome};
 ghost use Rattle.weeks.specs.Editions.{times_a_week, size, named, edition_number, width, limit, minutes, mask_size};
 ghost use Rattle.weeks.specs.Weeks.{uneven_day, lowest_day, times_in, in_edition};
 ghost use Rattle.weeks.specs.Answers.{week_test, converted, converted_by, refusal_code};
 
-use days::find_faults;
-use masks::{enough_keyholders, keyholders, put_mask};
-use times::{put_time, time_at, units};
+use masks::{enough_keyholders, put_mask};
+use times::{put_time, units};
 
 // An edition of the lock heads. The third is as the second, and has a mask of the keyholders who must attend.
 #[derive(Clone, Copy)]
@@ -118,61 +117,81 @@ impl Edition {
     }
 }
 
+// A week of opening hours as an edition writes it. An output lies beside its edition: in a struct with a `&mut`, the five clauses on its
+// length would go, and seven come, that its edition and its reference (`ghost_name`) stay.
+#[derive(Clone, Copy)]
+struct Week<'a> {
+    edition: Edition,
+    bytes: &'a [u8],
+    ghost long: { length bytes.now ≡ size edition },
+}
+
+impl<'a> Week<'a> {
+    // The week of the edition that the length names.
+    fn of(bytes: &'a [u8]) -> Option<Week<'a>>
+        ensures edition { option_map (λ w. w.edition) result ≡ named (length bytes.now) }
+        ensures bytes { IfSome result (λ w. w.bytes.now ≡ bytes.now) }
+    {
+        let edition = Edition::of(bytes.len())?;
+        Some(Week { edition, bytes })
+    }
+
+    // Writes the times in another edition, which can tell all the minutes.
+    fn write_times(self, o: Edition, out: &mut [u8])
+        requires { (length out.old ≡ size o) × (lowest_day (uneven_day self.edition o self.bytes.now) ≡ 0) }
+        ensures { take (width o * times_a_week) out.new ≡ times_in self.entry.edition o self.entry.bytes.now }
+    {
+        for k in 0..Edition::TIMES {
+            put_time(o, out, k, units(self.edition, o, self.time(k)));
+        }
+    }
+
+    // Writes the times, and behind them the mask, where that edition has one.
+    fn write(self, o: Edition, mask: u16, out: &mut [u8])
+        requires { (length out.old ≡ size o) × (lowest_day (uneven_day self.edition o self.bytes.now) ≡ 0) }
+        ensures { out.new ≡ in_edition self.entry.edition o self.entry.bytes.now mask }
+    {
+        self.write_times(o, out);
+        put_mask(o, mask, out);
+    }
+
+    // From its edition to another: 30, then 16, 29 and 17.
+    fn convert_to(self, o: Edition, mask: u16, out: &mut [u8]) -> Result<(), Refusal>
+        requires { length out.old ≡ size o }
+        ensures { (result, out.new) ≡ converted_by self.entry.edition o self.entry.bytes.now mask out.old }
+    {
+        if o.mask_size() < self.edition.mask_size() {
+            return Err(Refusal::StepDown);
+        }
+        let faults = self.faults(o);
+        if let Some(wrong) = faults.wrong {
+            return Err(Refusal::Times(wrong));
+        }
+        if !enough_keyholders(o, mask) {
+            return Err(Refusal::Keyholders);
+        }
+        if let Some(uneven) = faults.uneven {
+            return Err(Refusal::Minutes(uneven));
+        }
+        self.write(o, mask, out);
+        Ok(())
+    }
+}
+
 // The edition of a week, or what is wrong with it: 15, then 16, then 29.
 pub fn week_test(week: &[u8]) -> Result<u64, Refusal>
     ensures { result ≡ week_test week.now }
 {
-    let e = Edition::of(week.len()).ok_or(Refusal::Length)?;
+    let week = Week::of(week).ok_or(Refusal::Length)?;
     // Every time is a whole number of minutes, so that no time is uneven.
-    if let Some(day) = find_faults(e, Edition::Second, week).wrong {
+    if let Some(day) = week.faults(Edition::Second).wrong {
         return Err(Refusal::Times(day));
     }
-    if enough_keyholders(e, keyholders(e, week)) {
-        Ok(e.number())
+    if enough_keyholders(week.edition, week.keyholders()) {
+        Ok(week.edition.number())
     } else {
         Err(Refusal::Keyholders)
     }
-}
-
-// Writes the times of the week in another edition, which can tell all its minutes.
-fn write_times(e: Edition, o: Edition, week: &[u8], out: &mut [u8])
-    requires { (length week.now ≡ size e) × (length out.old ≡ size o) × (lowest_day (uneven_day e o week.now) ≡ 0) }
-    ensures { take (width o * times_a_week) out.new ≡ times_in e o week.now }
-{
-    for k in 0..Edition::TIMES {
-        put_time(o, out, k, units(e, o, time_at(e, week, k)));
-    }
-}
-
-// Writes the times, and behind them the mask, where that edition has one.
-fn write_week(e: Edition, o: Edition, week: &[u8], mask: u16, out: &mut [u8])
-    requires { (length week.now ≡ size e) × (length out.old ≡ size o) × (lowest_day (uneven_day e o week.now) ≡ 0) }
-    ensures { out.new ≡ in_edition e o week.now mask }
-{
-    write_times(e, o, week, out);
-    put_mask(o, mask, out);
-}
-
-// From one edition to another: 30, then 16, 29 and 17.
-fn convert_by(e: Edition, o: Edition, week: &[u8], mask: u16, out: &mut [u8]) -> Result<(), Refusal>
-    requires { (length week.now ≡ size e) × (length out.old ≡ size o) }
-    ensures { (result, out.new) ≡ converted_by e o week.now mask out.old }
-{
-    if o.mask_size() < e.mask_size() {
-        return Err(Refusal::StepDown);
-    }
-    let faults = find_faults(e, o, week);
-    if let Some(wrong) = faults.wrong {
-        return Err(Refusal::Times(wrong));
-    }
-    if !enough_keyholders(o, mask) {
-        return Err(Refusal::Keyholders);
-    }
-    if let Some(uneven) = faults.uneven {
-        return Err(Refusal::Minutes(uneven));
-    }
-    write_week(e, o, week, mask, out);
-    Ok(())
 }
 
 // Writes the week into the output in another edition, which the output's length names, with the caller's mask where that edition has one:
@@ -180,10 +199,10 @@ fn convert_by(e: Edition, o: Edition, week: &[u8], mask: u16, out: &mut [u8]) ->
 pub fn convert(week: &[u8], mask: u16, out: &mut [u8]) -> Result<(), Refusal>
     ensures { (result, out.new) ≡ converted week.now mask out.old }
 {
-    let e = Edition::of(week.len()).ok_or(Refusal::Length)?;
+    let e = Week::of(week).ok_or(Refusal::Length)?;
     let o = Edition::of(out.len()).ok_or(Refusal::Length)?;
     if week.len() == out.len() {
         return Err(Refusal::Length);
     }
-    convert_by(e, o, week, mask, out)
+    e.convert_to(o, mask, out)
 }

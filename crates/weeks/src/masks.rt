@@ -4,18 +4,19 @@ ghost use Rattle.encoding.specs.Bytes.{bytes};
 ghost use Rattle.weeks.specs.Editions.{times_a_week, size, width, mask_size};
 ghost use Rattle.weeks.specs.Weeks.{keyholders, enough_keyholders};
 
-use crate::Edition;
 use crate::times::{put_two, two_bytes};
+use crate::{Edition, Week};
 
-// The mask of a week, 0 where its edition has none.
-pub(crate) fn keyholders(e: Edition, week: &[u8]) -> u16
-    requires { length week.now ≡ size e }
-    ensures { result ≡ keyholders e week.now }
-{
-    if e.mask_size() == 0 {
-        return 0;
+impl Week<'_> {
+    // The mask, 0 where the edition has none.
+    pub(crate) fn keyholders(self) -> u16
+        ensures { result ≡ keyholders self.entry.edition self.entry.bytes.now }
+    {
+        if self.edition.mask_size() == 0 {
+            return 0;
+        }
+        two_bytes(self.bytes, self.edition.width() * Edition::TIMES) as u16
     }
-    two_bytes(week, e.width() * Edition::TIMES) as u16
 }
 
 // Dual custody: where the edition has a mask, at least two of its bits are set.

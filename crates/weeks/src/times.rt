@@ -4,7 +4,7 @@ ghost use Rattle.encoding.specs.Bytes.{number, bytes};
 ghost use Rattle.weeks.specs.Editions.{times_a_week, size, width, minutes};
 ghost use Rattle.weeks.specs.Weeks.{time, uneven};
 
-use crate::Edition;
+use crate::{Edition, Week};
 
 // A byte of a week. It is `encoding::byte_at` for an index that lies within, and kept for speed: with that one a conversion took 29 to 34 ns
 // in place of 17 to 25.
@@ -25,15 +25,17 @@ pub(crate) fn two_bytes(week: &[u8], at: usize) -> u64
     byte(week, at) + (byte(week, at + 1) << 8)
 }
 
-// Time k of a week, from 0.
-pub(crate) fn time_at(e: Edition, week: &[u8], k: usize) -> u64
-    requires { (length week.now ≡ size e) × (k < times_a_week) }
-    ensures value { result ≡ time e week.now k }
-    ensures fits { result < 65536 }
-{
-    match e {
-        Edition::First => byte(week, k),
-        Edition::Second | Edition::Third => two_bytes(week, 2 * k),
+impl Week<'_> {
+    // Time k, from 0.
+    pub(crate) fn time(self, k: usize) -> u64
+        requires { k < times_a_week }
+        ensures value { result ≡ time self.entry.edition self.entry.bytes.now k }
+        ensures fits { result < 65536 }
+    {
+        match self.edition {
+            Edition::First => byte(self.bytes, k),
+            Edition::Second | Edition::Third => two_bytes(self.bytes, 2 * k),
+        }
     }
 }
 

@@ -1,10 +1,10 @@
--- `weeks::write_week`: the times, and the mask behind them. Assumes nothing.
+-- `weeks::Week::write`: the times, and the mask behind them. Assumes nothing.
 use mathlib.Core.Path.{ap, ◌∙◌}
 use mathlib.Core.List.{◌++◌}
 use Rattle.encoding.specs.Bytes.{bytes}
 use Rattle.weeks.specs.Editions.{mask_size}
 use Rattle.weeks.specs.Weeks.{in_edition}
-use Rattle.weeks.proofs.write_week.Goals as goal
+use Rattle.weeks.proofs.Week.write.Goals as goal
 
 pub returns : goal.returns
 unfolding in_edition

@@ -1,4 +1,4 @@
--- `weeks::write_times`. The invariant: the times before k are written. Assumes nothing.
+-- `weeks::Week::write_times`. The invariant: the times before k are written. Assumes nothing.
 use Prim.Native.Nat.{ℕ}
 use mathlib.Core.Path.{◌≡◌, ap, ◌∙◌}
 use native.Mathlib.Omega.{arith}
@@ -9,7 +9,7 @@ use Rattle.encoding.proofs.Concat.{concat_turn}
 use Rattle.weeks.specs.Editions.{times_a_week, width}
 use Rattle.weeks.specs.Weeks.{time_in, times_in}
 use Rattle.weeks.proofs.Written.{put_there}
-use Rattle.weeks.proofs.write_times.Goals as goal
+use Rattle.weeks.proofs.Week.write_times.Goals as goal
 
 pub loop-k-init : goal.loop-k-init
 unfolding concat
@@ -22,8 +22,8 @@ loop-k-preserved c =
     let a = c.args in
     let put = c.put_time in
     let units = c.units in
-    let there = put_there a.e a.o a.week.now c.loop-k.out c.loop-k.k units.result c.requires.2 c.loop-k-test.true c.time_at.ensures.value units.ensures.t_value in
-    concat_turn (width a.o) c.loop-k.k c.loop-k.out put.new.out (time_in a.e a.o a.week.now) c.loop-k.invariant (put.ensures ∙ there)
+    let there = put_there a.self.edition a.o a.self.bytes.now c.loop-k.out c.loop-k.k units.result c.requires.1 c.loop-k-test.true c.time.ensures.value units.ensures.t_value in
+    concat_turn (width a.o) c.loop-k.k c.loop-k.out put.new.out (time_in a.self.edition a.o a.self.bytes.now) c.loop-k.invariant (put.ensures ∙ there)
 
 pub returns : goal.returns
 unfolding times_in
