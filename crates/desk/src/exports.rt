@@ -68,6 +68,7 @@ fn give(fields: &mut [u64], page: Page)
 }
 
 // The number of an answer; the fields of a page that fits.
+#[tactic(auto, unfolding(crate::specs::Exports::fields_given))]
 fn give_found(fields: &mut [u64], found: Unpacked) -> u64
     requires { length fields.old ≡ field_count }
     ensures { (result, fields.new) ≡ fields_given found fields.old }

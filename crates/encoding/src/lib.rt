@@ -58,7 +58,7 @@ fn copy_eight(out: &mut [u8], s: &[u8], at: usize)
     write_number(&mut out[at..end], read_number(&s[at..end]));
 }
 
-// The 32 bytes of a page's value.
+// The 32 bytes of a page's value, from the first on, as a page is stored: copy_from_slice need not go so.
 fn copy_value(out: &mut [u8], s: &[u8])
     requires { (length out.old ≡ 32) × (length s.now ≡ 32) }
     ensures { out.new ≡ s.now }

@@ -6,7 +6,7 @@ use Rattle.desk.proofs.talking.start.Goals as goal
 pub returns-then-not-is_file : goal.returns-then-not-is_file
 returns-then-not-is_file c =
     let a = c.args in
-    start_refused a.desk a.sheet.now a.fates.now a.rows.now _ a.files a.floor (refused c.is_file.ensures c.if-not-is_file.true) c.only.ensures
+    start_refused a.desk a.sheet.now a.fates.now a.rows.now _ a.files a.floor (refused c.is_file.ensures c.if-not-is_file.true) (rw c.from.ensures at c.only.ensures)
 
 pub returns : goal.returns
 returns c =

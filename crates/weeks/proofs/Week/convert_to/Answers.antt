@@ -16,7 +16,7 @@ returns-in-Some c =
 
 pub returns-then-not-enough_keyholders : goal.returns-then-not-enough_keyholders
 returns-then-not-enough_keyholders c =
-    let right = none_found _ c.faults-faults.ensures.0 c.in_default.is in
+    let right = none_found _ c.faults-faults.ensures.0 cc in
     step_few _ _ _ _ _ (omega arith) refl right (refused c.enough_keyholders.ensures c.if-not-enough_keyholders.true)
 
 pub returns-in-Some-uneven : goal.returns-in-Some-uneven
