@@ -17,7 +17,6 @@ use Rattle.recovery.specs.World.{is_file}
 use Rattle.recovery.specs.Lent.{left_by, row_length, open_leaves}
 use Rattle.recovery.specs.Numbers.{numbers_of, is_refused}
 use Rattle.calls.specs.declared.asking.Call.{Call}
-use Rattle.commands.specs.declared.parsing.Command.{Command}
 use Rattle.commands.specs.declared.printing.Reply as reply
 use Rattle.commands.specs.declared.printing.Reply.{Reply}
 use Rattle.commands.specs.Commands.{parsed}
@@ -25,7 +24,7 @@ use Rattle.commands.specs.Replies.{prints}
 use Rattle.desk.specs.declared.talking.Desk.{Desk}
 use Rattle.desk.specs.declared.talking.Turn.{Turn}
 use Rattle.desk.specs.Wording.{open_reply, shown}
-use Rattle.desk.specs.Conversation.{After, acted, opened_by, opened_for, lending, replied, is_open, called_for, started_for, conversed, spoken, said_to}
+use Rattle.desk.specs.Conversation.{acted, opened_by, opened_for, lending, replied, is_open, called_for, started_for, conversed, spoken, said_to}
 use Rattle.desk.specs.TalkSteps.{left_after, left_said}
 
 -- the rest of a line from an index on, as the code cuts it

@@ -9,7 +9,7 @@ use borrow.Author.Tests.{ne_eqb, eqb-true, eqb-false}
 use lib.Dec.{eqb}
 use lib.Bits.{bit_or, or_zero_l, or_add_and, and_le_r}
 use lib.ListN.{length, take, drop, get_or, set, drop_of_length-le}
-use lib.Seq.{sets, sets-eq, drop-cons, take-suc, take-suc-set, append_snoc}
+use lib.Seq.{sets, sets-eq, drop-cons, take-suc-set, append_snoc}
 use Rattle.encoding.specs.Bytes.{bytes, zeros}
 use Rattle.encoding.proofs.Logic.{and_assoc}
 
