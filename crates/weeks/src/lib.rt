@@ -199,10 +199,10 @@ pub fn week_test(week: &[u8]) -> Result<u64, Refusal>
 pub fn convert(week: &[u8], mask: u16, out: &mut [u8]) -> Result<(), Refusal>
     ensures { (result, out.new) ≡ converted week.now mask out.old }
 {
-    let e = Week::of(week).ok_or(Refusal::Length)?;
+    let hours = Week::of(week).ok_or(Refusal::Length)?;
     let o = Edition::of(out.len()).ok_or(Refusal::Length)?;
     if week.len() == out.len() {
         return Err(Refusal::Length);
     }
-    e.convert_to(o, mask, out)
+    hours.convert_to(o, mask, out)
 }
