@@ -28,7 +28,7 @@ fn space_from(line: &[u8], from: usize) -> usize
     from + rest.iter().position(|&b| b == b' ').unwrap_or(rest.len())
 }
 
-// The two runs have the same bytes.
+// The two runs have the same bytes: `==`, in the word of the definitions.
 fn is_same(s: &[u8], t: &[u8]) -> bool
     ensures { result ≡ same s.now t.now }
 {
@@ -149,7 +149,7 @@ fn with_one(size: usize, w: &[u8], number: Option<u64>) -> Option<Command>
     None
 }
 
-// A word and two numbers.
+// A word and two numbers. Each of these knows words of its own, and so no function serves two of them.
 #[tactic(auto, unfolding(crate::specs::Commands::with_two, crate::specs::Names::open_name))]
 fn with_two(w: &[u8], first: Option<u64>, second: Option<u64>) -> Option<Command>
     ensures { result ≡ with_two w.now first second }

@@ -8,7 +8,8 @@ use page::Page;
 use std::marker::Model;
 
 // What the program answers to a line: the bytes of a cut; the end and the open count; the place of the call's page; place, start
-// and size of what a read shows, whose value is lent beside it; a fate and the place of its outcome; a refusal's number and place.
+// and size of what a read shows, whose value is lent beside it; a fate and the place of its outcome; a refusal's number and place, which
+// `prints` takes whatever number it is.
 #[derive(Clone, Copy)]
 pub enum Reply {
     What,

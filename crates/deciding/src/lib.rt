@@ -196,8 +196,13 @@ fn decide(
         verdict,
     };
     decision.settle_rows(rows);
-    let page = verdict.page(action);
-    append(sheet, state.end, files, page, &[0u8; Page::VALUE_SIZE]);
+    append(
+        sheet,
+        state.end,
+        files,
+        verdict.page(action),
+        &[0u8; Page::VALUE_SIZE],
+    );
     fates[action as usize - 1] = verdict.fate();
     Done {
         answer: Answer::Stored(state.end + 1),

@@ -22,12 +22,6 @@ use Rattle.desk.specs.Exports.{field_count, numbered, packed_for, fields_given, 
 
 -- ---- the page test
 
--- an answer, and the fields of a page that fits
-pub answer_given : (u v : Unpacked) (fields left : List ℕ) → u ≡ v → left ≡ cond (eqb (test_number v) 0) (test_values v) fields
-    → ◌≡◌ {A = ℕ × List ℕ} (test_number v, left) (fields_given u fields)
-unfolding fields_given
-answer_given u v fields left e h = rw (e, h)
-
 pub test_refused : (part : List ℕ) (place files : ℕ) (fields : List ℕ) → (length fields ≡ field_count → ⊥) → ◌≡◌ {A = ℕ × List ℕ} (1, fields) (tested_for part place files fields)
 unfolding tested_for
 test_refused part place files fields h = rw (ne_eqb (length fields) field_count h)

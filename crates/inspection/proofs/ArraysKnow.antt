@@ -1,4 +1,4 @@
--- The climb's arrays say what the log says: how they start, what they answer, and what a page does to them. Assumes no_slot.
+-- The climb's arrays say what the log says: how they start, what they answer, and what a page does to them. Assumes nothing.
 use Prim.Native.Nat.{ℕ, suc, ◌<◌, ◌≤◌}
 use mathlib.Core.Path.{◌≡◌, refl, ap, sym, subst, ◌∙◌}
 use mathlib.Core.List.{List, [], ◌∷◌, head?}
@@ -26,7 +26,7 @@ use Rattle.inspection.specs.ClimbSteps.{no_slot, slot_at, newest_fate, version_i
 use Rattle.inspection.proofs.LowestUnlawful.{lawful_none, lawful_more}
 use Rattle.inspection.proofs.LawfulLogs.{fate_zero, fate_keeps, good}
 
--- ---- what is kept, after a store and where no_slot was stored
+-- ---- what is kept, after a store and where nothing was stored
 
 -- an element of a list after a store
 get_d_set : (l : List ℕ) (i v a : ℕ) → i < length l → get_or (set l i v) a 0 ≡ cond (eqb a i) v (get_or l a 0)

@@ -8,7 +8,7 @@ use crate::checking::{is_movable, is_unused, lowest_undecided, survey_rows};
 use crate::warming::warm_rows;
 use recovery::{Answer, Done, Refusal, State, View, file_count, refuse};
 
-// A refusal with its place, and the state as it was.
+// A refusal with its place, and the state as it was. What it shares with `recovery::refuse` and open's own is a literal.
 fn refuse_at(why: Refusal, place: u64, state: State) -> Done
     ensures { result ≡ refusal_at why place state }
 {

@@ -144,7 +144,7 @@ fn open_with(sheet: &[u8], fates: &mut [u8], rows: &mut [u64], floor: u64, kept:
     }
 }
 
-// With room for so many pages.
+// With room for so many pages, on the stack: there is no heap.
 #[tactic(auto, using(recovery::proofs::OpeningRuns::zeros_long, recovery::proofs::OpeningRuns::zeros_are))]
 fn open_within<const N: usize>(sheet: &[u8], fates: &mut [u8], rows: &mut [u64], floor: u64) -> Done
     requires { (sizes_right (length sheet.now) (length fates.old) (length rows.old) ≡ true) × (length fates.old ≤ N) × (N ≤ most_places) }

@@ -106,6 +106,7 @@ fn put_run(out: &mut [u8], at: usize, end: usize, s: &[u8])
     copy(&mut out[at..end], s);
 }
 
+// Part, place and file count come together, and are no struct: it would be made anew for each page, and above pages `recovery::View` is it.
 impl Page {
     pub const SIZE: usize = 64;
 
@@ -142,7 +143,8 @@ impl Page {
 
     pub const MOST_FILES: u64 = 256;
 
-    // The fields of each kind of page. The small byte of an opening is 1 where its action carries another sheet's versions: carried.
+    // The fields of each kind of page: columns of a table, with no number in common. The small byte of an opening is 1 where its action
+    // carries another sheet's versions: carried.
     pub fn opening_as(small: u64, place: u64) -> Page
         ensures { result ≡ opening_as small place }
     {

@@ -43,11 +43,6 @@ module _ {files : ℕ} {s : List ℕ} {f : ℕ} {u : Option Page} (t : ℕ) (r :
   current_is : (o : Option Page) → u ≡ o → image_of (nth blank (pages_of s files) r.current) ≡ image_by (page_bytes s r.current) o
   current_is o i = l.image_is ∙ ap (image_by (page_bytes s r.current)) i
 
-  pub versions_none : (y : Row) → y ≡ read_current t true r → u ≡ None → Versions files s f t r (record { answer = Nothing; row = y })
-  versions_none y hy i = record {
-    is = λ e fs rs fl n h. rw (current_is None i) (ap (λ (z : Row). (Nothing, with_row (world files s e fs rs fl n) f z)) (sym hy));
-  }
-
   module _ {x : Page} (i : u ≡ Some x) where
     abbrev newest : Placed
     newest = record { place = r.current; image = image_from (page_bytes s r.current) x }

@@ -53,7 +53,7 @@ fn place_holds_by(end: u64, place: u64, found: Option<Page>) -> bool
     (place == 0) | ((place <= end) & found.is_some())
 }
 
-// The action of an image that was found, 0 of none.
+// The action of an image that was found, 0 of none, as a row has it.
 fn action_found(found: Option<Page>) -> u64
     ensures { result ≡ action_found found }
 {

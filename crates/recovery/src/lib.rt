@@ -20,7 +20,8 @@ pub use rows::{file_count, has_file, is_file, next_named, row_of, set_row};
 pub use starts::highest_start;
 
 // A file's row (a cached index entry): its rebuilt mark, the place of the current version and how far it was read, the place of
-// the token, how far that one, or one that it overtook, was read, and its action. Place 0 is none, and so is action 0.
+// the token, how far that one, or one that it overtook, was read, and its action. Place 0 is none, and so is action 0. Numbers as they are
+// lent, no Option and no bool: a lent row may hold any, and line 7 (`row_holds`) tells the damaged ones.
 #[derive(Clone, Copy)]
 pub struct Row {
     pub mark: u64,

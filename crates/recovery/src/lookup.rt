@@ -54,6 +54,7 @@ pub struct View<'a> {
     pub files: u64,
 }
 
+// Each look-up hands the part of a place to the page's function of its name.
 impl<'a> View<'a> {
     // How many places the sheet has.
     pub fn pages(self) -> u64

@@ -66,6 +66,7 @@ impl Edition {
         }
     }
 
+    // Its number and what it takes: columns of a table.
     fn number(self) -> u64
         ensures { result ≡ edition_number self }
     {
@@ -178,7 +179,7 @@ impl<'a> Week<'a> {
     }
 }
 
-// The edition of a week, or what is wrong with it: 15, then 16, then 29.
+// The edition's number, which is what C is answered, or what is wrong with the week: 15, then 16, then 29.
 pub fn week_test(week: &[u8]) -> Result<u64, Refusal>
     ensures { result ≡ week_test week.now }
 {

@@ -6,8 +6,8 @@ ghost use Rattle.weeks.specs.Weeks.{time, uneven};
 
 use crate::{Edition, Week};
 
-// A byte of a week. It is `encoding::byte_at` for an index that lies within, and kept for speed: with that one a conversion took 29 to 34 ns
-// in place of 17 to 25.
+// A byte of a week. It and the pairs below are no `encoding::byte_at`, `read_number` and `write_number`: those take runs of any length, and
+// would test each index of a week that is long enough, and a conversion took twice as long (docs/DECISIONS.md, Weeks).
 fn byte(week: &[u8], at: usize) -> u64
     requires { at < length week.now }
     ensures value { result ≡ get_or week.now at 0 }

@@ -60,4 +60,4 @@ pub returns : goal.returns
 returns c =
     let known = known_by (sym c.in_default.is ∙ c.decide_line.ensures) in
     let a = c.args in
-    decide_done _ _ _ _ _ _ known _ c.page-page.ensures _ _ _ _ (c.append.ensures ∙ appended_is _ _ _ _ _ (rw c.file_count-files.ensures (outcome_asked a.sheet.now a.fates.now a.rows.now a.state a.action (is_commit a.verdict) known _ c.page-page.ensures))) c.fate.ensures (rw c.file_count-files.ensures at c.settle_rows.ensures) (c.saturating_sub.ensures ∙ sub-one c.args.state.undecided)
+    decide_done _ _ _ _ _ _ known _ c.page.ensures _ _ _ _ (c.append.ensures ∙ appended_is _ _ _ _ _ (rw c.file_count-files.ensures (outcome_asked a.sheet.now a.fates.now a.rows.now a.state a.action (is_commit a.verdict) known _ c.page.ensures))) c.fate.ensures (rw c.file_count-files.ensures at c.settle_rows.ensures) (c.saturating_sub.ensures ∙ sub-one c.args.state.undecided)

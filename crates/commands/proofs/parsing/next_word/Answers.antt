@@ -1,4 +1,4 @@
--- `commands::parsing::next_word_lem`: past the next space, or at the end. Assumes nothing.
+-- `commands::parsing::next_word`: past the next space, or at the end. Assumes nothing.
 use Rattle.commands.proofs.Lines.{past_space, past_end}
 use Rattle.commands.proofs.parsing.next_word.Goals as goal
 
