@@ -141,7 +141,8 @@ fn two_line(word: &[u8], x: u64, y: u64) -> Line
     line
 }
 
-// The line of a read that shows a value.
+// The line of a read that shows a value. How long a word and a value may be is asked here and above: `print` tests the value once, and the
+// words are its own.
 #[tactic(auto, unfolding(crate::specs::Names::read_name))]
 fn shown_line(place: u64, start: u64, value: &[u8]) -> Line
     requires { length value.now ≤ value_size }
@@ -180,7 +181,7 @@ fn reply_line(reply: Reply, value: &[u8]) -> Line
     }
 }
 
-// Puts the line of a reply, with its newline, at the beginning of a run, and answers its length.
+// Puts the line of a reply, with its newline, at the beginning of a run, and answers its length; 0 if nothing is put, as `prints` says.
 #[tactic(auto, unfolding(crate::specs::Replies::prints))]
 pub fn print(reply: Reply, value: &[u8], out: &mut [u8]) -> usize
     ensures { (result, out.new) ≡ prints reply value.now out.old }

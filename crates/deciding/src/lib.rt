@@ -91,7 +91,11 @@ impl Verdict {
     }
 }
 
-// A decision on an open sheet: of which action, whether that has an opening, and how it is decided.
+// An outcome has no value.
+const NO_VALUE: [u8; Page::VALUE_SIZE] = [0; Page::VALUE_SIZE];
+
+// A decision on an open sheet: of which action, whether that has an opening, and how it is decided. `opened` is no switch but a fact,
+// looked up once for all rows; the ghost field ties it to the sheet.
 #[derive(Clone, Copy)]
 struct Decision<'a> {
     view: View<'a>,
@@ -196,13 +200,7 @@ fn decide(
         verdict,
     };
     decision.settle_rows(rows);
-    append(
-        sheet,
-        state.end,
-        files,
-        verdict.page(action),
-        &[0u8; Page::VALUE_SIZE],
-    );
+    append(sheet, state.end, files, verdict.page(action), &NO_VALUE);
     fates[action as usize - 1] = verdict.fate();
     Done {
         answer: Answer::Stored(state.end + 1),

@@ -240,6 +240,7 @@ fn weigh_few(a: u64, b: u64, c: u64, d: u64) -> u64
 }
 
 // What the beginning and byte 0, which is 1, come to, and byte 1, which is 1 if carried and weighs 15,231.
+// A bool, as the definition `few` has a 1 or a 0.
 fn first_two(carried: bool) -> u64
     ensures { result ≡ 97034 + 15231 * cond carried 1 0 }
 {

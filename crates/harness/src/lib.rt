@@ -26,7 +26,7 @@ fn count_passing<F: Fn(usize) -> bool>(n: usize, passes: F) -> u64
     count
 }
 
-// The page test on every page.
+// The page test on every page. It and `bench_seek` are names that C calls; what they share is `count_passing`.
 #[unsafe(no_mangle)]
 pub extern "C" fn bench_test(sheet: &[u8], files: u64) -> u64
     ensures { result ≡ counted (fits_at sheet.now files) (length sheet.now / page_size) }

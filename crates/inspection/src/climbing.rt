@@ -38,8 +38,8 @@ const FEW_FATES: usize = FEW_PAGES + 1;
 
 const MOST_FATES: usize = Page::MOST_PLACES as usize + 1;
 
-// What is kept of the pages below, on the stack, as there is no heap: a fate for each place below N, and for each file its newest image and the newest version below that.
-// A fate is a number as in the lent fates (`fate_number`): the laws of the log speak of those.
+// What is kept of the pages below, on the stack, as there is no heap: a fate for each place below N, and for each file its newest image and
+// the newest version below that. A fate is a number as in the lent fates (`fate_number`): the laws of the log speak of those.
 #[derive(Drop)]
 struct Kept<const N: usize> {
     fates: [u8; N],

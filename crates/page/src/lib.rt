@@ -143,8 +143,8 @@ impl Page {
 
     pub const MOST_FILES: u64 = 256;
 
-    // The fields of each kind of page: columns of a table, with no number in common. The small byte of an opening is 1 where its action
-    // carries another sheet's versions: carried.
+    // The fields of each kind of page: columns of a table, and whoever makes one knows its kind. The small byte of an opening is 1 where its
+    // action carries another sheet's versions: carried.
     pub fn opening_as(small: u64, place: u64) -> Page
         ensures { result ≡ opening_as small place }
     {
@@ -218,7 +218,7 @@ impl Page {
         }
     }
 
-    // How many of the value's bytes are used.
+    // How many of the value's bytes are used. One test of the kind: an image alone has any.
     fn used_bytes(self, kind: u64) -> u64
         requires { self.kind ≡ kind }
         ensures { result ≡ used self }

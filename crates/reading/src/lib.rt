@@ -38,7 +38,7 @@ fn token_read(row: Row, time: u64) -> Row
     raised_row(row, 0, time)
 }
 
-// Lines 5 and 6 of read, which are passed over for action 0.
+// Lines 5 and 6 of read, which are passed over for action 0: none, as `Call.read` has it and callers give it.
 #[tactic(auto, unfolding(calls::specs::ReadSteps::read_line))]
 fn read_line(fates: &[u8], end: u64, action: u64) -> Result<(), Refusal>
     ensures { result ≡ read_line fates.now end action }
@@ -49,7 +49,7 @@ fn read_line(fates: &[u8], end: u64, action: u64) -> Result<(), Refusal>
     action_line(fates, end, action)
 }
 
-// What is answered where no version starts by the time: none, or refusal 25 if a carried image was passed.
+// What is answered where no version starts by the time: none, or refusal 25 if a carried image was passed, which the walk has as a bool.
 fn none_below(carried: bool) -> Answer
     ensures { result ≡ walk_answer (none_below carried) }
 {

@@ -149,7 +149,8 @@ impl<'a> View<'a> {
         found
     }
 
-    // The fate under which images of an action count, or 0, that of no action; the opening is looked at only where the fate could count.
+    // The fate under which images of an action count, or 0, that of no action, as the lent fates have it; the opening is looked at only where
+    // the fate could count.
     #[tactic(auto, unfolding(crate::specs::Steps::counted_fate))]
     pub fn counted_fate(self, fates: &[u8], action: u64) -> u64
         ensures { result ≡ counted_fate self.entry.files self.entry.sheet.now fates.now action }
