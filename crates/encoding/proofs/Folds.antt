@@ -31,7 +31,7 @@ pub shl_eq : (x k : ℕ) → x * k < 18446744073709551616 → x * k % 1844674407
 shl_eq x k h = mod-eq_of_lt h
 
 -- the fold by a shift and a difference
-fold_is : (x : ℕ) → x < 281474976710656 → x % 65536 + x / 65536 * 16 % 18446744073709551616 - x / 65536 ≡ folded x
+pub fold_is : (x : ℕ) → x < 281474976710656 → x % 65536 + x / 65536 * 16 % 18446744073709551616 - x / 65536 ≡ folded x
 fold_is x h = rw (shl_eq (x / 65536) 16 (omega arith)) (omega arith)
 
 -- the same with a mask of all the bits that what lies above 16 bits may have

@@ -69,6 +69,16 @@ fn copy_value(out: &mut [u8], s: &[u8])
     copy_eight(out, s, 24);
 }
 
+// By a loop: for copy_from_slice of runs of any length an archive for C would need memmove from outside.
+fn copy_all(out: &mut [u8], s: &[u8])
+    requires { length out.old ≡ length s.now }
+    ensures { out.new ≡ s.now }
+{
+    for (i, b) in out.iter_mut().enumerate() {
+        *b = s[i];
+    }
+}
+
 // Fills the run with another as long; one of another length changes nothing.
 pub fn copy(out: &mut [u8], s: &[u8])
     ensures { out.new ≡ cond (eqb (length out.old) (length s.now)) s.now out.old }
@@ -80,7 +90,7 @@ pub fn copy(out: &mut [u8], s: &[u8])
         copy_value(out, s);
         return;
     }
-    out.copy_from_slice(s);
+    copy_all(out, s);
 }
 
 // Every byte is 0. One pass without an early end, so that many bytes are looked at in one step.

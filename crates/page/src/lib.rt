@@ -354,19 +354,28 @@ impl Page {
         p.by_kind()
     }
 
-    // The page that the page test finds, of a part with the kind of an image. Put in place in the quick looks: no fields are stored on the
-    // way, and no other kind's rules are asked.
+    // Whether the page test finds a page that fits, of a part with the kind of an image: no other kind's rules are asked. A function of its
+    // own, that answers one bool: so the quick looks have no more to them than what passes a page over, and are put in place in their loops.
+    fn is_fit_image(part: &[u8], place: u64, files: u64) -> bool
+        requires { has_kind part.now 2 ≡ true }
+        ensures { result ≡ is_fit_page (tested part.now place files) }
+    {
+        let Some(part) = in_bounds(part, place, files) else {
+            return false;
+        };
+        Page::fields(part).is_fit(2, part, place, files)
+    }
+
+    // The page that the page test finds, of such a part. Put in place in the quick looks: no fields are stored on the way.
     #[inline(always)]
     fn fit_image(part: &[u8], place: u64, files: u64) -> Option<Page>
         requires { has_kind part.now 2 ≡ true }
         ensures { MatchOption result (is_fit_page (tested part.now place files) ≡ false) (λ p. (p ≡ fields_of part.now) × (is_fit_page (tested part.now place files) ≡ true)) }
     {
-        let part = in_bounds(part, place, files)?;
-        let p = Page::fields(part);
-        if !p.is_fit(2, part, place, files) {
+        if !Page::is_fit_image(part, place, files) {
             return None;
         }
-        Some(p)
+        Some(Page::fields(part.as_array()?))
     }
 
     // Whether the page test finds a blank page. This look and those at openings read other bytes each: they share line 1 alone.

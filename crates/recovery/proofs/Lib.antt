@@ -11,6 +11,7 @@ pub mod Effective
 pub mod WalkDown
 pub mod Held
 pub mod Leaves
+pub mod OpeningSteps
 pub mod OpeningRuns
 pub mod OpeningEnds
 pub mod OpeningFates

@@ -67,7 +67,7 @@ impl Edition {
     }
 
     // Its number and what it takes: columns of a table.
-    fn number(self) -> u64
+    pub fn number(self) -> u64
         ensures { result ≡ edition_number self }
     {
         match self {
@@ -78,7 +78,7 @@ impl Edition {
     }
 
     // The bytes of a time.
-    pub(crate) fn width(self) -> usize
+    pub fn width(self) -> usize
         ensures { result ≡ width self }
     {
         match self {
@@ -88,7 +88,7 @@ impl Edition {
     }
 
     // The highest time.
-    pub(crate) fn limit(self) -> u64
+    pub fn limit(self) -> u64
         ensures { result ≡ limit self }
     {
         match self {
@@ -98,7 +98,7 @@ impl Edition {
     }
 
     // The minutes of a unit of time: a quarter hour, or one.
-    pub(crate) fn minutes(self) -> u64
+    pub fn minutes(self) -> u64
         ensures { result ≡ minutes self }
     {
         match self {
@@ -108,7 +108,7 @@ impl Edition {
     }
 
     // The bytes of the keyholder mask.
-    pub(crate) fn mask_size(self) -> usize
+    pub fn mask_size(self) -> usize
         ensures { result ≡ mask_size self }
     {
         match self {
